@@ -16,17 +16,13 @@ use Rattle.shape.proofs.Laws.{no-class}
 use Rattle.layout.specs.Walk.{walk, lead}
 use Rattle.layout.specs.Classes.{inOrder, ordered, ofClass, before}
 use Rattle.layout.specs.Spans.{rightOf}
-use Rattle.layout.proofs.Walks.{walk-pass, walk-stop, lead-le}
+use Rattle.layout.proofs.Walks.{cases, walk-pass, walk-stop, walk-head, walk-tail, lead-le}
 
-pub cases : (b : Bool) → (b ≡ true) ⊎ (b ≡ false)
-cases true = inl refl
-cases false = inr refl
-
-and-first : (a b : Bool) → (a && b) ≡ true → a ≡ true
+pub and-first : (a b : Bool) → (a && b) ≡ true → a ≡ true
 and-first true b e = refl
 and-first false b e = e
 
-and-second : (a b : Bool) → (a && b) ≡ true → b ≡ true
+pub and-second : (a b : Bool) → (a && b) ≡ true → b ≡ true
 and-second true b e = e
 and-second false b e = absurd (mathlib.Core.Bool.false≢true e)
 
@@ -54,14 +50,14 @@ lead-out c r rs e = walk-stop (λ s r. rightOf c r) (λ s r. s) rs e
 
 -- what a sorted list says of its first record and the others
 head-in : (p : ℕ) (r : Record) (rs : List Record) → Sorted p (r ∷ rs) → inOrder p r ≡ true
-unfolding Sorted
-head-in p r rs h = ⊎-elim (λ (e : inOrder p r ≡ true). e) (λ (e : inOrder p r ≡ false). absurd (let z = ordered-stop p r rs e in omega arith)) (cases (inOrder p r))
+unfolding Sorted Ordered
+head-in p r rs h = walk-head inOrder (λ prev r. r .class) p r rs h
 
-tail-in : (p : ℕ) (r : Record) (rs : List Record) → Sorted p (r ∷ rs) → Sorted (r .class) rs
-unfolding Sorted
-tail-in p r rs h = let e = ordered-pass p r rs (head-in p r rs h) in omega arith
+pub tail-in : (p : ℕ) (r : Record) (rs : List Record) → Sorted p (r ∷ rs) → Sorted (r .class) rs
+unfolding Sorted Ordered
+tail-in p r rs h = walk-tail inOrder (λ prev r. r .class) p r rs h
 
-class-from : (p : ℕ) (r : Record) (rs : List Record) → Sorted p (r ∷ rs) → p ≤ r .class
+pub class-from : (p : ℕ) (r : Record) (rs : List Record) → Sorted p (r ∷ rs) → p ≤ r .class
 class-from p r rs h = leb-true p (r .class) (and-second (right r) _ (head-in p r rs h))
 
 -- a right record of a class is in order after that class, and others are so after the next class
@@ -135,11 +131,11 @@ unfolding Ordered
 ordered-end rs = classes-to 6 rs ∙ rw (none-past (drop (endOf 6 rs) rs), add-zero)
 
 -- what a sorted list has before a class
-before-in : (d : ℕ) (r : Record) (rs : List Record) → r .class < d → before d (r ∷ rs) ≡ suc (before d rs)
+pub before-in : (d : ℕ) (r : Record) (rs : List Record) → r .class < d → before d (r ∷ rs) ≡ suc (before d rs)
 unfolding before
 before-in d r rs h = ap (λ (t : Bool). cond t (suc (before d rs)) (before d rs)) (lt-ltb (r .class) d h)
 
-before-out : (d : ℕ) (r : Record) (rs : List Record) → d ≤ r .class → before d (r ∷ rs) ≡ before d rs
+pub before-out : (d : ℕ) (r : Record) (rs : List Record) → d ≤ r .class → before d (r ∷ rs) ≡ before d rs
 unfolding before
 before-out d r rs h = ap (λ (t : Bool). cond t (suc (before d rs)) (before d rs)) (le-ltb (r .class) d h)
 

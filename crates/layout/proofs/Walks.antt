@@ -6,9 +6,14 @@ use native.Mathlib.Omega.{arith}
 use mathlib.Core.Path.{_≡_, refl, sym, ap, _∙_}
 use mathlib.Core.Bool.{Bool, true, false, cond}
 use mathlib.Core.List.{List, [], _∷_}
+use mathlib.Core.Logic.{_⊎_, inl, inr, ⊎-elim}
 use lib.ListN.{length, getD, drop, drop-of-length-le}
 use lib.Seq.{drop-cons}
 use Rattle.layout.specs.Walk.{walk, lead}
+
+pub cases : (b : Bool) → (b ≡ true) ⊎ (b ≡ false)
+cases true = inl refl
+cases false = inr refl
 
 module _ {S R : Type 0} (ok : S → R → Bool) (next : S → R → S) where
   pub walk-pass : {s : S} {r : R} (rs : List R) → ok s r ≡ true → walk ok next s (r ∷ rs) ≡ suc (walk ok next (next s r) rs)
@@ -27,6 +32,13 @@ module _ {S R : Type 0} (ok : S → R → Bool) (next : S → R → S) where
       by : (t : Bool) → walk ok next (next s r) rs ≤ length rs → cond t (suc (walk ok next (next s r) rs)) 0 ≤ suc (length rs)
       by true h = omega arith
       by false h = omega arith
+
+  -- a walk that passes all passes the first, and then the others
+  pub walk-head : (s : S) (r : R) (rs : List R) → walk ok next s (r ∷ rs) ≡ suc (length rs) → ok s r ≡ true
+  walk-head s r rs h = ⊎-elim (λ (e : ok s r ≡ true). e) (λ (e : ok s r ≡ false). absurd (let z = walk-stop rs e in omega arith)) (cases (ok s r))
+
+  pub walk-tail : (s : S) (r : R) (rs : List R) → walk ok next s (r ∷ rs) ≡ suc (length rs) → walk ok next (next s r) rs ≡ length rs
+  walk-tail s r rs h = let e = walk-pass rs (walk-head s r rs h) in omega arith
 
   -- the walk from place k of a list
   pub pass-at : (l : List R) (k : ℕ) (d : R) (s : S) → k < length l → ok s (getD l k d) ≡ true → (k + 1) + walk ok next (next s (getD l k d)) (drop (k + 1) l) ≡ k + walk ok next s (drop k l)

@@ -1,14 +1,15 @@
 -- Laws of parts of a file, and of the tests of blocks and arms.
 use Prim.Native.Nat.{ℕ, zero, suc, _+_, _-_, _≤_, _<_, min}
+use native.Mathlib.Numerals.{add-one}
 use native.Mathlib.Omega.{arith}
 use mathlib.Core.Path.{_≡_, refl, sym, ap, _∙_}
 use mathlib.Core.Bool.{Bool, true, false, _&&_, _||_, not, cond}
-use mathlib.Core.List.{List, [], _∷_}
+use mathlib.Core.List.{List, [], _∷_, _++_}
 use mathlib.Core.Logic.{_⊎_, inl, inr, ⊎-elim}
 use borrow.Author.Tests.{ltb-true, ltb-false, leb-true, leb-false, eqb-true, eqb-false, lt-ltb, le-ltb, le-leb, lt-leb, eq-eqb, ne-eqb}
 use lib.Dec.{eqb, ltb, leb}
 use lib.ListN.{length, getD, take, drop, length-drop}
-use lib.Seq.{getD-take, getD-drop, length-take-le, take-take, drop-drop, take-nil}
+use lib.Seq.{getD-take, getD-drop, length-take-le, take-suc, take-take, drop-drop, take-nil}
 use Rattle.format.specs.declared.Record.{Record}
 use Rattle.format.specs.Record.{blank}
 use Rattle.shape.proofs.Laws.{both, neither}
@@ -95,3 +96,31 @@ code-part rs code n r h i =
 
 pub in-code : (rs : List Record) (first count n k : ℕ) (h : first + count ≤ length rs) (r : Record) → InCode n (part first count rs) → k < count → r ≡ getD rs (first + k) blank → (r .p1 < r .p2) × (r .p2 ≤ n)
 in-code rs first count n k h r q i e = rw (e ∙ sym (part-at rs first count h k i)) (q k (rw (part-length rs first count h) i))
+
+-- the tests of an arm, in their order
+module _ (due left : ℕ) (r : Record) where
+  pub other-table : (r .p1 ≡ due → ⊥) → false ≡ numbers (due, left) r
+  unfolding numbers
+  other-table h = neither _ refl (ne-eqb (r .p1) due h)
+
+  pub table-due : {x : Bool} → r .p1 ≡ due → x ≡ (not (eqb left 1) || isDefault r) → x ≡ numbers (due, left) r
+  unfolding numbers
+  table-due h f = both refl (eq-eqb (r .p1) due h) f
+
+-- one arm more
+tables-snoc : (l : List Record) (r : Record) → tables (l ++ (r ∷ [])) ≡ tables l + cond (isDefault r) 1 0
+unfolding tables
+tables-snoc [] r = omega arith
+tables-snoc (x ∷ l) r = let h = tables-snoc l r in omega arith
+
+pub tables-next : (rs : List Record) (first count k : ℕ) (h : first + count ≤ length rs) (r : Record) → k < count → r ≡ getD rs (first + k) blank → {t d : ℕ} → d ≡ tables (take k (part first count rs)) → t ≡ cond (isDefault r) 1 0 → d + t ≡ tables (take (k + 1) (part first count rs))
+tables-next rs first count k h r i e {t} {d} f g =
+    rw (f, g, e ∙ sym (part-at rs first count h k i), add-one k, take-suc (part first count rs) k blank (rw (part-length rs first count h) i))
+    (sym (tables-snoc (take k (part first count rs)) (getD (part first count rs) k blank)))
+
+-- what a disjunction comes to once its first part is known
+pub either : (b : Bool) {a : Bool} → a ≡ true → true ≡ (a || b)
+either b e = ap (λ (y : Bool). y || b) (sym e)
+
+pub otherwise : {a b x : Bool} → a ≡ false → x ≡ b → x ≡ (a || b)
+otherwise {a} {b} e f = f ∙ ap (λ (y : Bool). y || b) (sym e)

@@ -20,15 +20,18 @@ wrongLength b = not (eqb (length b % 32) 0) || ltb 65536 (length b)
 -- 2 "a record wrong in itself or its class order": `ordered` of `layout`
 
 -- 3 "a class beyond limit, or no block": "756 registers, 1 to 160 blocks, 1 body, 756 instructions, 128 operands, 128 arms"
+abbrev pub beyond : ℕ → ℕ → ℕ → ℕ → ℕ → ℕ → Bool
+beyond registers blocks bodies code operands arms =
+    ltb 756 registers
+    || (ltb 160 blocks
+    || (eqb blocks 0
+    || (ltb 1 bodies
+    || (ltb 756 code
+    || (ltb 128 operands
+    || ltb 128 arms)))))
+
 abbrev pub beyondLimit : List Record → Bool
-beyondLimit rs =
-    ltb 756 (length (ofClass 1 rs))
-    || (ltb 160 (length (ofClass 2 rs))
-    || (eqb (length (ofClass 2 rs)) 0
-    || (ltb 1 (length (ofClass 3 rs))
-    || (ltb 756 (length (ofClass 4 rs))
-    || (ltb 128 (length (ofClass 5 rs))
-    || ltb 128 (length (ofClass 6 rs)))))))
+beyondLimit rs = beyond (length (ofClass 1 rs)) (length (ofClass 2 rs)) (length (ofClass 3 rs)) (length (ofClass 4 rs)) (length (ofClass 5 rs)) (length (ofClass 6 rs))
 
 -- 4 "blocks don't tile", 5 "terminator missing or early", 6 "tables misnumbered or undefaulted": `tiled`, `ended`, `numbered` of Structure
 
@@ -53,16 +56,22 @@ answer number place = record { number = number; place = place }
 unfoldable pub unless : ℕ → ℕ → ℕ → ℕ → Reading → Reading
 unless number first k n otherwise = cond (ltb k n) (answer number (first + k)) otherwise
 
-unfoldable pub readRecords : List Record → Reading
-readRecords rs =
-    unless 2 0 (ordered rs) (length rs)
-    (cond (beyondLimit rs) (answer 3 0)
-    (unless 4 (before 2 rs) (tiled (length (ofClass 4 rs)) (ofClass 2 rs)) (length (ofClass 2 rs))
-    (unless 5 (before 2 rs) (ended (ofClass 4 rs) (ofClass 2 rs)) (length (ofClass 2 rs))
-    (unless 6 (before 6 rs) (numbered (ofClass 6 rs)) (length (ofClass 6 rs))
+-- 4 to 7, of records that are right and in order and within the limits
+unfoldable pub readTables : List Record → Reading
+readTables rs =
+    unless 6 (before 6 rs) (numbered (ofClass 6 rs)) (length (ofClass 6 rs))
     (unless 7 0 (named rs) (length rs)
-    (answer 0 0))))))
+    (answer 0 0))
 
--- "Result: 0 and 0 if accepted, else number and first offending record"
+unfoldable pub readBlocks : List Record → Reading
+readBlocks rs =
+    unless 4 (before 2 rs) (tiled (length (ofClass 4 rs)) (ofClass 2 rs)) (length (ofClass 2 rs))
+    (unless 5 (before 2 rs) (ended (ofClass 4 rs) (ofClass 2 rs)) (length (ofClass 2 rs))
+    (readTables rs))
+
+unfoldable pub readRecords : List Record → Reading
+readRecords rs = unless 2 0 (ordered rs) (length rs) (cond (beyondLimit rs) (answer 3 0) (readBlocks rs))
+
+-- "In order: 1 .. 7. Result: 0 and 0 if accepted, else number and first offending record"
 unfoldable pub reading : List ℕ → Reading
 reading b = cond (wrongLength b) (answer 1 0) (readRecords (recordsOf b))

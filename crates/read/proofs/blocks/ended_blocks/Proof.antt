@@ -1,5 +1,5 @@
-use Prim.Native.Nat.{ℕ, _+_, _-_, _≤_}
-use mathlib.Core.Path.{_≡_, refl, sym, ap, _∙_}
+use Prim.Native.Nat.{_+_, _-_, _≤_}
+use mathlib.Core.Path.{_≡_, ap, _∙_}
 use native.Mathlib.Omega.{arith}
 use native.Mathlib.Nat.{zero-add}
 use mathlib.Core.Bool.{not}
@@ -9,16 +9,12 @@ use denote.Ref.{now}
 use lib.ListN.{length, drop}
 use Rattle.format.specs.Record.{recordsOf}
 use Rattle.format.proofs.Laws.{length-records}
-use Rattle.layout.specs.Walk.{walk, lead}
-use Rattle.read.specs.Structure.{codeOf, endsWell, ended, terminator}
+use Rattle.layout.specs.Walk.{lead}
+use Rattle.read.specs.Structure.{codeOf, endsWell, ended}
 use Rattle.read.specs.Parts.{part}
-use Rattle.read.proofs.Laws.{tests-pass, tests-stop, tests-end, part-length, in-code, code-part}
+use Rattle.read.proofs.Laws.{tests-pass, tests-stop, tests-end, in-code, code-part}
 use Rattle.read.proofs.blocks.ended_blocks.Statement.{statement}
 use Rattle.read.proofs.blocks.ended_blocks.Tie as tie
-use Rattle.read.proofs.blocks.ended_blocks.Reads as reads
-use Rattle.read.proofs.blocks.ended_blocks.Lts as lts
-use Rattle.format.proofs.record_at.Reads as record-at-reads
-use Rattle.read.proofs.blocks.ends_well.Reads as ends-well-reads
 
 abbrev Inv-loop : tie.InvT-loop
 Inv-loop b first count code n k₀ k = (k ≤ count) × (k + lead (λ r. endsWell (codeOf (part code n (recordsOf b)) r)) (drop k (part first count (recordsOf b))) ≡ ended (part code n (recordsOf b)) (part first count (recordsOf b)))
@@ -26,23 +22,18 @@ Inv-loop b first count code n k₀ k = (k ≤ count) × (k + lead (λ r. endsWel
 abbrev μ-loop : tie.MeasureT-loop
 μ-loop b first count code n k₀ k = count - k
 
--- src/blocks.rt:84:5
 loop-holds : tie.Need-loop-holds Inv-loop μ-loop
 loop-holds c = (omega arith, zero-add _)
 
--- src/blocks.rt:85:38
 add-record-at : tie.Need-add-record-at Inv-loop μ-loop
 add-record-at c = omega (arith, length-records (now (c .before .before .before .args .b)))
 
--- src/blocks.rt:85:13
 record-at-requires : tie.Need-record-at-requires Inv-loop μ-loop
 record-at-requires c κs = search needs
 
--- src/blocks.rt:86:21
 cast-start : tie.Need-cast-start Inv-loop μ-loop
 cast-start c = search needs
 
--- src/blocks.rt:87:26
 add-ends-well : tie.Need-add-ends-well Inv-loop μ-loop
 add-ends-well c = let l = c .before .before .before in
     let a = l .before .before .args in
@@ -50,11 +41,9 @@ add-ends-well c = let l = c .before .before .before in
     let q = in-code rs (a .first) (a .count) (a .n) (l .loop .k) (l .before .before .pre .0) (c .before .record-at .result) (l .before .before .pre .2) (c .before .before .loop-test .taken) (c .before .record-at .ensures) in
     omega (arith, length-records (now (a .b)))
 
--- src/blocks.rt:87:40
 cast-ends-well : tie.Need-cast-ends-well Inv-loop μ-loop
 cast-ends-well c = search needs
 
--- src/blocks.rt:87:40
 sub-ends-well : tie.Need-sub-ends-well Inv-loop μ-loop
 sub-ends-well c = let l = c .before .before .before .before in
     let a = l .before .before .args in
@@ -62,7 +51,6 @@ sub-ends-well c = let l = c .before .before .before .before in
     let q = in-code rs (a .first) (a .count) (a .n) (l .loop .k) (l .before .before .pre .0) (c .before .before .record-at .result) (l .before .before .pre .2) (c .before .before .before .loop-test .taken) (c .before .before .record-at .ensures) in
     omega arith
 
--- src/blocks.rt:87:13
 ends-well-requires : tie.Need-ends-well-requires Inv-loop μ-loop
 ends-well-requires c κs = let l = c .before .before .before .before in
     let a = l .before .before .args in
@@ -70,7 +58,6 @@ ends-well-requires c κs = let l = c .before .before .before .before in
     let q = in-code rs (a .first) (a .count) (a .n) (l .loop .k) (l .before .before .pre .0) (c .before .before .record-at .result) (l .before .before .pre .2) (c .before .before .before .loop-test .taken) (c .before .before .record-at .ensures) in
     omega arith
 
--- src/blocks.rt:88:13
 returns : tie.Need-returns Inv-loop μ-loop
 returns c = let l = c .before .before .before .before .before .before in
     let a = l .before .before .args in
@@ -78,15 +65,12 @@ returns c = let l = c .before .before .before .before .before .before in
     let q = in-code rs (a .first) (a .count) (a .n) (l .loop .k) (l .before .before .pre .0) (c .before .before .before .before .record-at .result) (l .before .before .pre .2) (c .before .before .before .before .before .loop-test .taken) (c .before .before .before .before .record-at .ensures) in
     tests-stop (λ r. endsWell (codeOf (part (a .code) (a .n) rs) r)) rs (a .first) (a .count) (l .before .before .pre .0) (l .loop .k) (c .before .before .before .before .before .loop-test .taken) (c .before .before .before .before .record-at .ensures) (c .before .ends-well .ensures ∙ ap endsWell (code-part rs (a .code) (a .n) (c .before .before .before .before .record-at .result) (q .0) (q .1))) (not-true _ (c .if1 .taken)) ∙ l .loop .inv .1
 
--- src/blocks.rt:90:9
 add-k : tie.Need-add-k Inv-loop μ-loop
 add-k c = search needs
 
--- src/blocks.rt:84:5
 loop-less : tie.Need-loop-less Inv-loop μ-loop
 loop-less c = search needs
 
--- src/blocks.rt:84:5
 loop-again : tie.Need-loop-again Inv-loop μ-loop
 loop-again c = let l = c .before .before .before .before .before .before in
     let a = l .before .before .args in
@@ -94,7 +78,6 @@ loop-again c = let l = c .before .before .before .before .before .before in
     let q = in-code rs (a .first) (a .count) (a .n) (l .loop .k) (l .before .before .pre .0) (c .before .before .before .before .record-at .result) (l .before .before .pre .2) (c .before .before .before .before .before .loop-test .taken) (c .before .before .before .before .record-at .ensures) in
     (omega arith, tests-pass (λ r. endsWell (codeOf (part (a .code) (a .n) rs) r)) rs (a .first) (a .count) (l .before .before .pre .0) (l .loop .k) (c .before .before .before .before .before .loop-test .taken) (c .before .before .before .before .record-at .ensures) (c .before .ends-well .ensures ∙ ap endsWell (code-part rs (a .code) (a .n) (c .before .before .before .before .record-at .result) (q .0) (q .1))) (not-false _ (c .if1 .left)) ∙ l .loop .inv .1)
 
--- src/blocks.rt:79:1
 returns-2 : tie.Need-returns-2 Inv-loop μ-loop
 returns-2 c = let l = c .before in
     let a = l .before .before .args in

@@ -1,5 +1,5 @@
 use Prim.Native.Nat.{ℕ, _+_, _-_, _≤_}
-use mathlib.Core.Path.{_≡_, refl, sym, ap, _∙_}
+use mathlib.Core.Path.{_≡_, refl, ap, _∙_}
 use native.Mathlib.Omega.{arith}
 use native.Mathlib.Nat.{zero-add}
 use borrow.Author.Needs.{needs}
@@ -14,10 +14,6 @@ use Rattle.read.specs.Parts.{part}
 use Rattle.read.proofs.Laws.{part-pass, part-stop, part-end, part-length, pair}
 use Rattle.read.proofs.blocks.tiled_blocks.Statement.{statement}
 use Rattle.read.proofs.blocks.tiled_blocks.Tie as tie
-use Rattle.read.proofs.blocks.tiled_blocks.Reads as reads
-use Rattle.read.proofs.blocks.tiled_blocks.Lts as lts
-use Rattle.format.proofs.record_at.Reads as record-at-reads
-use Rattle.read.proofs.blocks.tiles.Reads as tiles-reads
 
 abbrev Inv-loop : tie.InvT-loop
 Inv-loop b first count n due₀ k₀ due k = (k ≤ count) × (k + walk (tiles n) nextBlock (due, count - k) (drop k (part first count (recordsOf b))) ≡ tiled n (part first count (recordsOf b)))
@@ -25,28 +21,22 @@ Inv-loop b first count n due₀ k₀ due k = (k ≤ count) × (k + walk (tiles n
 abbrev μ-loop : tie.MeasureT-loop
 μ-loop b first count n due₀ k₀ due k = count - k
 
--- src/blocks.rt:37:5
 loop-holds : tie.Need-loop-holds Inv-loop μ-loop
 loop-holds c = let a = c .before .args in
     (omega arith, zero-add _ ∙ ap (λ (n : ℕ). walk (tiles (a .n)) nextBlock (0, n) (part (a .first) (a .count) (recordsOf (now (a .b))))) (omega (arith, part-length (recordsOf (now (a .b))) (a .first) (a .count) (c .before .pre))))
 
--- src/blocks.rt:38:38
 add-record-at : tie.Need-add-record-at Inv-loop μ-loop
 add-record-at c = omega (arith, length-records (now (c .before .before .before .args .b)))
 
--- src/blocks.rt:38:13
 record-at-requires : tie.Need-record-at-requires Inv-loop μ-loop
 record-at-requires c κs = search needs
 
--- src/blocks.rt:39:27
 sub-tiles : tie.Need-sub-tiles Inv-loop μ-loop
 sub-tiles c = search needs
 
--- src/blocks.rt:39:13
 tiles-requires : tie.Need-tiles-requires Inv-loop μ-loop
 tiles-requires c κs = search needs
 
--- src/blocks.rt:40:13
 returns : tie.Need-returns Inv-loop μ-loop
 returns c = let l = c .before .before .before .before in
     let a = l .before .before .args in
@@ -54,15 +44,12 @@ returns c = let l = c .before .before .before .before in
     let s : State = (l .loop .due, a .count - l .loop .k) in
     part-stop (tiles (a .n)) nextBlock rs (a .first) (a .count) (l .before .before .pre) (l .loop .k) s (c .before .before .before .loop-test .taken) (c .before .before .record-at .ensures) (c .before .tiles .ensures) (not-true _ (c .if1 .taken)) ∙ l .loop .inv .1
 
--- src/blocks.rt:43:9
 add-k : tie.Need-add-k Inv-loop μ-loop
 add-k c = search needs
 
--- src/blocks.rt:37:5
 loop-less : tie.Need-loop-less Inv-loop μ-loop
 loop-less c = search needs
 
--- src/blocks.rt:37:5
 loop-again : tie.Need-loop-again Inv-loop μ-loop
 loop-again c = let l = c .before .before .before .before in
     let a = l .before .before .args in
@@ -70,7 +57,6 @@ loop-again c = let l = c .before .before .before .before in
     let s : State = (l .loop .due, a .count - l .loop .k) in
     (omega arith, part-pass (tiles (a .n)) nextBlock rs (a .first) (a .count) (l .before .before .pre) (l .loop .k) s (c .before .before .before .loop-test .taken) (c .before .before .record-at .ensures) (c .before .tiles .ensures) (not-false _ (c .if1 .left)) (pair refl (omega arith)) ∙ l .loop .inv .1)
 
--- src/blocks.rt:31:1
 returns-2 : tie.Need-returns-2 Inv-loop μ-loop
 returns-2 c = let l = c .before in
     let a = l .before .before .args in
