@@ -1,0 +1,13 @@
+//! Independent checks of the Read and Tidy operations, written from the paper.
+
+pub mod compact;
+pub mod compare;
+pub mod damage;
+pub mod file;
+pub mod generate;
+pub mod reader;
+pub mod record;
+pub mod rng;
+pub mod vectors;
+
+pub use reader::read;
