@@ -59,3 +59,30 @@ impl Record {
 pub fn bytes(records: &[Record]) -> Vec<u8> {
     records.iter().flat_map(Record::encode).collect()
 }
+
+/// A procedure by its blocks; starts and ends follow from their code.
+#[derive(Clone, Default)]
+pub struct Procedure {
+    pub registers: Vec<u8>,
+    pub blocks: Vec<Vec<Record>>,
+    pub body: Option<u32>,
+    pub operands: Vec<u32>,
+    pub arms: Vec<Record>,
+}
+
+impl Procedure {
+    pub fn bytes(&self) -> Vec<u8> {
+        let mut records: Vec<Record> = self.registers.iter().map(|&kind| register(kind)).collect();
+        let mut start = 0;
+        for code in &self.blocks {
+            let end = start + code.len() as u32;
+            records.push(block(start, end));
+            start = end;
+        }
+        records.extend(self.body.map(body));
+        records.extend(self.blocks.iter().flatten());
+        records.extend(self.operands.iter().map(|&register| operand(register)));
+        records.extend(&self.arms);
+        bytes(&records)
+    }
+}
