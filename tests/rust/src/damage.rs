@@ -1,18 +1,19 @@
 //! Damage to files: each function makes one edit of its own sort.
 
 use crate::file;
-use crate::record::{class, is_terminator, kind, op, Record};
+use crate::record::{class, is_terminator, kind, op, Raw, Record};
 use crate::record::{DEFAULT, KINDS, LIMITS, RECORD_BYTES, SHAPES};
 use crate::rng::Rng;
 
 type Damage = fn(&mut Rng, &mut Vec<u8>);
 
 /// Every sort of damage with its weight.
-const DAMAGES: [(usize, Damage); 18] = [
+const DAMAGES: [(usize, Damage); 19] = [
     (5, flip_bit),
     (5, edit_byte),
     (4, edit_field),
     (6, edit_op),
+    (2, edit_byte_field),
     (4, set_unused_place),
     (3, swap_records),
     (3, delete_record),
@@ -155,6 +156,21 @@ fn edit_op(rng: &mut Rng, bytes: &mut Vec<u8>) {
         edit(bytes, place, |record| {
             let ops = SHAPES[(record.kind % KINDS) as usize].ops;
             record.op = rng.pick(&[0, 1, ops - 1, ops, ops + 1]);
+        });
+    }
+}
+
+/// Sets dim or Up's number at the edge of a byte.
+fn edit_byte_field(rng: &mut Rng, bytes: &mut Vec<u8>) {
+    let (records, _) = bytes.as_chunks::<RECORD_BYTES>();
+    let holds_byte = |raw: &Raw| {
+        raw[0] == class::INSTRUCTION && [kind::ADDR_OF, kind::DOPE_LEN].contains(&raw[1])
+    };
+    if let Some(place) = records.iter().position(holds_byte) {
+        let value = rng.pick(&[255, 256, 257, 1 << 16]);
+        edit(bytes, place, |record| match record.kind {
+            kind::ADDR_OF => *record = record.with_op(op::UP).with_field(1, value),
+            _ => record.p[2] = value,
         });
     }
 }
