@@ -4,6 +4,12 @@ use crate::compact::compact;
 use crate::record::RECORD_BYTES;
 use std::fmt::Debug;
 
+/// A number from the command line, or another where it isn't given.
+pub fn argument(place: usize, otherwise: u64) -> u64 {
+    let given = std::env::args().nth(place);
+    given.map_or(otherwise, |text| text.parse().expect("a number is due"))
+}
+
 /// Room in which a file stands at any address, aligned or not.
 #[derive(Default)]
 pub struct Room(Vec<u8>);

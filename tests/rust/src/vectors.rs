@@ -312,7 +312,9 @@ impl List {
             }
             let last = sound(kind, last_op(kind));
             for op in [last_op(kind) + 1, 255] {
-                self.instruction(format!("op/{}-{op}", name(kind)), last.with_op(op), 2);
+                let name = format!("op/{}-{op}", name(kind));
+                self.instruction(name.clone() + "-as-0", sound(kind, 0).with_op(op), 2);
+                self.instruction(name + "-as-last", last.with_op(op), 2);
             }
             let byte3 = Record { zero: 1, ..last };
             self.instruction(format!("place/{}-byte3", name(kind)), byte3, 2);

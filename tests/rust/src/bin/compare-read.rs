@@ -4,7 +4,7 @@
 #[path = "../c_read.rs"]
 mod c_read;
 
-use checks::compare::{Differences, Room};
+use checks::compare::{argument, Differences, Room};
 use checks::damage::damage;
 use checks::generate::{valid, Counts};
 use checks::read;
@@ -20,12 +20,6 @@ fn file(seed: u64) -> Vec<u8> {
         damage(&mut rng, &mut bytes);
     }
     bytes
-}
-
-fn argument(place: usize, otherwise: u64) -> u64 {
-    std::env::args()
-        .nth(place)
-        .map_or(otherwise, |text| text.parse().expect("a number is due"))
 }
 
 fn main() -> ExitCode {
