@@ -5,9 +5,12 @@ pub mod compare;
 pub mod damage;
 pub mod file;
 pub mod generate;
+pub mod generate_tidy;
 pub mod reader;
 pub mod record;
 pub mod rng;
+pub mod tidy;
 pub mod vectors;
 
 pub use reader::read;
+pub use tidy::tidy;
