@@ -3,6 +3,7 @@
 use crate::file::{arm, default, inst, Procedure};
 use crate::record::{kind, op, Record};
 use crate::rng::Rng;
+use std::collections::VecDeque;
 
 /// A way in which a register may be read.
 #[derive(Clone, Copy, Debug, PartialEq, Eq)]
@@ -123,8 +124,6 @@ enum Role {
 pub struct TidyFile {
     pub procedure: Procedure,
     roles: Vec<Role>,
-    /// distances[to][from]: over how many targets of Br and CondBr, 0 for none at all.
-    distances: Vec<Vec<usize>>,
     /// The clauses that were met, with the register and, for addresses, the distance.
     pub met: Vec<(Clause, u32, usize)>,
 }
@@ -160,7 +159,6 @@ impl TidyFile {
         let roles = roles(rng, blocks);
         let free = roles.iter().position(|&role| role == Role::Many).expect("there is one");
         let terminators = terminators(rng, blocks, free as u32);
-        let distances = (0..blocks).map(|to| distances(&terminators, to)).collect();
         let procedure = Procedure {
             registers: roles.iter().map(|_| rng.below(5) as u8).collect(),
             blocks: terminators.into_iter().map(|terminator| vec![terminator]).collect(),
@@ -168,7 +166,7 @@ impl TidyFile {
             operands: vec![],
             arms: arms(rng, blocks),
         };
-        let mut file = TidyFile { procedure, roles, distances, met: vec![] };
+        let mut file = TidyFile { procedure, roles, met: vec![] };
         file.fill(rng);
         file
     }
@@ -348,13 +346,19 @@ impl TidyFile {
             Clause::AddressFar => distance > 1,
             _ => distance == 0,
         };
-        let others = (0..self.procedure.blocks.len()).filter(|&from| from != to);
-        let fitting: Vec<usize> = others.filter(|&from| fits(self.distances[to][from])).collect();
+        let distances = distances(&self.terminators(), to);
+        let others = (0..distances.len()).filter(|&from| from != to);
+        let fitting: Vec<usize> = others.filter(|&from| fits(distances[from])).collect();
         if !fitting.is_empty() {
             let from = rng.pick(&fitting);
             self.read_somewhere(rng, from, register);
-            self.met.push((clause, register, self.distances[to][from]));
+            self.met.push((clause, register, distances[from]));
         }
+    }
+
+    fn terminators(&self) -> Vec<Record> {
+        let last = |code: &Vec<Record>| *code.last().expect("no block is empty");
+        self.procedure.blocks.iter().map(last).collect()
     }
 
     fn meet_not_read(&mut self, rng: &mut Rng) {
@@ -496,25 +500,19 @@ fn arms(rng: &mut Rng, blocks: usize) -> Vec<Record> {
 /// none lead there.
 fn distances(terminators: &[Record], to: usize) -> Vec<usize> {
     let mut distances = vec![0; terminators.len()];
-    let mut reached = vec![to];
-    for distance in 1..=terminators.len() {
-        let targets = |record: &Record| match record.kind {
-            kind::BR => vec![record.p[0] as usize],
-            kind::COND_BR => vec![record.p[1] as usize, record.p[2] as usize],
-            _ => vec![],
-        };
-        let mut next = Vec::new();
-        for (block, record) in terminators.iter().enumerate() {
-            let leads = targets(record).iter().any(|target| reached.contains(target));
+    let mut reached = VecDeque::from([(to, 0)]);
+    while let Some((target, distance)) = reached.pop_front() {
+        for (block, last) in terminators.iter().enumerate() {
+            let leads = match last.kind {
+                kind::BR => last.p[0] as usize == target,
+                kind::COND_BR => last.p[1..3].contains(&(target as u32)),
+                _ => false,
+            };
             if leads && distances[block] == 0 {
-                distances[block] = distance;
-                next.push(block);
+                distances[block] = distance + 1;
+                reached.push_back((block, distance + 1));
             }
         }
-        if next.is_empty() {
-            break;
-        }
-        reached = next;
     }
     distances
 }

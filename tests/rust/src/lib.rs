@@ -1,5 +1,6 @@
 //! Independent checks of the Read and Tidy operations, written from the paper.
 
+pub mod bench;
 pub mod compact;
 pub mod compare;
 pub mod damage;

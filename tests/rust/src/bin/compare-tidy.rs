@@ -94,7 +94,7 @@ fn due(file: &TidyFile) -> (u32, u32, u32, u32) {
 }
 
 fn main() -> ExitCode {
-    let files = argument(1, 500_000);
+    let files = argument(1, 1_000_000);
     let first_seed = argument(2, 1);
     let mut tally = Tally::default();
     let mut differences = Differences::default();
