@@ -11,6 +11,7 @@ pub mod reader;
 pub mod record;
 pub mod rng;
 pub mod tidy;
+pub mod tidy_vectors;
 pub mod vectors;
 
 pub use reader::read;
