@@ -1,4 +1,4 @@
-/* Halivomue: reading call procedure files.
+/* Halivomue: reading call procedure files, and asking whether they are tidy.
  *
  * Link with the archive libhalivomue_c.a. All functions may be called from any
  * thread: they keep no state, allocate nothing, and only look at the bytes they
@@ -43,6 +43,31 @@ struct halivomue_reading {
  * where `length` is 0.
  */
 struct halivomue_reading halivomue_read(const uint8_t *bytes, size_t length);
+
+/* The answer of halivomue_tidy.
+ *
+ * number, record  as halivomue_read gives them; where number is not 0, the
+ *                 file is refused and tidy and reg are 0
+ * tidy            1 where the procedure is tidy, else 0
+ * reg             the lowest register that offends where number and tidy are
+ *                 both 0, else 0
+ *
+ * A register offends only where exactly one register field of all instructions
+ * writes it, and that instruction is neither Const nor ConstF. Written by
+ * AddrOf, it offends where it is read earlier in the block that writes it, or
+ * in another block from which the targets of Br and CondBr lead to that block
+ * over any number of blocks. Written by another instruction, it offends where
+ * it is read anywhere but later in the block that writes it.
+ */
+struct halivomue_tidiness {
+    uint32_t number;
+    uint32_t record;
+    uint32_t tidy;
+    uint32_t reg;
+};
+
+/* Asks of a whole file, given as to halivomue_read, whether it is tidy. */
+struct halivomue_tidiness halivomue_tidy(const uint8_t *bytes, size_t length);
 
 #ifdef __cplusplus
 }
