@@ -2,8 +2,8 @@
 //! Usage: make-samples [--check] <directory>
 
 use checks::file::{arm, default, inst, Procedure};
-use checks::read;
 use checks::record::{kind, op, Record};
+use checks::tidy;
 use std::path::Path;
 use std::process::ExitCode;
 
@@ -113,11 +113,23 @@ fn refused() -> Procedure {
     procedure
 }
 
-fn samples() -> [(&'static str, Procedure, (u32, u32)); 3] {
+/// Keeps the hour in its register for the block after, which is not tidy.
+fn untidy() -> Procedure {
+    let mut procedure = forwarding();
+    let [hour, again] = [5, 7];
+    procedure.blocks[3].insert(0, inst(kind::CMP, &[again, hour, hour]).with_op(EQ).at(39));
+    procedure
+}
+
+const YES: (u32, u32, u32, u32) = (0, 0, 1, 0);
+
+/// Each sample with what Tidy says of it.
+fn samples() -> [(&'static str, Procedure, (u32, u32, u32, u32)); 4] {
     [
-        ("printed.call", printed(), (0, 0)),
-        ("forwarding.call", forwarding(), (0, 0)),
-        ("refused.call", refused(), (7, 9)),
+        ("printed.call", printed(), YES),
+        ("forwarding.call", forwarding(), YES),
+        ("untidy.call", untidy(), (0, 0, 0, 5)),
+        ("refused.call", refused(), (7, 9, 0, 0)),
     ]
 }
 
@@ -143,8 +155,8 @@ fn run() -> Result<String, String> {
     let samples = samples();
     for (name, procedure, due) in &samples {
         let bytes = procedure.bytes();
-        if read(&bytes) != *due {
-            return Err(format!("{name}: due {due:?}, the reader says {:?}", read(&bytes)));
+        if tidy(&bytes) != *due {
+            return Err(format!("{name}: due {due:?}, the Rust code says {:?}", tidy(&bytes)));
         }
         make(name, &bytes, Path::new(directory), only_check)?;
     }
