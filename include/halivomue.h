@@ -1,8 +1,7 @@
 /* Halivomue: reading call procedure files, and asking whether they are tidy.
  *
- * Link with the archive libhalivomue_c.a. All functions may be called from any
- * thread: they keep no state, allocate nothing, and only look at the bytes they
- * are given while the call lasts. The bytes need no alignment.
+ * Link with the archive libhalivomue_c.a. The functions only look at the bytes
+ * they are given, while the call lasts. The bytes need no alignment.
  */
 #ifndef HALIVOMUE_H
 #define HALIVOMUE_H
