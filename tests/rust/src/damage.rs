@@ -1,4 +1,6 @@
-//! Damage to files: each function makes one edit of its own sort.
+//! Damage to files: each function makes one edit of its own sort. All have one type.
+
+#![allow(clippy::ptr_arg)]
 
 use crate::file;
 use crate::record::{class, is_terminator, kind, op, Raw, Record};
@@ -376,7 +378,8 @@ fn name_missing(rng: &mut Rng, bytes: &mut Vec<u8>) {
         },
     };
     let count = count as u32;
-    let value = rng.pick(&[count, count, count + 1, count.wrapping_sub(1), count | 1 << 16, u32::MAX]);
+    let value =
+        rng.pick(&[count, count, count + 1, count.wrapping_sub(1), count | 1 << 16, u32::MAX]);
     edit(bytes, place, |record| record.p[field] = value);
 }
 
@@ -387,8 +390,12 @@ fn instruction_name(rng: &mut Rng, bytes: &[u8], instruction: &Record) -> Option
     let list = (1, 3, class::OPERAND);
     let (from, to, named) = match (instruction.kind, rng.below(2)) {
         (kind::CONST | kind::CONST_F | kind::ADDR_OF, _) => registers(0, 1),
-        (kind::MOVE | kind::LOAD | kind::STORE | kind::ALLOC | kind::DOPE_LEN, _) => registers(0, 2),
-        (kind::CMP | kind::BOOL | kind::BIN | kind::CHECK | kind::TAKE_BOUNDS, _) => registers(0, 3),
+        (kind::MOVE | kind::LOAD | kind::STORE | kind::ALLOC | kind::DOPE_LEN, _) => {
+            registers(0, 2)
+        }
+        (kind::CMP | kind::BOOL | kind::BIN | kind::CHECK | kind::TAKE_BOUNDS, _) => {
+            registers(0, 3)
+        }
         (kind::SELECT | kind::BOUNDS_LEN, _) => registers(0, 4),
         (kind::BIN_RANGE, _) => registers(0, 5),
         (kind::MAKE_DOPE, 0) => registers(0, 1),

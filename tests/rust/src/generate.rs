@@ -50,9 +50,7 @@ impl Counts {
 
     /// So many instructions, and all else in the proportion of the limits.
     pub fn in_proportion(instructions: usize) -> Counts {
-        let part = |class: u8| {
-            (limit(class) * instructions).div_ceil(limit(class::INSTRUCTION))
-        };
+        let part = |class: u8| (limit(class) * instructions).div_ceil(limit(class::INSTRUCTION));
         let arms = part(class::ARM);
         Counts {
             registers: part(class::REGISTER),

@@ -329,7 +329,9 @@ impl TidyFile {
                 let (kind, op, field) = rng.pick(&READ_FIELDS);
                 if writes_first_field(kind) && field > 0 {
                     let free = self.many(rng);
-                    break plain(kind, op, free).with_field(0, register).with_field(field, register);
+                    break plain(kind, op, free)
+                        .with_field(0, register)
+                        .with_field(field, register);
                 }
             }
         };
@@ -390,7 +392,8 @@ impl TidyFile {
     /// Reads a register in a block, by its terminator at times.
     fn read_somewhere(&mut self, rng: &mut Rng, block: usize, register: u32) {
         let last = self.procedure.blocks[block].last_mut().expect("no block is empty");
-        let reads = matches!((last.kind, last.op), (kind::COND_BR | kind::CASE, _) | (kind::RET, op::WITH));
+        let reads =
+            matches!((last.kind, last.op), (kind::COND_BR | kind::CASE, _) | (kind::RET, op::WITH));
         if reads && self.roles[last.p[0] as usize] == Role::Many && rng.chance(1, 3) {
             last.p[0] = register;
             return;

@@ -156,11 +156,11 @@ impl<'a> Procedure<'a> {
     /// Whether every register, block, table and list that an instruction names exists.
     fn names_exist(&self, instruction: &Record, tables: u32) -> bool {
         let p = &instruction.p;
-        let registers = |fields: &[u32]| fields.iter().all(|&r| (r as usize) < self.registers.len());
+        let registers =
+            |fields: &[u32]| fields.iter().all(|&r| (r as usize) < self.registers.len());
         let block = |b: u32| (b as usize) < self.blocks.len();
-        let list = |start: u32, length: u32| {
-            start as u64 + length as u64 <= self.operands.len() as u64
-        };
+        let list =
+            |start: u32, length: u32| start as u64 + length as u64 <= self.operands.len() as u64;
         match instruction.kind {
             kind::CONST | kind::CONST_F | kind::ADDR_OF => registers(&p[..1]),
             kind::MOVE | kind::LOAD | kind::STORE | kind::ALLOC | kind::DOPE_LEN => {

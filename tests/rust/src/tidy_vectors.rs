@@ -246,7 +246,10 @@ impl List {
             self.untidy(format!("write/{name}-earlier"), earlier);
         }
         let bare = inst(kind::CALL_NATIVE, &[R, 0, 0]);
-        self.tidy("write/CallNative-0-writes-nothing", vec![vec![bare, ret()], vec![read(), ret()]]);
+        self.tidy(
+            "write/CallNative-0-writes-nothing",
+            vec![vec![bare, ret()], vec![read(), ret()]],
+        );
         let store = inst(kind::STORE, &[R, R]);
         self.tidy("write/Store-writes-nothing", vec![vec![store, ret()], vec![read(), ret()]]);
     }
@@ -272,10 +275,9 @@ impl List {
     }
 
     fn constants(&mut self) {
-        for (name, write) in [
-            ("Const", write_constant()),
-            ("ConstF", inst(kind::CONST_F, &[R, 8, 0])),
-        ] {
+        for (name, write) in
+            [("Const", write_constant()), ("ConstF", inst(kind::CONST_F, &[R, 8, 0]))]
+        {
             let all = vec![vec![read(), write, read(), br(1)], vec![read(), br(0)]];
             self.tidy(format!("constant/{name}"), all);
         }
@@ -309,7 +311,9 @@ impl List {
 
     /// The clauses of AddrOf over one step.
     fn addresses(&mut self) {
-        for (name, space) in [("Frame", 0), ("Up", 1), ("Inst", 2), ("Pkg", 3), ("Const", 4), ("Shared", 5)] {
+        for (name, space) in
+            [("Frame", 0), ("Up", 1), ("Inst", 2), ("Pkg", 3), ("Const", 4), ("Shared", 5)]
+        {
             let write = write_address().with_op(space);
             let earlier = vec![vec![read(), write, ret()], vec![ret()]];
             self.untidy(format!("address/{name}-earlier"), earlier);
@@ -412,7 +416,8 @@ impl List {
             self.put(format!("lowest/{name}"), bytes, (0, 0, 0, 4));
         }
         let first = inst(kind::SELECT, &[TWICE, 7, 6, 5]);
-        let bytes = procedure(vec![vec![load(5), load(6), load(7), ret()], vec![first, ret()]]).bytes();
+        let bytes =
+            procedure(vec![vec![load(5), load(6), load(7), ret()], vec![first, ret()]]).bytes();
         self.put("lowest/one-instruction", bytes, (0, 0, 0, 5));
         let address = inst(kind::ADDR_OF, &[4, 0, 0]);
         let bytes = procedure(vec![

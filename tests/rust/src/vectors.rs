@@ -542,7 +542,11 @@ impl List {
             ("no-default", vec![arm(0, 0, 0, 0)], 0),
             ("no-default-of-three", vec![arm(0, 0, 0, 0), arm(0, 1, 1, 0), arm(0, 2, 2, 0)], 2),
             ("no-last-default", vec![default(0, 0), arm(1, 0, 0, 0), arm(1, 0, 0, 0)], 2),
-            ("misnumbered-and-no-default", vec![default(0, 0), arm(2, 0, 0, 0), arm(2, 0, 0, 0)], 1),
+            (
+                "misnumbered-and-no-default",
+                vec![default(0, 0), arm(2, 0, 0, 0), arm(2, 0, 0, 0)],
+                1,
+            ),
             ("misnumbered-last", vec![default(0, 0), arm(1, 0, 0, 0), arm(2, 0, 0, 0)], 2),
         ] {
             let mut parts = Parts { arms, ..base() };
@@ -553,8 +557,14 @@ impl List {
             ("none", vec![]),
             ("one-default", vec![default(0, 0)]),
             ("low-above-high", vec![arm(0, 5, -5, 0), default(0, 0)]),
-            ("extremes", vec![arm(0, i64::MIN, i64::MAX, 0), arm(0, i64::MAX, i64::MIN, 0), default(0, 0)]),
-            ("overlapping", vec![arm(0, 0, 9, 0), arm(0, 5, 20, 1), arm(0, 0, 9, 2), default(0, 0)]),
+            (
+                "extremes",
+                vec![arm(0, i64::MIN, i64::MAX, 0), arm(0, i64::MAX, i64::MIN, 0), default(0, 0)],
+            ),
+            (
+                "overlapping",
+                vec![arm(0, 0, 9, 0), arm(0, 5, 20, 1), arm(0, 0, 9, 2), default(0, 0)],
+            ),
             ("three-defaults", vec![default(0, 0), default(1, 1), default(2, 2)]),
         ] {
             self.accepted(format!("tables/{name}"), &Parts { arms, ..base() });

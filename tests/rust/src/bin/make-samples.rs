@@ -85,10 +85,8 @@ fn forwarding() -> Procedure {
         inst(kind::CASE, &[answered, 1]),
     ];
     let end = vec![inst(kind::STMT, &[]), inst(kind::RET, &[answered]).with_op(op::WITH)];
-    let fail = vec![
-        inst(kind::CALL_NATIVE, &[hang_up, 0, 0]),
-        inst(kind::UNREACHABLE, &[no_answer]),
-    ];
+    let fail =
+        vec![inst(kind::CALL_NATIVE, &[hang_up, 0, 0]), inst(kind::UNREACHABLE, &[no_answer])];
     let blocks = [start, head, switch, day, night, count, end, fail];
     Procedure {
         registers: vec![PTR, I64, I64, I64, F64, I64, PTR, I64, I64, PTR, I64],
@@ -121,10 +119,13 @@ fn untidy() -> Procedure {
     procedure
 }
 
-const YES: (u32, u32, u32, u32) = (0, 0, 1, 0);
+/// Number, record, tidy and register.
+type Answer = (u32, u32, u32, u32);
+
+const YES: Answer = (0, 0, 1, 0);
 
 /// Each sample with what Tidy says of it.
-fn samples() -> [(&'static str, Procedure, (u32, u32, u32, u32)); 4] {
+fn samples() -> [(&'static str, Procedure, Answer); 4] {
     [
         ("printed.call", printed(), YES),
         ("forwarding.call", forwarding(), YES),
