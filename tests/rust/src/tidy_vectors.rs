@@ -164,6 +164,7 @@ pub fn tidy_vectors() -> Vec<TidyVector> {
     list.leads();
     list.long_leads();
     list.lowest();
+    list.limits();
     list.0
 }
 
@@ -434,6 +435,26 @@ impl List {
             vec![inst(kind::CONST, &[TWICE]), inst(kind::CONST, &[TWICE]), ret()],
         ];
         self.put("lowest/last-register", ends.bytes(), (0, 0, 0, 7));
+    }
+
+    /// Files past the limits of shortening, which play no part.
+    fn limits(&mut self) {
+        for count in [480, 481, 756] {
+            let last = count - 1;
+            let write = inst(kind::LOAD, &[last, 0]);
+            let read = inst(kind::MOVE, &[TWICE, last]);
+            // Block 0 has all but the one instruction of block 1 and the three added.
+            let mut first = vec![write];
+            first.resize(count as usize - 6, inst(kind::STMT, &[]));
+            let registers = vec![0; count as usize];
+            let mut put = |name: &str, first: Vec<Record>, due| {
+                let blocks = vec![first, vec![ret()]];
+                let file = Procedure { registers: registers.clone(), ..procedure(blocks) };
+                self.put(format!("limits/{count}-{name}"), file.bytes(), due);
+            };
+            put("tidy", [&first[..], &[read, ret()]].concat(), (0, 0, 1, 0));
+            put("untidy", [&[read], &first[..], &[ret()]].concat(), (0, 0, 0, last));
+        }
     }
 }
 
