@@ -17,7 +17,7 @@ wordBytes x = byteOf x ∷ byteOf (x / 256) ∷ byteOf (x / 65536) ∷ byteOf (x
 unfoldable pub tagBytes : Record → List ℕ
 tagBytes r = byteOf (r .class) ∷ byteOf (r .kind) ∷ byteOf (r .op) ∷ byteOf (r .zero) ∷ []
 
--- ", 4..7 statement, 8..31 six 32-bit fields p1..p6."
+-- "4..7 statement, 8..31 six 32-bit fields p1..p6."
 abbrev pub recordBytes : Record → List ℕ
 recordBytes r =
     tagBytes r
