@@ -134,3 +134,48 @@ withStmt r n = record {
 
 abbrev pub recordOf : Code → Record
 recordOf c = withStmt (instRecord (c .inst)) (c .stmt .0)
+
+-- "32-bit fields"
+abbrev pub words : List ℕ → Bool
+words [] = true
+words (x ∷ xs) = ltb x (2 ^ 32) && words xs
+
+-- "dim and Up's number are at most 255"
+abbrev pub spaceInRange : AddrSpace → Bool
+spaceInRange s.Frame = true
+spaceInRange (s.Up n) = ltb n 256
+spaceInRange s.Inst = true
+spaceInRange (s.Pkg n) = ltb n (2 ^ 32)
+spaceInRange (s.Const n) = ltb n (2 ^ 32)
+spaceInRange s.Shared = true
+
+-- an instruction's numbers are in their types' ranges, and its f64 comes from 64 bits
+unfoldable pub inRange : Inst → Bool
+inRange (i.Const d v) = ltb v (2 ^ 64) && words (d .0 ∷ [])
+inRange (i.ConstF d v) = canonical v && words (d .0 ∷ [])
+inRange (i.Move d a) = words (d .0 ∷ a .0 ∷ [])
+inRange (i.AddrOf d p f) = spaceInRange p && words (d .0 ∷ f ∷ [])
+inRange (i.Select d c a b) = words (d .0 ∷ c .0 ∷ a .0 ∷ b .0 ∷ [])
+inRange (i.Cmp o d a b) = words (d .0 ∷ a .0 ∷ b .0 ∷ [])
+inRange (i.Bool o d a b) = words (d .0 ∷ a .0 ∷ b .0 ∷ [])
+inRange (i.Bin o d a b) = words (d .0 ∷ a .0 ∷ b .0 ∷ [])
+inRange (i.BinRange o d a b l h w) = words (d .0 ∷ a .0 ∷ b .0 ∷ l .0 ∷ h .0 ∷ w ∷ [])
+inRange (i.Load d a w) = words (d .0 ∷ a .0 ∷ [])
+inRange (i.Store a v w) = words (a .0 ∷ v .0 ∷ [])
+inRange (i.Check k v l h w) = words (v .0 ∷ l .0 ∷ h .0 ∷ w ∷ [])
+inRange (i.MakeDope a p) = words (a .0 ∷ p .start ∷ p .len ∷ [])
+inRange (i.DopeLen d p n) = ltb n 256 && words (d .0 ∷ p .0 ∷ [])
+inRange (i.BoundsLen d l r k) = words (d .0 ∷ l .0 ∷ r .0 ∷ k .0 ∷ [])
+inRange (i.Alloc d n) = words (d .0 ∷ n .0 ∷ [])
+inRange (i.TakeBounds l r k) = words (l .0 ∷ r .0 ∷ k .0 ∷ [])
+inRange (i.CallNative n a d) = words (n ∷ a .start ∷ a .len ∷ optArg d ∷ [])
+inRange (i.Br t) = words (t .0 ∷ [])
+inRange (i.CondBr c t f) = words (c .0 ∷ t .0 ∷ f .0 ∷ [])
+inRange (i.Case v t) = words (v .0 ∷ t ∷ [])
+inRange (i.Ret v) = words (optArg v ∷ [])
+inRange (i.Unreachable w) = words (w ∷ [])
+inRange i.Stmt = true
+
+pub record InRange (c : Code) : Type 0 where
+  pub inst : inRange (c .inst) ≡ true
+  pub stmt : c .stmt .0 < 2 ^ 32
