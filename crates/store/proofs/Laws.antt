@@ -170,7 +170,7 @@ fits-in b at h = record {
   p6 = word-fits b (at + 28) h;
 }
 
-order : (a b : ℕ) → (a < b) ⊎ (b ≤ a)
+pub order : (a b : ℕ) → (a < b) ⊎ (b ≤ a)
 order a b = go (ltb a b) refl
   where
     go : (t : Bool) → ltb a b ≡ t → (a < b) ⊎ (b ≤ a)
