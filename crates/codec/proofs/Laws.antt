@@ -49,14 +49,17 @@ row-same r e z = ap (λ (c : ℕ). of c 0) (sym e) ∙ ap (of (r .class)) (sym z
     of : ℕ → ℕ → Record
     of c n = record { class = c; kind = r .kind; op = r .op; zero = n; stmt = r .stmt; p1 = r .p1; p2 = r .p2; p3 = r .p3; p4 = r .p4; p5 = r .p5; p6 = r .p6 }
 
--- what was read from a right record writes the same record
-pub write-back : (r : Record) → right r ≡ true → r .class ≡ 4 → Fits r → recordOf (codeOf r) ≡ r
+-- what was read from a right record writes the same record; of its bounds only those of p2 and p3 count
+pub write-back-words : (r : Record) → right r ≡ true → r .class ≡ 4 → r .p2 < 2 ^ 32 → r .p3 < 2 ^ 32 → recordOf (codeOf r) ≡ r
 unfolding instOf
-write-back r h e f =
+write-back-words r h e w2 w3 =
     let l = listed r h e in
     ap (λ (x : Record). withStmt x (r .stmt))
-    (kept (r .kind) (l .kind) (r .op) (r .p1) (r .p2) (r .p3) (r .p4) (r .p5) (r .p6) (l .op) (f .p2) (f .p3) (l .places))
+    (kept (r .kind) (l .kind) (r .op) (r .p1) (r .p2) (r .p3) (r .p4) (r .p5) (r .p6) (l .op) w2 w3 (l .places))
     ∙ row-same r e (l .zero)
+
+pub write-back : (r : Record) → right r ≡ true → r .class ≡ 4 → Fits r → recordOf (codeOf r) ≡ r
+write-back r h e f = write-back-words r h e (f .p2) (f .p3)
 
 -- what was written reads back as the same value
 pub read-back : (c : Code) → InRange c → codeOf (recordOf c) ≡ c

@@ -262,3 +262,10 @@ pub fn record_of(c: Code) -> Record
     r.stmt = stmt.0;
     r
 }
+
+// Read into a value and written again: a right record of an instruction comes back as it was.
+pub fn rewritten(r: Record) -> Record
+    ensures { λ x. ⌜ (x ≡ recordOf (codeOf r)) × (right r ≡ true → r .class ≡ 4 → x ≡ r) ⌝ }
+{
+    record_of(code_of(r))
+}
