@@ -1,7 +1,7 @@
 -- Document 01, "Class 4, instruction": the kinds' numbers.
 use Prim.Native.Nat.{ℕ}
 use mathlib.Core.Bool.{Bool, _&&_}
-use lib.Dec.{leb, ltb}
+use lib.Dec.{leb}
 use Rattle.inst.specs.declared.Inst.{Inst}
 use Rattle.inst.specs.declared.Inst.the-variants as i
 

@@ -1,8 +1,7 @@
 -- Document 01, "Class 4, instruction": "Ops count from 0 in `inst.rs`'s order." A number past the last is read as the last.
 use Prim.Native.Nat.{ℕ, _%_}
-use mathlib.Core.List.{List, [], _∷_}
+use mathlib.Core.List.{[], _∷_}
 use lib.ListN.{getD}
-use Rattle.inst.specs.declared.Reg.{Reg}
 use Rattle.inst.specs.declared.OptReg.{OptReg}
 use Rattle.inst.specs.declared.OptReg.the-variants as o
 use Rattle.inst.specs.declared.CmpOp.{CmpOp}
