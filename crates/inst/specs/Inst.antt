@@ -36,5 +36,6 @@ kindOf i.Stmt = 23
 abbrev pub terminatorKind : ℕ → Bool
 terminatorKind k = leb 18 k && leb k 22
 
+-- "each ending in its only terminator": whether an instruction is one
 abbrev pub terminatorOf : Inst → Bool
 terminatorOf i = terminatorKind (kindOf i)
