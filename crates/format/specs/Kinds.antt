@@ -14,6 +14,8 @@ pub data Place : Type 0 where
   register : Place
   block : Place
   table : Place
+  -- the start of a list of operands, whose length stands in the next place
+  list : Place
 
 -- "8..31 six 32-bit fields p1..p6"
 abbrev pub fields : Record → List ℕ
@@ -55,7 +57,7 @@ instructionPlaces op =
     -- 11 Check v lo hi what
     ∷ (register ∷ register ∷ register ∷ number ∷ [])
     -- 12 MakeDope at, list start, length
-    ∷ (register ∷ number ∷ number ∷ [])
+    ∷ (register ∷ list ∷ number ∷ [])
     -- 13 DopeLen dst dope dim
     ∷ (register ∷ register ∷ small ∷ [])
     -- 14 BoundsLen dst left right dir
@@ -65,7 +67,7 @@ instructionPlaces op =
     -- 16 TakeBounds left right dir
     ∷ (register ∷ register ∷ register ∷ [])
     -- 17 CallNative native, list start, length, dst
-    ∷ (number ∷ number ∷ number ∷ optional op ∷ [])
+    ∷ (number ∷ list ∷ number ∷ optional op ∷ [])
     -- 18 Br to
     ∷ (block ∷ [])
     -- 19 CondBr c t f
@@ -122,6 +124,7 @@ fit small p = ltb p 256
 fit register p = true
 fit block p = true
 fit table p = true
+fit list p = true
 
 abbrev pub zeros : List ℕ → Bool
 zeros [] = true

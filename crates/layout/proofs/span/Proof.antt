@@ -1,0 +1,65 @@
+use borrow.Author.Tests.{not-true, not-false}
+use Prim.Native.Nat.{_+_, _≤_, _-_, _/_}
+use mathlib.Core.Path.{_≡_, refl, _∙_}
+use native.Mathlib.Omega.{arith}
+use borrow.Author.Needs.{needs}
+use denote.Ref.{now}
+use lib.ListN.{length, drop}
+use Rattle.format.specs.Record.{recordsOf, blank}
+use Rattle.format.proofs.Laws.{length-records}
+use Rattle.layout.specs.Walk.{lead}
+use Rattle.layout.specs.Spans.{rightOf}
+use Rattle.layout.proofs.Walks.{lead-pass, lead-stop, lead-end, told}
+use Rattle.layout.proofs.span.Statement.{statement}
+use Rattle.layout.proofs.span.Tie as tie
+
+abbrev Inv-loop : tie.InvT-loop
+Inv-loop b first class k₀ k = (k ≤ length b / 32) × (k + lead (rightOf class) (drop k (recordsOf b)) ≡ first + lead (rightOf class) (drop first (recordsOf b)))
+
+abbrev μ-loop : tie.MeasureT-loop
+μ-loop b first class k₀ k = length b / 32 - k
+
+loop-holds : tie.Need-loop-holds Inv-loop μ-loop
+loop-holds c = (omega (arith, length-records (now (c .before .args .b))), refl)
+
+record-at-requires : tie.Need-record-at-requires Inv-loop μ-loop
+record-at-requires c κs = search needs
+
+right-of-requires : tie.Need-right-of-requires Inv-loop μ-loop
+right-of-requires c κs = search needs
+
+returns : tie.Need-returns Inv-loop μ-loop
+returns c = let l = c .before .before .before .before in
+    let b = now (l .before .before .args .b) in
+    lead-stop (rightOf (l .before .before .args .class)) (recordsOf b) (l .loop .k) blank (rw (length-records b) (omega arith)) (told (rightOf (l .before .before .args .class)) (c .before .before .record-at .ensures) (c .before .right-of .ensures) (not-true _ (c .if1 .taken))) ∙ l .loop .inv .1
+
+add-k : tie.Need-add-k Inv-loop μ-loop
+add-k c = search needs
+
+loop-less : tie.Need-loop-less Inv-loop μ-loop
+loop-less c = search needs
+
+loop-again : tie.Need-loop-again Inv-loop μ-loop
+loop-again c = let l = c .before .before .before .before in
+    let b = now (l .before .before .args .b) in
+    (omega arith, lead-pass (rightOf (l .before .before .args .class)) (recordsOf b) (l .loop .k) blank (rw (length-records b) (omega arith)) (told (rightOf (l .before .before .args .class)) (c .before .before .record-at .ensures) (c .before .right-of .ensures) (not-false _ (c .if1 .left))) ∙ l .loop .inv .1)
+
+returns-2 : tie.Need-returns-2 Inv-loop μ-loop
+returns-2 c = let l = c .before in
+    let b = now (l .before .before .args .b) in
+    lead-end (rightOf (l .before .before .args .class)) (recordsOf b) (l .loop .k) (rw (length-records b) (omega arith)) ∙ l .loop .inv .1
+
+pub span-spec : {M : Type 1} → statement M
+span-spec =
+    tie.close
+    (tie.spec
+    Inv-loop
+    μ-loop
+    loop-holds
+    record-at-requires
+    right-of-requires
+    returns
+    add-k
+    loop-less
+    loop-again
+    returns-2)

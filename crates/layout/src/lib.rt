@@ -1,0 +1,73 @@
+ghost use mathlib.Core.Path.{_≡_};
+ghost use mathlib.Core.Bool.{_&&_};
+ghost use Prim.Native.Nat.{_+_, _≤_};
+ghost use lib.Dec.{eqb};
+ghost use lib.ListN.{length, drop};
+ghost use Rattle.format.specs.Record.{recordsOf};
+ghost use Rattle.layout.specs.Walk.{lead};
+ghost use Rattle.layout.specs.Classes.{layoutOf};
+ghost use Rattle.layout.specs.Spans.{rightOf};
+use format::Record;
+
+// Where the records of each class start in a file, and where all end: registers start at 0.
+pub struct Layout {
+    pub blocks: usize,
+    pub bodies: usize,
+    pub code: usize,
+    pub operands: usize,
+    pub arms: usize,
+    pub end: usize,
+}
+
+// The record is of the class, and right in itself.
+fn right_of(class: u32, r: Record) -> bool
+    ensures { λ z. ⌜ z ≡ rightOf class r ⌝ }
+{
+    r.class == class && shape::fit::right(r)
+}
+
+// The end of the right records of one class that stand together from `first` on.
+fn span(b: &[u8], first: usize, class: u32) -> usize
+    requires { ⌜ first ≤ length (recordsOf (now b)) ⌝ }
+    ensures { λ r. ⌜ r ≡ first + lead (rightOf class) (drop first (recordsOf (now (b .entry)))) ⌝ }
+{
+    let mut k = first;
+    while k < b.len() / 32 {
+        let r = format::record_at(b, k);
+        if !right_of(class, r) {
+            return k;
+        }
+        k += 1;
+    }
+    k
+}
+
+pub fn layout_of(b: &[u8]) -> Layout
+    ensures { λ r. ⌜ r ≡ layoutOf (recordsOf (now (b .entry))) ⌝ }
+{
+    let blocks = span(b, 0, 1);
+    let bodies = span(b, blocks, 2);
+    let code = span(b, bodies, 3);
+    let operands = span(b, code, 4);
+    let arms = span(b, operands, 5);
+    let end = span(b, arms, 6);
+    if end == b.len() / 32 {
+        Layout {
+            blocks,
+            bodies,
+            code,
+            operands,
+            arms,
+            end,
+        }
+    } else {
+        Layout {
+            blocks: 0,
+            bodies: 0,
+            code: 0,
+            operands: 0,
+            arms: 0,
+            end,
+        }
+    }
+}

@@ -1,0 +1,105 @@
+use Prim.Native.Nat.{_+_, _-_, _≤_}
+use mathlib.Core.Path.{_≡_, ap, _∙_}
+use native.Mathlib.Omega.{arith}
+use native.Mathlib.Nat.{zero-add}
+use mathlib.Core.Bool.{not}
+use borrow.Author.Needs.{needs}
+use borrow.Author.Tests.{not-true, not-false}
+use denote.Ref.{now}
+use lib.ListN.{length, drop}
+use Rattle.format.specs.Record.{recordsOf}
+use Rattle.format.proofs.Laws.{length-records}
+use Rattle.layout.specs.Walk.{lead}
+use Rattle.read.specs.Structure.{codeOf, endsWell, ended}
+use Rattle.read.specs.Parts.{part}
+use Rattle.read.proofs.Laws.{tests-pass, tests-stop, tests-end, in-code, code-part}
+use Rattle.read.proofs.blocks.ended_blocks.Statement.{statement}
+use Rattle.read.proofs.blocks.ended_blocks.Tie as tie
+
+abbrev Inv-loop : tie.InvT-loop
+Inv-loop b first count code n k₀ k = (k ≤ count) × (k + lead (λ r. endsWell (codeOf (part code n (recordsOf b)) r)) (drop k (part first count (recordsOf b))) ≡ ended (part code n (recordsOf b)) (part first count (recordsOf b)))
+
+abbrev μ-loop : tie.MeasureT-loop
+μ-loop b first count code n k₀ k = count - k
+
+loop-holds : tie.Need-loop-holds Inv-loop μ-loop
+loop-holds c = (omega arith, zero-add _)
+
+add-record-at : tie.Need-add-record-at Inv-loop μ-loop
+add-record-at c = omega (arith, length-records (now (c .before .before .before .args .b)))
+
+record-at-requires : tie.Need-record-at-requires Inv-loop μ-loop
+record-at-requires c κs = search needs
+
+cast-start : tie.Need-cast-start Inv-loop μ-loop
+cast-start c = search needs
+
+add-ends-well : tie.Need-add-ends-well Inv-loop μ-loop
+add-ends-well c = let l = c .before .before .before in
+    let a = l .before .before .args in
+    let rs = recordsOf (now (a .b)) in
+    let q = in-code rs (a .first) (a .count) (a .n) (l .loop .k) (l .before .before .pre .0) (c .before .record-at .result) (l .before .before .pre .2) (c .before .before .loop-test .taken) (c .before .record-at .ensures) in
+    omega (arith, length-records (now (a .b)))
+
+cast-ends-well : tie.Need-cast-ends-well Inv-loop μ-loop
+cast-ends-well c = search needs
+
+sub-ends-well : tie.Need-sub-ends-well Inv-loop μ-loop
+sub-ends-well c = let l = c .before .before .before .before in
+    let a = l .before .before .args in
+    let rs = recordsOf (now (a .b)) in
+    let q = in-code rs (a .first) (a .count) (a .n) (l .loop .k) (l .before .before .pre .0) (c .before .before .record-at .result) (l .before .before .pre .2) (c .before .before .before .loop-test .taken) (c .before .before .record-at .ensures) in
+    omega arith
+
+ends-well-requires : tie.Need-ends-well-requires Inv-loop μ-loop
+ends-well-requires c κs = let l = c .before .before .before .before in
+    let a = l .before .before .args in
+    let rs = recordsOf (now (a .b)) in
+    let q = in-code rs (a .first) (a .count) (a .n) (l .loop .k) (l .before .before .pre .0) (c .before .before .record-at .result) (l .before .before .pre .2) (c .before .before .before .loop-test .taken) (c .before .before .record-at .ensures) in
+    omega arith
+
+returns : tie.Need-returns Inv-loop μ-loop
+returns c = let l = c .before .before .before .before .before .before in
+    let a = l .before .before .args in
+    let rs = recordsOf (now (a .b)) in
+    let q = in-code rs (a .first) (a .count) (a .n) (l .loop .k) (l .before .before .pre .0) (c .before .before .before .before .record-at .result) (l .before .before .pre .2) (c .before .before .before .before .before .loop-test .taken) (c .before .before .before .before .record-at .ensures) in
+    tests-stop (λ r. endsWell (codeOf (part (a .code) (a .n) rs) r)) rs (a .first) (a .count) (l .before .before .pre .0) (l .loop .k) (c .before .before .before .before .before .loop-test .taken) (c .before .before .before .before .record-at .ensures) (c .before .ends-well .ensures ∙ ap endsWell (code-part rs (a .code) (a .n) (c .before .before .before .before .record-at .result) (q .0) (q .1))) (not-true _ (c .if1 .taken)) ∙ l .loop .inv .1
+
+add-k : tie.Need-add-k Inv-loop μ-loop
+add-k c = search needs
+
+loop-less : tie.Need-loop-less Inv-loop μ-loop
+loop-less c = search needs
+
+loop-again : tie.Need-loop-again Inv-loop μ-loop
+loop-again c = let l = c .before .before .before .before .before .before in
+    let a = l .before .before .args in
+    let rs = recordsOf (now (a .b)) in
+    let q = in-code rs (a .first) (a .count) (a .n) (l .loop .k) (l .before .before .pre .0) (c .before .before .before .before .record-at .result) (l .before .before .pre .2) (c .before .before .before .before .before .loop-test .taken) (c .before .before .before .before .record-at .ensures) in
+    (omega arith, tests-pass (λ r. endsWell (codeOf (part (a .code) (a .n) rs) r)) rs (a .first) (a .count) (l .before .before .pre .0) (l .loop .k) (c .before .before .before .before .before .loop-test .taken) (c .before .before .before .before .record-at .ensures) (c .before .ends-well .ensures ∙ ap endsWell (code-part rs (a .code) (a .n) (c .before .before .before .before .record-at .result) (q .0) (q .1))) (not-false _ (c .if1 .left)) ∙ l .loop .inv .1)
+
+returns-2 : tie.Need-returns-2 Inv-loop μ-loop
+returns-2 c = let l = c .before in
+    let a = l .before .before .args in
+    let rs = recordsOf (now (a .b)) in
+    tests-end (λ r. endsWell (codeOf (part (a .code) (a .n) rs) r)) rs (a .first) (a .count) (l .before .before .pre .0) (l .loop .k) (c .loop-test .left) ∙ l .loop .inv .1
+
+pub ended-blocks-spec : {M : Type 1} → statement M
+ended-blocks-spec =
+    tie.close
+    (tie.spec
+    Inv-loop
+    μ-loop
+    loop-holds
+    add-record-at
+    record-at-requires
+    cast-start
+    add-ends-well
+    cast-ends-well
+    sub-ends-well
+    ends-well-requires
+    returns
+    add-k
+    loop-less
+    loop-again
+    returns-2)

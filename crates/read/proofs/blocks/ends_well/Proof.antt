@@ -1,0 +1,29 @@
+use Prim.Native.Nat.{_-_}
+use native.Mathlib.Omega.{arith}
+use mathlib.Core.Bool.{not}
+use denote.Ref.{now}
+use lib.ListN.{length}
+use Rattle.format.specs.Record.{recordsOf}
+use Rattle.format.proofs.Laws.{length-records}
+use Rattle.layout.specs.Walk.{lead}
+use Rattle.read.specs.Structure.{terminator}
+use Rattle.read.specs.Parts.{part}
+use Rattle.read.proofs.Laws.{part-length}
+use Rattle.layout.proofs.Walks.{lead-le}
+use borrow.Author.Needs.{needs}
+use Rattle.read.proofs.blocks.ends_well.Statement.{statement}
+use Rattle.read.proofs.blocks.ends_well.Tie as tie
+
+first-terminator-requires : tie.Need-first-terminator-requires
+first-terminator-requires c κs = search needs
+
+add-result : tie.Need-add-result
+add-result c = let a = c .before .before .args in
+    omega (arith, c .first-terminator .ensures, lead-le (λ i. not (terminator i)) (part (a .first) (a .count) (recordsOf (now (a .b)))), part-length (recordsOf (now (a .b))) (a .first) (a .count) (c .before .before .pre), length-records (now (a .b)))
+
+returns : tie.Need-returns
+returns c = let a = c .before .before .args in
+    rw (c .first-terminator .ensures, part-length (recordsOf (now (a .b))) (a .first) (a .count) (c .before .before .pre))
+
+pub ends-well-spec : {M : Type 1} → statement M
+ends-well-spec = tie.close (tie.spec first-terminator-requires add-result returns)

@@ -1,0 +1,74 @@
+use Prim.Native.Nat.{_+_, _-_, _≤_}
+use mathlib.Core.Path.{_≡_, ap, _∙_}
+use native.Mathlib.Omega.{arith}
+use native.Mathlib.Nat.{zero-add}
+use mathlib.Core.Bool.{not}
+use borrow.Author.Needs.{needs}
+use denote.Ref.{now}
+use lib.ListN.{length, drop}
+use Rattle.format.specs.Record.{recordsOf}
+use Rattle.format.proofs.Laws.{length-records}
+use Rattle.layout.specs.Walk.{lead}
+use Rattle.read.specs.Structure.{terminator}
+use Rattle.read.specs.Parts.{part}
+use Rattle.read.proofs.Laws.{tests-pass, tests-stop, tests-end}
+use Rattle.read.proofs.blocks.first_terminator.Statement.{statement}
+use Rattle.read.proofs.blocks.first_terminator.Tie as tie
+
+abbrev Inv-loop : tie.InvT-loop
+Inv-loop b first count k₀ k = (k ≤ count) × (k + lead (λ i. not (terminator i)) (drop k (part first count (recordsOf b))) ≡ lead (λ i. not (terminator i)) (part first count (recordsOf b)))
+
+abbrev μ-loop : tie.MeasureT-loop
+μ-loop b first count k₀ k = count - k
+
+loop-holds : tie.Need-loop-holds Inv-loop μ-loop
+loop-holds c = (omega arith, zero-add _)
+
+add-record-at : tie.Need-add-record-at Inv-loop μ-loop
+add-record-at c = omega (arith, length-records (now (c .before .before .before .args .b)))
+
+record-at-requires : tie.Need-record-at-requires Inv-loop μ-loop
+record-at-requires c κs = search needs
+
+terminator-requires : tie.Need-terminator-requires Inv-loop μ-loop
+terminator-requires c κs = search needs
+
+returns : tie.Need-returns Inv-loop μ-loop
+returns c = let l = c .before .before .before .before in
+    let a = l .before .before .args in
+    let rs = recordsOf (now (a .b)) in
+    tests-stop (λ i. not (terminator i)) rs (a .first) (a .count) (l .before .before .pre) (l .loop .k) (c .before .before .before .loop-test .taken) (c .before .before .record-at .ensures) (ap not (c .before .terminator .ensures)) (ap not (c .if1 .taken)) ∙ l .loop .inv .1
+
+add-k : tie.Need-add-k Inv-loop μ-loop
+add-k c = search needs
+
+loop-less : tie.Need-loop-less Inv-loop μ-loop
+loop-less c = search needs
+
+loop-again : tie.Need-loop-again Inv-loop μ-loop
+loop-again c = let l = c .before .before .before .before in
+    let a = l .before .before .args in
+    let rs = recordsOf (now (a .b)) in
+    (omega arith, tests-pass (λ i. not (terminator i)) rs (a .first) (a .count) (l .before .before .pre) (l .loop .k) (c .before .before .before .loop-test .taken) (c .before .before .record-at .ensures) (ap not (c .before .terminator .ensures)) (ap not (c .if1 .left)) ∙ l .loop .inv .1)
+
+returns-2 : tie.Need-returns-2 Inv-loop μ-loop
+returns-2 c = let l = c .before in
+    let a = l .before .before .args in
+    let rs = recordsOf (now (a .b)) in
+    tests-end (λ i. not (terminator i)) rs (a .first) (a .count) (l .before .before .pre) (l .loop .k) (c .loop-test .left) ∙ l .loop .inv .1
+
+pub first-terminator-spec : {M : Type 1} → statement M
+first-terminator-spec =
+    tie.close
+    (tie.spec
+    Inv-loop
+    μ-loop
+    loop-holds
+    add-record-at
+    record-at-requires
+    terminator-requires
+    returns
+    add-k
+    loop-less
+    loop-again
+    returns-2)

@@ -1,0 +1,82 @@
+use Prim.Native.Nat.{ℕ, _+_, _-_, _≤_}
+use mathlib.Core.Path.{_≡_, refl, ap, _∙_}
+use native.Mathlib.Omega.{arith}
+use native.Mathlib.Nat.{zero-add}
+use borrow.Author.Needs.{needs}
+use borrow.Author.Tests.{not-true, not-false}
+use denote.Ref.{now}
+use lib.ListN.{length, drop}
+use Rattle.format.specs.Record.{recordsOf}
+use Rattle.format.proofs.Laws.{length-records}
+use Rattle.layout.specs.Walk.{walk}
+use Rattle.read.specs.Structure.{State, tiles, tiled, nextBlock}
+use Rattle.read.specs.Parts.{part}
+use Rattle.read.proofs.Laws.{part-pass, part-stop, part-end, part-length, pair}
+use Rattle.read.proofs.blocks.tiled_blocks.Statement.{statement}
+use Rattle.read.proofs.blocks.tiled_blocks.Tie as tie
+
+abbrev Inv-loop : tie.InvT-loop
+Inv-loop b first count n due₀ k₀ due k = (k ≤ count) × (k + walk (tiles n) nextBlock (due, count - k) (drop k (part first count (recordsOf b))) ≡ tiled n (part first count (recordsOf b)))
+
+abbrev μ-loop : tie.MeasureT-loop
+μ-loop b first count n due₀ k₀ due k = count - k
+
+loop-holds : tie.Need-loop-holds Inv-loop μ-loop
+loop-holds c = let a = c .before .args in
+    (omega arith, zero-add _ ∙ ap (λ (n : ℕ). walk (tiles (a .n)) nextBlock (0, n) (part (a .first) (a .count) (recordsOf (now (a .b))))) (omega (arith, part-length (recordsOf (now (a .b))) (a .first) (a .count) (c .before .pre))))
+
+add-record-at : tie.Need-add-record-at Inv-loop μ-loop
+add-record-at c = omega (arith, length-records (now (c .before .before .before .args .b)))
+
+record-at-requires : tie.Need-record-at-requires Inv-loop μ-loop
+record-at-requires c κs = search needs
+
+sub-tiles : tie.Need-sub-tiles Inv-loop μ-loop
+sub-tiles c = search needs
+
+tiles-requires : tie.Need-tiles-requires Inv-loop μ-loop
+tiles-requires c κs = search needs
+
+returns : tie.Need-returns Inv-loop μ-loop
+returns c = let l = c .before .before .before .before in
+    let a = l .before .before .args in
+    let rs = recordsOf (now (a .b)) in
+    let s : State = (l .loop .due, a .count - l .loop .k) in
+    part-stop (tiles (a .n)) nextBlock rs (a .first) (a .count) (l .before .before .pre) (l .loop .k) s (c .before .before .before .loop-test .taken) (c .before .before .record-at .ensures) (c .before .tiles .ensures) (not-true _ (c .if1 .taken)) ∙ l .loop .inv .1
+
+add-k : tie.Need-add-k Inv-loop μ-loop
+add-k c = search needs
+
+loop-less : tie.Need-loop-less Inv-loop μ-loop
+loop-less c = search needs
+
+loop-again : tie.Need-loop-again Inv-loop μ-loop
+loop-again c = let l = c .before .before .before .before in
+    let a = l .before .before .args in
+    let rs = recordsOf (now (a .b)) in
+    let s : State = (l .loop .due, a .count - l .loop .k) in
+    (omega arith, part-pass (tiles (a .n)) nextBlock rs (a .first) (a .count) (l .before .before .pre) (l .loop .k) s (c .before .before .before .loop-test .taken) (c .before .before .record-at .ensures) (c .before .tiles .ensures) (not-false _ (c .if1 .left)) (pair refl (omega arith)) ∙ l .loop .inv .1)
+
+returns-2 : tie.Need-returns-2 Inv-loop μ-loop
+returns-2 c = let l = c .before in
+    let a = l .before .before .args in
+    let rs = recordsOf (now (a .b)) in
+    let s : State = (l .loop .due, a .count - l .loop .k) in
+    part-end (tiles (a .n)) nextBlock rs (a .first) (a .count) (l .before .before .pre) (l .loop .k) s (c .loop-test .left) ∙ l .loop .inv .1
+
+pub tiled-blocks-spec : {M : Type 1} → statement M
+tiled-blocks-spec =
+    tie.close
+    (tie.spec
+    Inv-loop
+    μ-loop
+    loop-holds
+    add-record-at
+    record-at-requires
+    sub-tiles
+    tiles-requires
+    returns
+    add-k
+    loop-less
+    loop-again
+    returns-2)

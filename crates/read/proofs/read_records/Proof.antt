@@ -1,0 +1,102 @@
+use Prim.Native.Nat.{_-_, _≤_}
+use mathlib.Core.Path.{sym, _∙_}
+use native.Mathlib.Omega.{arith}
+use denote.Ref.{now}
+use lib.ListN.{length}
+use Rattle.format.specs.Record.{recordsOf}
+use Rattle.format.proofs.Laws.{length-records}
+use Rattle.read.specs.Reading.{readRecords}
+use Rattle.read.proofs.Laid.{sizes, laid-of, end-is, beyond-is, few-arms, refuse-at, pass-on}
+use native.Mathlib.Nat.{zero-add}
+use borrow.Author.Needs.{needs}
+use Rattle.read.proofs.read_records.Statement.{statement}
+use Rattle.read.proofs.read_records.Tie as tie
+
+layout-of-requires : tie.Need-layout-of-requires
+layout-of-requires c κs = search needs
+
+refused-requires : tie.Need-refused-requires
+refused-requires c κs = omega (arith, length-records (now (c .before .before .before .before .args .b)))
+
+returns : tie.Need-returns
+unfolding readRecords
+returns c = let n = length-records (now (c .before .before .before .before .before .args .b)) in
+    let e = end-is (recordsOf (now (c .before .before .before .before .before .args .b))) (c .before .before .before .layout-of .ensures) in
+    refuse-at 2 0 _ _ _ (c .refused .ensures) (e ∙ sym (zero-add _)) (rw (← e, n) (c .before .if1 .taken))
+
+sub-arms : tie.Need-sub-arms
+sub-arms c = let n = length-records (now (c .before .before .before .before .before .args .b)) in
+    let p = laid-of (recordsOf (now (c .before .before .before .before .before .args .b))) (c .before .before .before .layout-of .ensures) (rw n (c .before .if1 .left)) in
+    let z = sizes p in
+    omega arith
+
+sub-beyond : tie.Need-sub-beyond
+sub-beyond c = let n = length-records (now (c .before .before .before .before .before .before .args .b)) in
+    let p = laid-of (recordsOf (now (c .before .before .before .before .before .before .args .b))) (c .before .before .before .before .layout-of .ensures) (rw n (c .before .before .if1 .left)) in
+    let z = sizes p in
+    omega arith
+
+sub-beyond-2 : tie.Need-sub-beyond-2
+sub-beyond-2 c = let n = length-records (now (c .before .before .before .before .before .before .before .args .b)) in
+    let p = laid-of (recordsOf (now (c .before .before .before .before .before .before .before .args .b))) (c .before .before .before .before .before .layout-of .ensures) (rw n (c .before .before .before .if1 .left)) in
+    let z = sizes p in
+    omega arith
+
+sub-beyond-3 : tie.Need-sub-beyond-3
+sub-beyond-3 c = let n = length-records (now (c .before .before .before .before .before .before .before .before .args .b)) in
+    let p = laid-of (recordsOf (now (c .before .before .before .before .before .before .before .before .args .b))) (c .before .before .before .before .before .before .layout-of .ensures) (rw n (c .before .before .before .before .if1 .left)) in
+    let z = sizes p in
+    omega arith
+
+sub-beyond-4 : tie.Need-sub-beyond-4
+sub-beyond-4 c = let n = length-records (now (c .before .before .before .before .before .before .before .before .before .args .b)) in
+    let p = laid-of (recordsOf (now (c .before .before .before .before .before .before .before .before .before .args .b))) (c .before .before .before .before .before .before .before .layout-of .ensures) (rw n (c .before .before .before .before .before .if1 .left)) in
+    let z = sizes p in
+    omega arith
+
+beyond-requires : tie.Need-beyond-requires
+beyond-requires c κs = search needs
+
+refused-requires-2 : tie.Need-refused-requires-2
+refused-requires-2 c κs = search needs
+
+returns-2 : tie.Need-returns-2
+unfolding readRecords
+returns-2 c = let n = length-records (now (c .before .before .before .before .before .before .before .before .before .before .before .before .args .b)) in
+    let p = laid-of (recordsOf (now (c .before .before .before .before .before .before .before .before .before .before .before .before .args .b))) (c .before .before .before .before .before .before .before .before .before .before .layout-of .ensures) (rw n (c .before .before .before .before .before .before .before .before .if1 .left)) in
+    let z = sizes p in
+    let y = sym (beyond-is p) ∙ sym (c .before .before .beyond .ensures) ∙ c .before .if2 .taken in
+    pass-on 2 0 _ _ (rw (p .sorted) (omega arith)) (c .refused2 .ensures ∙ sym (rw y))
+
+read-blocks-requires : tie.Need-read-blocks-requires
+read-blocks-requires c κs = let n = length-records (now (c .before .before .before .before .before .before .before .before .before .before .before .args .b)) in
+    let p = laid-of (recordsOf (now (c .before .before .before .before .before .before .before .before .before .before .before .args .b))) (c .before .before .before .before .before .before .before .before .before .layout-of .ensures) (rw n (c .before .before .before .before .before .before .before .if1 .left)) in
+    let z = sizes p in
+    let l = c .before .before .before .before .before .before .before .before .before .layout-of .result in
+    (p, c .before .before .before .before .before .before .before .before .before .before .before .pre, let f : l .end - l .arms ≤ 128 = few-arms (l .blocks) (l .bodies - l .blocks) (l .code - l .bodies) (l .operands - l .code) (l .arms - l .operands) (l .end - l .arms) (sym (c .before .beyond .ensures) ∙ c .if2 .left) in omega arith)
+
+returns-3 : tie.Need-returns-3
+unfolding readRecords
+returns-3 c = let n = length-records (now (c .before .before .before .before .before .before .before .before .before .before .before .before .args .b)) in
+    let p = laid-of (recordsOf (now (c .before .before .before .before .before .before .before .before .before .before .before .before .args .b))) (c .before .before .before .before .before .before .before .before .before .before .layout-of .ensures) (rw n (c .before .before .before .before .before .before .before .before .if1 .left)) in
+    let z = sizes p in
+    let y = sym (beyond-is p) ∙ sym (c .before .before .beyond .ensures) ∙ c .before .if2 .left in
+    pass-on 2 0 _ _ (rw (p .sorted) (omega arith)) (c .read-blocks .ensures ∙ sym (rw y))
+
+pub read-records-spec : {M : Type 1} → statement M
+read-records-spec =
+    tie.close
+    (tie.spec
+    layout-of-requires
+    refused-requires
+    returns
+    sub-arms
+    sub-beyond
+    sub-beyond-2
+    sub-beyond-3
+    sub-beyond-4
+    beyond-requires
+    refused-requires-2
+    returns-2
+    read-blocks-requires
+    returns-3)

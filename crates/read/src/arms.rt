@@ -1,0 +1,54 @@
+ghost use mathlib.Core.Path.{_≡_};
+ghost use mathlib.Core.Bool.{cond};
+ghost use Prim.Native.Nat.{ℕ, _+_, _≤_};
+ghost use lib.ListN.{length, take};
+ghost use Rattle.format.specs.Record.{recordsOf};
+ghost use Rattle.read.specs.Structure.{numbers as numbersAfter, numbered, tables, isDefault};
+ghost use Rattle.read.specs.Parts.{part};
+use format::Record;
+
+// How many arms were passed, and the tables that they end.
+pub struct Numbering {
+    pub passed: usize,
+    pub tables: u32,
+}
+
+// The arm is of the table that is due, and the last one is a default.
+fn numbers(due: u32, left: usize, r: Record) -> bool
+    ensures { λ z. ⌜ z ≡ numbersAfter (due, left) r ⌝ }
+{
+    if r.p1 != due {
+        return false;
+    }
+    left != 1 || r.kind == 1
+}
+
+fn ends_table(r: Record) -> u32
+    ensures { λ n. ⌜ (n ≡ cond (isDefault r) 1 0) × (n ≤ 1) ⌝ }
+{
+    if r.kind == 1 { 1 } else { 0 }
+}
+
+// How many of `count` arms stand before the first that is misnumbered or lacks its default.
+pub fn numbered_arms(b: &[u8], first: usize, count: usize) -> Numbering
+    requires { ⌜ (first + count ≤ length (recordsOf (now b))) × (count ≤ 128) ⌝ }
+    ensures { λ n. ⌜ (n .passed ≡ numbered (part first count (recordsOf (now (b .entry))))) × (n .tables ≡ tables (take (n .passed) (part first count (recordsOf (now (b .entry)))))) ⌝ }
+{
+    let mut due = 0;
+    let mut k = 0;
+    while k < count {
+        let r = format::record_at(b, first + k);
+        if !numbers(due, count - k, r) {
+            return Numbering {
+                passed: k,
+                tables: due,
+            };
+        }
+        due += ends_table(r);
+        k += 1;
+    }
+    Numbering {
+        passed: k,
+        tables: due,
+    }
+}

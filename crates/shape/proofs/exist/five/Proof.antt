@@ -1,0 +1,18 @@
+use mathlib.Core.Path.{refl, _∙_}
+use borrow.Author.Tests.{lt-ltb, le-ltb}
+use Rattle.shape.proofs.Laws.{both, neither}
+use borrow.Author.Needs.{needs}
+use Rattle.shape.proofs.exist.five.Statement.{statement}
+use Rattle.shape.proofs.exist.five.Tie as tie
+
+four-requires : tie.Need-four-requires
+four-requires c κs = search needs
+
+returns : tie.Need-returns
+returns c = both refl (lt-ltb _ _ (c .before .if1 .taken)) (c .four .ensures)
+
+returns-2 : tie.Need-returns-2
+returns-2 c = le-ltb _ _ (c .if1 .left) ∙ neither _ refl (le-ltb _ _ (c .if1 .left))
+
+pub five-spec : {M : Type 1} → statement M
+five-spec = tie.close (tie.spec four-requires returns returns-2)

@@ -1,0 +1,18 @@
+use mathlib.Core.Path.{refl, _∙_}
+use borrow.Author.Tests.{lt-ltb, le-ltb}
+use Rattle.shape.proofs.Laws.{both, neither}
+use borrow.Author.Needs.{needs}
+use Rattle.shape.proofs.exist.four.Statement.{statement}
+use Rattle.shape.proofs.exist.four.Tie as tie
+
+three-requires : tie.Need-three-requires
+three-requires c κs = search needs
+
+returns : tie.Need-returns
+returns c = both refl (lt-ltb _ _ (c .before .if1 .taken)) (c .three .ensures)
+
+returns-2 : tie.Need-returns-2
+returns-2 c = le-ltb _ _ (c .if1 .left) ∙ neither _ refl (le-ltb _ _ (c .if1 .left))
+
+pub four-spec : {M : Type 1} → statement M
+four-spec = tie.close (tie.spec three-requires returns returns-2)

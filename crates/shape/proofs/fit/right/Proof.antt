@@ -1,0 +1,101 @@
+use Rattle.shape.proofs.Laws.{plain-fits, plain-wrong, no-class, registers, blocks, bodies, operands, arms}
+use borrow.Author.Needs.{needs}
+use Rattle.shape.proofs.fit.right.Statement.{statement}
+use Rattle.shape.proofs.fit.right.Tie as tie
+
+plain-requires : tie.Need-plain-requires
+plain-requires c κs = search needs
+
+blank-requires : tie.Need-blank-requires
+blank-requires c κs = search needs
+
+plain-requires-2 : tie.Need-plain-requires-2
+plain-requires-2 c κs = search needs
+
+blank-requires-2 : tie.Need-blank-requires-2
+blank-requires-2 c κs = search needs
+
+plain-requires-3 : tie.Need-plain-requires-3
+plain-requires-3 c κs = search needs
+
+blank-requires-3 : tie.Need-blank-requires-3
+blank-requires-3 c κs = search needs
+
+instruction-requires : tie.Need-instruction-requires
+instruction-requires c κs = search needs
+
+plain-requires-4 : tie.Need-plain-requires-4
+plain-requires-4 c κs = search needs
+
+blank-requires-4 : tie.Need-blank-requires-4
+blank-requires-4 c κs = search needs
+
+plain-requires-5 : tie.Need-plain-requires-5
+plain-requires-5 c κs = search needs
+
+arm-fits-requires : tie.Need-arm-fits-requires
+arm-fits-requires c κs = search needs
+
+returns : tie.Need-returns
+returns c = plain-fits (c .before .before .before .before .args .r) registers (c .before .before .before .match .keys1) (c .before .before .plain .ensures) (c .before .if1 .taken) (c .blank .ensures)
+
+returns-2 : tie.Need-returns-2
+returns-2 c = plain-wrong (c .before .before .before .args .r) registers (c .before .before .match .keys1) (c .before .plain .ensures) (c .if1 .left)
+
+returns-3 : tie.Need-returns-3
+returns-3 c = plain-fits (c .before .before .before .before .args .r) blocks (c .before .before .before .match .keys2) (c .before .before .plain2 .ensures) (c .before .if2 .taken) (c .blank2 .ensures)
+
+returns-4 : tie.Need-returns-4
+returns-4 c = plain-wrong (c .before .before .before .args .r) blocks (c .before .before .match .keys2) (c .before .plain2 .ensures) (c .if2 .left)
+
+returns-5 : tie.Need-returns-5
+returns-5 c = plain-fits (c .before .before .before .before .args .r) bodies (c .before .before .before .match .keys3) (c .before .before .plain3 .ensures) (c .before .if3 .taken) (c .blank3 .ensures)
+
+returns-6 : tie.Need-returns-6
+returns-6 c = plain-wrong (c .before .before .before .args .r) bodies (c .before .before .match .keys3) (c .before .plain3 .ensures) (c .if3 .left)
+
+returns-7 : tie.Need-returns-7
+returns-7 c = search needs
+
+returns-8 : tie.Need-returns-8
+returns-8 c = plain-fits (c .before .before .before .before .args .r) operands (c .before .before .before .match .keys5) (c .before .before .plain4 .ensures) (c .before .if4 .taken) (c .blank4 .ensures)
+
+returns-9 : tie.Need-returns-9
+returns-9 c = plain-wrong (c .before .before .before .args .r) operands (c .before .before .match .keys5) (c .before .plain4 .ensures) (c .if4 .left)
+
+returns-10 : tie.Need-returns-10
+returns-10 c = plain-fits (c .before .before .before .before .args .r) arms (c .before .before .before .match .keys6) (c .before .before .plain5 .ensures) (c .before .if5 .taken) (c .arm-fits .ensures)
+
+returns-11 : tie.Need-returns-11
+returns-11 c = plain-wrong (c .before .before .before .args .r) arms (c .before .before .match .keys6) (c .before .plain5 .ensures) (c .if5 .left)
+
+returns-12 : tie.Need-returns-12
+returns-12 c = let n = c .match .rest in no-class (c .before .args .r) (n .0 .0 .0 .0 .0 .1) (n .0 .0 .0 .0 .1) (n .0 .0 .0 .1) (n .0 .0 .1) (n .0 .1) (n .1)
+
+pub right-spec : {M : Type 1} → statement M
+right-spec =
+    tie.close
+    (tie.spec
+    plain-requires
+    blank-requires
+    plain-requires-2
+    blank-requires-2
+    plain-requires-3
+    blank-requires-3
+    instruction-requires
+    plain-requires-4
+    blank-requires-4
+    plain-requires-5
+    arm-fits-requires
+    returns
+    returns-2
+    returns-3
+    returns-4
+    returns-5
+    returns-6
+    returns-7
+    returns-8
+    returns-9
+    returns-10
+    returns-11
+    returns-12)

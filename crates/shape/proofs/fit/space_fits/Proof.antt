@@ -1,0 +1,28 @@
+use mathlib.Core.Path.{ap}
+use Rattle.shape.proofs.Laws.{at-rest, past}
+use mathlib.Core.List.{[], _∷_}
+use Rattle.format.specs.Kinds.{Place, unused, small, number, fit}
+use borrow.Author.Needs.{needs}
+use Rattle.shape.proofs.fit.space_fits.Statement.{statement}
+use Rattle.shape.proofs.fit.space_fits.Tie as tie
+
+returns : tie.Need-returns
+returns c = rw (c .match .keys1)
+
+returns-2 : tie.Need-returns-2
+returns-2 c = rw (c .match .keys2)
+
+returns-3 : tie.Need-returns-3
+returns-3 c = rw (c .match .keys3)
+
+returns-4 : tie.Need-returns-4
+returns-4 c = search needs
+
+returns-5 : tie.Need-returns-5
+returns-5 c = search needs
+
+returns-6 : tie.Need-returns-6
+returns-6 c = ap (λ (x : Place). fit x (c .before .args .number)) (at-rest (unused ∷ small ∷ unused ∷ number ∷ number ∷ []) unused (past 5 _ (c .match .rest)))
+
+pub space-fits-spec : {M : Type 1} → statement M
+space-fits-spec = tie.close (tie.spec returns returns-2 returns-3 returns-4 returns-5 returns-6)

@@ -1,0 +1,2 @@
+pub mod Exist
+pub mod Parts

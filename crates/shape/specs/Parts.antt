@@ -1,0 +1,16 @@
+-- Parts of the tests of a record.
+use Prim.Native.Nat.{ℕ}
+use mathlib.Core.List.{List, [], _∷_}
+use mathlib.Core.Bool.{Bool, true, _&&_}
+use lib.Dec.{ltb}
+use Rattle.format.specs.declared.Record.{Record}
+use Rattle.format.specs.Kinds.{zeros}
+
+-- the head of a record of a class other than the instructions': a kind, and zeros for op, byte 3 and statement
+abbrev pub plain : Record → ℕ → Bool
+plain r kinds = ltb (r .kind) kinds && zeros (r .op ∷ r .zero ∷ r .stmt ∷ [])
+
+-- each of some numbers is below n
+abbrev pub below : ℕ → List ℕ → Bool
+below n [] = true
+below n (p ∷ ps) = ltb p n && below n ps

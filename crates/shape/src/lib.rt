@@ -1,0 +1,2 @@
+pub mod exist;
+pub mod fit;
