@@ -10,3 +10,6 @@ pub mod Copy
 pub mod Thread
 pub mod Emit
 pub mod Run
+pub mod Write
+pub mod Shorten
+pub mod Table
