@@ -1,1 +1,3 @@
 pub mod Word
+pub mod Act
+pub mod Machine
