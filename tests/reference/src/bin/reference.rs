@@ -142,13 +142,13 @@ fn demand_3(from: u64, n: u64) -> io::Result<()> {
 
 /// Seeds of each family in the pool.
 const POOL: [(&str, u64); 8] = [
-    ("small", 6000),
-    ("chains", 3000),
-    ("process", 3000),
-    ("kinds", 3000),
-    ("tidy", 3000),
-    ("large", 60),
-    ("budget", 150),
+    ("small", 3000),
+    ("chains", 2000),
+    ("process", 2000),
+    ("kinds", 1500),
+    ("tidy", 600),
+    ("large", 30),
+    ("budget", 60),
     ("damaged", 1500),
 ];
 
