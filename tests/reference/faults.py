@@ -177,7 +177,6 @@ def by_hand(cfg):
         ("thread", "local.push((old.0, nr.0));", "local.insert(0, (old.0, nr.0));", "reads go through the newest number"),
         ("thread", "if now == last {", "if now == last || matches!((now, last), (Inst::CondBr { t: p, f: q, .. }, Inst::CondBr { t: r, f: s, .. }) if p == r && q == s) {", "c replaced is no edit"),
         ("thread", "Inst::CondBr { c, t: nt, f: ne }", "Inst::CondBr { c: match last { Inst::CondBr { c, .. } => c, _ => c }, t: nt, f: ne }", "c isn't replaced"),
-        ("thread", "(r.0 as usize) < n0", "(r.0 as usize) < n0 && true", "no fault: the text again"),
         ("thread", "if matches!(now, Inst::CondBr { .. }) {", "if true {", "no hop follows a made Br"),
         ("thread", "if matches!(now, Inst::CondBr { .. }) {", "if false {", "hops go on after a lone CondBr"),
         ("thread", "for _ in 0..MAX_HOPS {", "for _ in 0..usize::MAX {", "hops without end"),
@@ -201,6 +200,9 @@ def by_hand(cfg):
         ("emit", "ranges[0].0 = 0;", "ranges[0].0 = n;", "rescued before block 0"),
         ("equal_arms", "f.code[last] = Inst::Br { to: tt };", "f.code[last] = Inst::Br { to: t };", "joined to the first arm's own target"),
         ("equal_arms", "let mut any = false;", "let mut any = false; let first = crate::Func { reg_ty: f.reg_ty.clone(), blocks: crate::Numbered(f.blocks.values().to_vec()), code: f.code.clone(), loc: f.loc.clone(), operands: f.operands.clone(), body: f.body };", "earlier edits unseen (see below)"),
+        ("equal_arms", "if to != b => b = to", "=> b = to", "a Br to itself is followed"),
+        ("note", "src } if dst != src =>", "src } =>", "a Move to itself is noted"),
+        ("note", "copy.push((dst.0, src));", "copy.push((dst.0, match *i { Inst::Move { src, .. } => src, _ => src }));", "a copy's own source, not the first"),
         ("run", "let mut moved = equal_arms(f);", "let early = counts(f); let mut moved = equal_arms(f);", "counts before equal arms (see below)"),
         ("run", "let looped = has_back_edge(f);", "let looped = true;", "no back edge asked"),
         ("run", "looped && may_thread(f)", "looped", "may_thread not asked"),
@@ -213,8 +215,6 @@ def by_hand(cfg):
         "counts before equal arms (see below)": ("let c = counts(f);\n        moved |= thread", "let c = early;\n        moved |= thread"),
     }
     for where, old, new, what in listed:
-        if what.startswith("no fault"):
-            continue
         start, end = function(cfg, where)
         assert cfg.count(old, start, end) == 1, (where, old, cfg.count(old, start, end))
         at = cfg.index(old, start)

@@ -2,7 +2,7 @@
 
 use crate::draft::*;
 use crate::procedure::Table;
-use crate::record::{RECORD, Record, kind};
+use crate::record::{ARM, BODY, RECORD, REGISTER, Record, kind};
 
 pub struct Case {
     pub name: String,
@@ -45,9 +45,15 @@ pub fn cases() -> Vec<Case> {
     for n in [31, 32 * 2048, 32 * 2049, 65_535] {
         add(&format!("bytes-{n}"), repeated_register(n));
     }
-    let printed = printed(stmt_first()).bytes();
-    add("two-bodies", with_records(&printed, 5, &[body(0), body(0)]));
-    add("body-unknown", with_records(&printed, 5, &[body(4)]));
+    for (name, bytes) in refusals() {
+        add(name, bytes);
+    }
+    for n in 0..=3 {
+        add(&format!("ring-{n}"), ring(n).bytes());
+    }
+    for (name, d) in decided() {
+        add(name, d.with_statements(10).bytes());
+    }
     all
 }
 
@@ -70,7 +76,7 @@ fn p2() -> Vec<u8> {
 }
 
 fn body(b: u32) -> Record {
-    Record::new(crate::record::BODY, 0, 0, 0, &[b])
+    Record::new(BODY, 0, 0, 0, &[b])
 }
 
 fn with_records(bytes: &[u8], at: usize, records: &[Record]) -> Vec<u8> {
@@ -167,8 +173,7 @@ fn mistakes() -> Vec<(&'static str, Draft)> {
             ]),
         ),
         (
-            // r1 is written twice in the copied block and read through its first new number
-            // (untidy, and not singly written: no new number at all).
+            // r1 is written twice, so it keeps its number.
             "written-twice-in-copy",
             draft(vec![0; 2], vec![
                 vec![stmt(), br(2)],
@@ -189,7 +194,7 @@ fn mistakes() -> Vec<(&'static str, Draft)> {
             ]),
         ),
         (
-            // The test goes to an emptied block that an edit gave another first statement.
+            // Block 2 isn't reached and was edited before: its first statement is another's.
             "emptied-after-edit",
             draft(vec![0], vec![
                 vec![stmt(), br(1)],
@@ -210,6 +215,132 @@ fn written_often(n: usize) -> Draft {
     let mut d = Draft { registers: vec![0; 2], blocks, ..Draft::default() };
     d.blocks[2] = vec![cond_br(0, 0, 3)];
     d.with_statements(10)
+}
+
+/// The printed procedure with one thing wrong.
+fn refusals() -> Vec<(&'static str, Vec<u8>)> {
+    let good = printed(stmt_first());
+    let bytes = good.bytes();
+    let block = |b: usize, start: u32, end: u32| {
+        let mut p = good.procedure();
+        p.blocks[b] = (start, end);
+        p.bytes()
+    };
+    let code = |at: usize, i: Record| {
+        let mut p = good.procedure();
+        p.code[at] = i;
+        p.bytes()
+    };
+    let arms = |arms: &[(u8, u32, u32)]| {
+        let records: Vec<Record> =
+            arms.iter().map(|&(kind, table, to)| Record::new(ARM, kind, 0, 0, &[table, 0, 0, 0, 0, to])).collect();
+        with_records(&bytes, bytes.len() / RECORD, &records)
+    };
+    vec![
+        ("two-bodies", with_records(&bytes, 5, &[body(0), body(0)])),
+        ("body-unknown", with_records(&bytes, 5, &[body(4)])),
+        ("body-last", with_records(&bytes, 5, &[body(3)])),
+        ("class-falls", with_records(&bytes, 8, &[body(0)])),
+        ("block-late", block(0, 1, 2)),
+        ("block-empty", block(1, 2, 2)),
+        ("block-overlaps", block(1, 1, 4)),
+        ("block-past-code", block(3, 5, 7)),
+        ("code-left-over", with_records(&bytes, 11, &[stmt()])),
+        ("terminator-missing", code(1, stmt())),
+        ("terminator-early", code(0, ret())),
+        ("register-unknown", code(4, cond_br(1, 1, 3))),
+        ("block-unknown", code(4, cond_br(0, 1, 4))),
+        ("table-unknown", code(5, ins(kind::CASE, 0, &[0, 0]))),
+        ("list-unknown", code(0, ins(kind::CALL_NATIVE, 0, &[0, 0, 1]))),
+        ("list-past-words", code(0, ins(kind::CALL_NATIVE, 0, &[0, u32::MAX, 1]))),
+        ("unread-unknown", code(0, boolean(3, 0, 0, 1))),
+        ("unread-known", code(0, boolean(3, 0, 0, 0))),
+        ("op-unknown", code(0, boolean(4, 0, 0, 0))),
+        ("dim-256", code(0, ins(kind::DOPE_LEN, 0, &[0, 0, 256]))),
+        ("up-256", code(0, ins(kind::ADDR_OF, 1, &[0, 256, 0]))),
+        ("pkg-256", code(0, ins(kind::ADDR_OF, 3, &[0, 256, 0]))),
+        ("frame-numbered", code(0, ins(kind::ADDR_OF, 0, &[0, 1, 0]))),
+        ("ret-unused", code(5, ins(kind::RET, 0, &[1]))),
+        ("table-skipped", arms(&[(1, 1, 0)])),
+        ("table-late", arms(&[(0, 0, 0), (0, 1, 0), (1, 1, 0)])),
+        ("default-missing", arms(&[(1, 0, 0), (0, 1, 0), (0, 1, 0)])),
+        ("arm-unknown", arms(&[(0, 0, 3), (1, 0, 4)])),
+        ("table-unread", arms(&[(0, 0, 3), (1, 0, 3), (1, 1, 0)])),
+    ]
+}
+
+/// Block 1 takes over block 3 three times before block 4 copies it. r1 is written once in the
+/// file and read once besides `n` list operands: with two of these it gets three new numbers.
+fn ring(n: u32) -> Draft {
+    let call = ins(kind::CALL_NATIVE, 0, &[0, 0, n]);
+    let blocks = vec![
+        vec![call, br(1)],
+        vec![br(3)],
+        vec![br(3)],
+        vec![cmp(0, 1, 1, 0), br(2)],
+        vec![stmt(), br(1)],
+    ];
+    let operands = vec![1; n as usize];
+    Draft { registers: vec![0; 2], blocks, operands, ..Draft::default() }.with_statements(10)
+}
+
+/// Points that the Rust decides; see NOTES.md.
+fn decided() -> Vec<(&'static str, Draft)> {
+    let draft = |registers: &[u8], blocks| Draft { registers: registers.to_vec(), blocks, ..Draft::default() };
+    let long = || vec![stmt(), stmt(), stmt(), stmt()];
+    let after = |mut code: Vec<Record>, last: Record| {
+        code.push(last);
+        code
+    };
+    vec![
+        ("self-loop", draft(&[0], vec![after(long(), br(1)), vec![br(1)]])),
+        ("one-arm-twice", draft(&[0], vec![vec![stmt(), stmt(), stmt(), cond_br(0, 1, 1)], vec![br(2)], vec![ret()]])),
+        (
+            "ring-of-lone-brs",
+            draft(&[0], vec![after(long(), cond_br(0, 1, 2)), vec![br(2)], vec![br(1)]]),
+        ),
+        (
+            "gate-without-edit",
+            draft(&[0; 2], vec![vec![stmt(), stmt(), stmt(), cond_br(0, 1, 2)], vec![cond_br(1, 0, 2)], vec![ret()]]),
+        ),
+        (
+            "copy-is-an-edit",
+            draft(&[0; 2], vec![vec![mov(1, 0), stmt(), stmt(), cond_br(1, 1, 2)], vec![cond_br(1, 0, 2)], vec![ret()]]),
+        ),
+        (
+            "not-of-itself",
+            draft(&[0; 2], vec![
+                vec![constant(0, 1), boolean(3, 0, 0, 0), cond_br(0, 1, 2)],
+                vec![cond_br(1, 0, 2)],
+                vec![constant(0, 1), ret()],
+            ]),
+        ),
+        (
+            "constant-of-another-block",
+            draft(&[0; 2], vec![vec![stmt(), stmt(), cond_br(0, 1, 2)], vec![cond_br(1, 0, 2)], vec![constant(0, 1), ret()]]),
+        ),
+        (
+            "body-passed-over",
+            Draft {
+                body: Some(1),
+                ..draft(&[0], vec![
+                    vec![stmt(), stmt(), br(2)],
+                    vec![stmt(), br(2)],
+                    vec![cond_br(0, 0, 3)],
+                    vec![ret()],
+                ])
+            },
+        ),
+        (
+            // The first CondBr's c is a copy of another kind: known, not copied.
+            "copy-of-another-kind",
+            draft(&[0, 2], vec![
+                vec![constant(0, 1), mov(1, 0), cond_br(1, 1, 2)],
+                vec![constant(0, 0), cond_br(1, 0, 2)],
+                vec![constant(1, 0), ret()],
+            ]),
+        ),
+    ]
 }
 
 fn limits() -> Vec<(String, Draft)> {
@@ -240,7 +371,7 @@ fn limits() -> Vec<(String, Draft)> {
 
 fn repeated_register(n: usize) -> Vec<u8> {
     let mut out = Vec::new();
-    let r = Record::new(crate::record::REGISTER, 0, 0, 0, &[]);
+    let r = Record::new(REGISTER, 0, 0, 0, &[]);
     while out.len() < n {
         r.write(&mut out);
     }

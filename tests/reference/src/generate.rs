@@ -38,8 +38,8 @@ impl Rng {
     }
 }
 
-pub const FAMILIES: [&str; 8] =
-    ["small", "chains", "process", "kinds", "tidy", "large", "budget", "damaged"];
+pub const FAMILIES: [&str; 10] =
+    ["small", "chains", "process", "kinds", "known", "tidy", "large", "tidy-large", "budget", "damaged"];
 
 /// File `seed` of a family.
 pub fn file(family: &str, seed: u64) -> Vec<u8> {
@@ -53,7 +53,12 @@ pub fn file(family: &str, seed: u64) -> Vec<u8> {
             let shape = Shape { acts: 12, ..Shape::small(&mut g) };
             tidied(&mut g, shape).bytes()
         }
+        "known" => known(&mut g).with_statements(10).bytes(),
         "large" => Shape::large(&mut g).draft(&mut g).bytes(),
+        "tidy-large" => {
+            let shape = Shape { most: 400, ..Shape::large(&mut g) };
+            tidied(&mut g, shape).bytes()
+        }
         "budget" => budget(&mut g).bytes(),
         "damaged" => damaged(&mut g),
         _ => panic!("no family {family}"),
@@ -336,6 +341,35 @@ pub fn tidied(g: &mut Rng, shape: Shape) -> Draft {
     d
 }
 
+/// A branch after Consts, Moves and Bools over a few registers, each written again elsewhere.
+fn known(g: &mut Rng) -> Draft {
+    let n = g.range(2, 4);
+    let mut d = Draft { registers: (0..n).map(|_| g.pick(&[0, 0, 0, 2, 2, 1, 4])).collect(), ..Draft::default() };
+    let mut code = Vec::new();
+    for _ in 0..g.range(2, 6) {
+        let [dst, a, b] = [any(g, &d), any(g, &d), any(g, &d)];
+        code.push(match g.below(20) {
+            0..7 => constant(dst, g.pick(&[0, 0, 1, 5])),
+            7..11 => mov(dst, a),
+            11..18 => boolean(g.below(4) as u8, dst, a, b),
+            18 => ins(kind::TAKE_BOUNDS, 0, &[dst, a, b]),
+            _ => ins(kind::LOAD, 2, &[dst, a]),
+        });
+    }
+    code.push(cond_br(any(g, &d), 1, 2));
+    let other = any(g, &d);
+    let mut end: Vec<Record> = (0..n as u32).map(|r| ins(kind::LOAD, 2, &[r, r])).collect();
+    if g.chance(30) {
+        d.registers.push(0);
+        end.push(constant(n as u32, g.pick(&[0, 1])));
+        let at = g.below(code.len());
+        code.insert(at, boolean(g.below(4) as u8, g.below(n) as u32, n as u32, g.below(n) as u32));
+    }
+    end.push(ret());
+    d.blocks = vec![code, vec![cond_br(other, 0, 2)], end];
+    d
+}
+
 /// Many Brs to small blocks, so that the budget for copies runs out.
 fn budget(g: &mut Rng) -> Draft {
     let shared = g.range(1, 4);
@@ -366,10 +400,15 @@ fn budget(g: &mut Rng) -> Draft {
     d.with_statements(10)
 }
 
-/// A good file with one or two places changed.
+/// A good file, with a table and a body at times, with one or two places changed.
 fn damaged(g: &mut Rng) -> Vec<u8> {
-    let shape = Shape { acts: 40, ..Shape::small(g) };
-    let mut bytes = shape.draft(g).bytes();
+    let shape = Shape { acts: 40, body: 50, ..Shape::small(g) };
+    let mut d = shape.draft(g);
+    if g.chance(50) {
+        let n = d.blocks.len();
+        table(g, &mut d, n);
+    }
+    let mut bytes = d.bytes();
     for _ in 0..g.range(1, 2) {
         damage(g, &mut bytes);
     }
@@ -378,7 +417,8 @@ fn damaged(g: &mut Rng) -> Vec<u8> {
 
 fn damage(g: &mut Rng, bytes: &mut Vec<u8>) {
     let records = bytes.len() / RECORD;
-    let at = g.below(records.max(1)) * RECORD;
+    let last = if g.chance(30) { records / 2 } else { 0 };
+    let at = (last + g.below((records - last).max(1))) * RECORD;
     match g.below(10) {
         _ if records == 0 => bytes.push(1),
         0 => bytes.truncate(bytes.len() - g.range(1, 40).min(bytes.len())),

@@ -37,9 +37,14 @@ mod shorten;
 #[cfg(published)]
 use program::*;
 #[cfg(published)]
-pub use shorten::shorten;
+pub use shorten::{roles_agree, shorten};
 
 pub use answer::Answer;
+
+#[cfg(not(published))]
+fn roles_agree() -> bool {
+    true
+}
 
 /// From bytes and room to the answer.
 pub type Shorten = fn(&[u8], usize) -> Answer;

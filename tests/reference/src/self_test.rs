@@ -4,7 +4,7 @@ use crate::answer::Answer;
 use crate::listing::listing;
 use crate::procedure::Procedure;
 use crate::record::kind;
-use crate::{Shorten, cases};
+use crate::{Shorten, cases, roles_agree};
 
 /// The number of examples that hold. `document` is the text of document 01, whose one code
 /// block is the printed procedure's listing.
@@ -21,6 +21,7 @@ pub fn run(shorten: Shorten, document: Option<&str>) -> Result<usize, String> {
         let printed = text.split("```\n").nth(1).ok_or("no listing in the document")?;
         expect("P1's listing", listing(&answer("P1")) == printed)?;
     }
+    expect("the roles of every kind and op", roles_agree())?;
     expect("P1", counts(&answer("P1")) == [1, 2, 0, 0])?;
     expect("P2", answer("P2").output == bytes("P2") && counts(&answer("P2")) == [0; 4])?;
     let p3 = code(&answer("P3"));

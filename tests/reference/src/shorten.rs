@@ -5,7 +5,7 @@ use crate::inst::*;
 use crate::procedure::{Procedure, Table};
 use crate::program::*;
 use crate::read::read;
-use crate::record::{INSTRUCTION, Record, halves, kind};
+use crate::record::{INSTRUCTION, Place, Record, halves, kind, places};
 
 pub const MAX_REGISTERS: usize = 480;
 pub const MAX_INSTRUCTIONS: usize = 480;
@@ -183,4 +183,21 @@ fn record(i: &Inst, statement: u32) -> Record {
         _ => unreachable!("a kind that document 01 doesn't have"),
     };
     Record::new(INSTRUCTION, kind, op, statement, p)
+}
+
+/// Are the roles that `places` lists those that the published `visit` gives, for every kind and op?
+pub fn roles_agree() -> bool {
+    let ops = (0..=kind::STMT).flat_map(|k| (0..=u8::MAX).map(move |op| (k, op)));
+    ops.filter_map(|(k, op)| Some((k, op, places(k, op)?))).all(|(k, op, all)| {
+        let mut r = Record::new(INSTRUCTION, k, op, 0, &[0, 1, 2, 3, 4, 5]);
+        (0..6).filter(|&p| all[p] == Place::Unused).for_each(|p| r.p[p] = 0);
+        let listed = (0..6).filter_map(|p| match all[p] {
+            Place::Written => Some((p as u32, Role::Def)),
+            Place::Read => Some((p as u32, Role::Use)),
+            _ => None,
+        });
+        let mut visited = Vec::new();
+        inst(&r).visit(&mut |reg, role, _| visited.push((reg.0, role)));
+        listed.eq(visited) && record(&inst(&r), 0) == r
+    })
 }

@@ -120,7 +120,7 @@ fn demand_3(from: u64, n: u64) -> io::Result<()> {
     let shorten = shorten();
     let (mut runs, mut moved) = (0, 0);
     for seed in from..from + n {
-        let family = if seed % 50 == 0 { "large" } else { "tidy" };
+        let family = if seed % 50 == 0 { "tidy-large" } else { "tidy" };
         let bytes = generate::file(family, seed);
         let sent = Procedure::from_bytes(&bytes);
         let a = shorten(&bytes, ROOM);
@@ -141,13 +141,15 @@ fn demand_3(from: u64, n: u64) -> io::Result<()> {
 }
 
 /// Seeds of each family in the pool.
-const POOL: [(&str, u64); 8] = [
+const POOL: [(&str, u64); 10] = [
     ("small", 3000),
     ("chains", 2000),
     ("process", 2000),
     ("kinds", 1500),
+    ("known", 1500),
     ("tidy", 600),
     ("large", 30),
+    ("tidy-large", 10),
     ("budget", 60),
     ("damaged", 1500),
 ];
