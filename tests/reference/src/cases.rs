@@ -2,7 +2,7 @@
 
 use crate::draft::*;
 use crate::procedure::Table;
-use crate::record::{ARM, BODY, RECORD, REGISTER, Record, kind};
+use crate::record::{ARM, BODY, Place, RECORD, REGISTER, Record, kind, places};
 
 pub struct Case {
     pub name: String,
@@ -47,6 +47,14 @@ pub fn cases() -> Vec<Case> {
     }
     for (name, bytes) in refusals() {
         add(name, bytes);
+    }
+    for (name, d) in roles() {
+        add(&name, d.with_statements(10).bytes());
+    }
+    for op in 0..4 {
+        for (x, y) in [(0, 0), (0, 5), (5, 0), (5, 1)] {
+            add(&format!("bool-{op}-{x}-{y}"), decided_by_bool(op, x, y).bytes());
+        }
     }
     for n in 0..=3 {
         add(&format!("ring-{n}"), ring(n).bytes());
@@ -269,6 +277,54 @@ fn refusals() -> Vec<(&'static str, Vec<u8>)> {
     ]
 }
 
+/// P4's file with one more instruction, which names r1 in one of its places: what is read or
+/// written there decides whether r1 gets new numbers.
+fn roles() -> Vec<(String, Draft)> {
+    let mut all = Vec::new();
+    for k in 0..=kind::STMT {
+        for op in (0..=u8::MAX).take_while(|&op| places(k, op).is_some()) {
+            let listed = places(k, op).unwrap();
+            let before = op.checked_sub(1).and_then(|o| places(k, o));
+            for at in (0..6).filter(|&at| before.is_none_or(|b| b[at] != listed[at])) {
+                if matches!(listed[at], Place::Written | Place::Read | Place::Unread | Place::List) {
+                    all.push((format!("role-{k}-{op}-p{}", at + 1), with_role(k, op, at)));
+                }
+            }
+        }
+    }
+    all
+}
+
+fn with_role(k: u8, op: u8, at: usize) -> Draft {
+    let mut d = printed(vec![cmp(0, 1, 0, 0), cond_br(1, 1, 3)]);
+    let mut i = ins(k, op, &[]);
+    if places(k, op).unwrap()[at] == Place::List {
+        (d.operands, i.p[at + 1]) = (vec![1], 1);
+    } else {
+        i.p[at] = 1;
+    }
+    if k == kind::CASE {
+        d.tables = vec![Table { arms: Vec::new(), default: 0 }];
+    }
+    if i.is_terminator() {
+        d.blocks[3] = vec![i];
+    } else {
+        d.blocks[3].insert(0, i);
+    }
+    d
+}
+
+/// A branch on a Bool of two known values.
+fn decided_by_bool(op: u8, x: i64, y: i64) -> Draft {
+    let load = |r: u32| ins(kind::LOAD, 2, &[r, r]);
+    let blocks = vec![
+        vec![constant(1, x), constant(2, y), boolean(op, 0, 1, 2), cond_br(0, 1, 2)],
+        vec![cond_br(0, 0, 2)],
+        vec![load(0), load(1), load(2), ret()],
+    ];
+    Draft { registers: vec![0; 3], blocks, ..Draft::default() }.with_statements(10)
+}
+
 /// Block 1 takes over block 3 three times before block 4 copies it. r1 is written once in the
 /// file and read once besides `n` list operands: with two of these it gets three new numbers.
 fn ring(n: u32) -> Draft {
@@ -330,6 +386,22 @@ fn decided() -> Vec<(&'static str, Draft)> {
                     vec![ret()],
                 ])
             },
+        ),
+        (
+            "bounds-forget-copies",
+            draft(&[0; 3], vec![
+                vec![mov(1, 0), ins(kind::TAKE_BOUNDS, 0, &[2, 2, 2]), stmt(), cond_br(1, 1, 2)],
+                vec![cond_br(2, 0, 2)],
+                vec![ret()],
+            ]),
+        ),
+        (
+            "bounds-forget-values",
+            draft(&[0; 3], vec![
+                vec![constant(0, 1), ins(kind::TAKE_BOUNDS, 0, &[2, 2, 2]), cond_br(0, 1, 2)],
+                vec![constant(0, 1), cond_br(2, 0, 2)],
+                vec![ret()],
+            ]),
         ),
         (
             // The first CondBr's c is a copy of another kind: known, not copied.
