@@ -1,6 +1,7 @@
 //! Named files: document 01's examples, limits, bounds and mistakes.
 
 use crate::draft::*;
+use crate::generate::{Rng, Shape};
 use crate::procedure::Table;
 use crate::record::{ARM, BODY, Place, RECORD, REGISTER, Record, kind, places};
 
@@ -41,6 +42,9 @@ pub fn cases() -> Vec<Case> {
     }
     for (name, d) in limits() {
         add(&name, d.with_statements(10).bytes());
+    }
+    for seed in 1..=4 {
+        add(&format!("full-{seed}"), full(seed).bytes());
     }
     for n in [31, 32 * 2048, 32 * 2049, 65_535] {
         add(&format!("bytes-{n}"), repeated_register(n));
@@ -439,6 +443,18 @@ fn limits() -> Vec<(String, Draft)> {
         all.push((format!("arms-{n}"), d));
     }
     all
+}
+
+/// A generated file filled up to 480 registers and 480 instructions.
+fn full(seed: u64) -> Draft {
+    let mut g = Rng::new(seed);
+    let shape = Shape { blocks: 150, registers: 300, length: 4, lone: 45, ..Shape::large(&mut g) };
+    let mut d = shape.draft(&mut g);
+    while d.instructions() < 480 {
+        d.blocks[0].insert(0, stmt());
+    }
+    d.registers.resize(480, 0);
+    d
 }
 
 fn repeated_register(n: usize) -> Vec<u8> {
