@@ -14,8 +14,7 @@ fn main() {
     println!("cargo:rerun-if-changed=build.rs");
     let docs = docs();
     println!("cargo:rerun-if-changed={}", docs.display());
-    let (Ok(inst), Ok(cfg)) = (fs::read_to_string(docs.join(INST)), fs::read_to_string(docs.join(CFG)))
-    else {
+    let (Ok(inst), Ok(cfg)) = (fs::read_to_string(docs.join(INST)), fs::read_to_string(docs.join(CFG))) else {
         println!("cargo:warning=the published Rust isn't in {}: no reference, only stored answers", docs.display());
         return;
     };

@@ -65,7 +65,7 @@ def by_rules(file, where, text, start, end):
         line = text.count("\n", start, m.start(group))
         column = m.start(group) - text.rindex("\n", 0, m.start(group)) - 1
         old = " ".join(m[group].split())
-        return Fault(file, where, m.start(group), m.end(group), new, f"{line}:{column} {rule}: {old[:24].strip()} -> {new.strip()[:24] or 'nothing'}")
+        return Fault(file, where, m.start(group), m.end(group), new, f"{line}:{column} {rule}: {old[:24].strip() or 'nothing'} -> {new.strip()[:24] or 'nothing'}")
 
     for m in spots(text, start, end, r" (==|!=|<=|<|>=|>) "):
         yield from (fault(m, new, "relation", 1) for new in RELATIONS[m[1]])

@@ -13,7 +13,7 @@ pub struct Case {
 pub fn cases() -> Vec<Case> {
     let mut all = Vec::new();
     let mut add = |name: &str, bytes: Vec<u8>| all.push(Case { name: name.into(), bytes });
-    add("P1", printed(stmt_first()).bytes());
+    add("P1", p1().bytes());
     add("P2", p2());
     add("P3", printed(vec![constant(1, 7), cond_br(0, 1, 3)]).bytes());
     add("P4", printed(vec![cmp(0, 1, 0, 0), cond_br(1, 1, 3)]).bytes());
@@ -69,8 +69,9 @@ pub fn cases() -> Vec<Case> {
     all
 }
 
-fn stmt_first() -> Vec<Record> {
-    vec![cond_br(0, 1, 3)]
+/// The printed procedure.
+fn p1() -> Draft {
+    printed(vec![cond_br(0, 1, 3)])
 }
 
 /// The printed procedure with another block 2.
@@ -82,7 +83,7 @@ fn printed(third: Vec<Record>) -> Draft {
 
 /// The printed procedure without its first Stmt; the statements stay.
 fn p2() -> Vec<u8> {
-    let mut d = printed(stmt_first());
+    let mut d = p1();
     d.blocks[0].remove(0);
     d.bytes()
 }
@@ -115,11 +116,11 @@ fn both_arms(n: u32) -> Draft {
     Draft { registers: vec![0], blocks, ..Draft::default() }.with_statements(10)
 }
 
-/// A loop with a branch to its own test, `n` instructions long.
+/// A loop of a test and a Br back to it, entered by a Br, `n` instructions in all.
 fn of_length(n: usize) -> Draft {
-    let mut blocks = vec![vec![stmt(); n - 4], vec![cond_br(0, 1, 2)], vec![br(1)], vec![ret()]];
-    blocks[0].push(br(1));
-    blocks[1] = vec![cond_br(0, 2, 3)];
+    let mut first = vec![stmt(); n - 4];
+    first.push(br(1));
+    let blocks = vec![first, vec![cond_br(0, 2, 3)], vec![br(1)], vec![ret()]];
     Draft { registers: vec![0], blocks, ..Draft::default() }.with_statements(10)
 }
 
@@ -157,81 +158,85 @@ fn mistakes() -> Vec<(&'static str, Draft)> {
         (
             // Block 1 was edited before block 2 reads it.
             "targets-as-first-sent",
-            draft(vec![0], vec![
-                vec![stmt(), br(1)],
-                vec![br(3)],
-                vec![stmt(), br(1)],
-                vec![cond_br(0, 2, 4)],
-                vec![ret()],
-            ]),
+            draft(
+                vec![0],
+                vec![vec![stmt(), br(1)], vec![br(3)], vec![stmt(), br(1)], vec![cond_br(0, 2, 4)], vec![ret()]],
+            ),
         ),
         (
             "constant-twice-written",
-            draft(vec![0; 2], vec![
-                vec![stmt(), br(2)],
-                vec![constant(1, 7), br(2)],
-                vec![constant(1, 7), cond_br(0, 1, 3)],
-                vec![ret()],
-            ]),
+            draft(
+                vec![0; 2],
+                vec![
+                    vec![stmt(), br(2)],
+                    vec![constant(1, 7), br(2)],
+                    vec![constant(1, 7), cond_br(0, 1, 3)],
+                    vec![ret()],
+                ],
+            ),
         ),
         (
             // The first CondBr reads r1 only until it is joined.
             "uses-before-equal-arms",
-            draft(vec![0; 2], vec![
-                vec![stmt(), cond_br(1, 1, 1)],
-                vec![stmt(), br(2)],
-                vec![cmp(0, 1, 0, 0), cond_br(1, 1, 3)],
-                vec![ret()],
-            ]),
+            draft(
+                vec![0; 2],
+                vec![
+                    vec![stmt(), cond_br(1, 1, 1)],
+                    vec![stmt(), br(2)],
+                    vec![cmp(0, 1, 0, 0), cond_br(1, 1, 3)],
+                    vec![ret()],
+                ],
+            ),
         ),
         (
             // r1 is written twice, so it keeps its number.
             "written-twice-in-copy",
-            draft(vec![0; 2], vec![
-                vec![stmt(), br(2)],
-                vec![stmt(), br(2)],
-                vec![cmp(0, 1, 0, 0), cmp(1, 1, 1, 0), cond_br(1, 1, 3)],
-                vec![ret()],
-            ]),
+            draft(
+                vec![0; 2],
+                vec![
+                    vec![stmt(), br(2)],
+                    vec![stmt(), br(2)],
+                    vec![cmp(0, 1, 0, 0), cmp(1, 1, 1, 0), cond_br(1, 1, 3)],
+                    vec![ret()],
+                ],
+            ),
         ),
         (
             // Block 3 holds block 2's copies: r1's new numbers are of no use there.
             "copy-of-a-copy",
-            draft(vec![0; 3], vec![
-                vec![stmt(), br(3)],
-                vec![stmt(), br(3)],
-                vec![cmp(0, 1, 0, 0), mov(2, 1), cond_br(1, 1, 4)],
-                vec![br(2)],
-                vec![ret()],
-            ]),
+            draft(
+                vec![0; 3],
+                vec![
+                    vec![stmt(), br(3)],
+                    vec![stmt(), br(3)],
+                    vec![cmp(0, 1, 0, 0), mov(2, 1), cond_br(1, 1, 4)],
+                    vec![br(2)],
+                    vec![ret()],
+                ],
+            ),
         ),
         (
             // Block 2 isn't reached and was edited before: its first statement is another's.
             "emptied-after-edit",
-            draft(vec![0], vec![
-                vec![stmt(), br(1)],
-                vec![br(3)],
-                vec![br(1)],
-                vec![cond_br(0, 3, 4)],
-                vec![stmt(), ret()],
-            ]),
+            draft(
+                vec![0],
+                vec![vec![stmt(), br(1)], vec![br(3)], vec![br(1)], vec![cond_br(0, 3, 4)], vec![stmt(), ret()]],
+            ),
         ),
     ]
 }
 
-/// r1 is written `n` times by Const, once of these in a block that isn't reached.
+/// r1 is written `n` times by Const, one of these in a block that isn't reached.
 fn written_often(n: usize) -> Draft {
     let mut first = vec![constant(1, 7); n - 1];
     first.extend([stmt(), br(2)]);
-    let blocks = vec![first, vec![constant(1, 7), br(2)], vec![cond_br(0, 2, 3)], vec![ret()]];
-    let mut d = Draft { registers: vec![0; 2], blocks, ..Draft::default() };
-    d.blocks[2] = vec![cond_br(0, 0, 3)];
-    d.with_statements(10)
+    let blocks = vec![first, vec![constant(1, 7), br(2)], vec![cond_br(0, 0, 3)], vec![ret()]];
+    Draft { registers: vec![0; 2], blocks, ..Draft::default() }.with_statements(10)
 }
 
 /// The printed procedure with one thing wrong.
 fn refusals() -> Vec<(&'static str, Vec<u8>)> {
-    let good = printed(stmt_first());
+    let good = p1();
     let bytes = good.bytes();
     let block = |b: usize, start: u32, end: u32| {
         let mut p = good.procedure();
@@ -333,13 +338,7 @@ fn decided_by_bool(op: u8, x: i64, y: i64) -> Draft {
 /// file and read once besides `n` list operands: with two of these it gets three new numbers.
 fn ring(n: u32) -> Draft {
     let call = ins(kind::CALL_NATIVE, 0, &[0, 0, n]);
-    let blocks = vec![
-        vec![call, br(1)],
-        vec![br(3)],
-        vec![br(3)],
-        vec![cmp(0, 1, 1, 0), br(2)],
-        vec![stmt(), br(1)],
-    ];
+    let blocks = vec![vec![call, br(1)], vec![br(3)], vec![br(3)], vec![cmp(0, 1, 1, 0), br(2)], vec![stmt(), br(1)]];
     let operands = vec![1; n as usize];
     Draft { registers: vec![0; 2], blocks, operands, ..Draft::default() }.with_statements(10)
 }
@@ -355,73 +354,86 @@ fn decided() -> Vec<(&'static str, Draft)> {
     vec![
         ("self-loop", draft(&[0], vec![after(long(), br(1)), vec![br(1)]])),
         ("one-arm-twice", draft(&[0], vec![vec![stmt(), stmt(), stmt(), cond_br(0, 1, 1)], vec![br(2)], vec![ret()]])),
-        (
-            "ring-of-lone-brs",
-            draft(&[0], vec![after(long(), cond_br(0, 1, 2)), vec![br(2)], vec![br(1)]]),
-        ),
+        ("ring-of-lone-brs", draft(&[0], vec![after(long(), cond_br(0, 1, 2)), vec![br(2)], vec![br(1)]])),
         (
             "gate-without-edit",
             draft(&[0; 2], vec![vec![stmt(), stmt(), stmt(), cond_br(0, 1, 2)], vec![cond_br(1, 0, 2)], vec![ret()]]),
         ),
         (
             "copy-is-an-edit",
-            draft(&[0; 2], vec![vec![mov(1, 0), stmt(), stmt(), cond_br(1, 1, 2)], vec![cond_br(1, 0, 2)], vec![ret()]]),
+            draft(
+                &[0; 2],
+                vec![vec![mov(1, 0), stmt(), stmt(), cond_br(1, 1, 2)], vec![cond_br(1, 0, 2)], vec![ret()]],
+            ),
         ),
         (
             "not-of-itself",
-            draft(&[0; 2], vec![
-                vec![constant(0, 1), boolean(3, 0, 0, 0), cond_br(0, 1, 2)],
-                vec![cond_br(1, 0, 2)],
-                vec![constant(0, 1), ret()],
-            ]),
+            draft(
+                &[0; 2],
+                vec![
+                    vec![constant(0, 1), boolean(3, 0, 0, 0), cond_br(0, 1, 2)],
+                    vec![cond_br(1, 0, 2)],
+                    vec![constant(0, 1), ret()],
+                ],
+            ),
         ),
         (
             "constant-of-another-block",
-            draft(&[0; 2], vec![vec![stmt(), stmt(), cond_br(0, 1, 2)], vec![cond_br(1, 0, 2)], vec![constant(0, 1), ret()]]),
+            draft(
+                &[0; 2],
+                vec![vec![stmt(), stmt(), cond_br(0, 1, 2)], vec![cond_br(1, 0, 2)], vec![constant(0, 1), ret()]],
+            ),
         ),
         (
             "body-passed-over",
             Draft {
                 body: Some(1),
-                ..draft(&[0], vec![
-                    vec![stmt(), stmt(), br(2)],
-                    vec![stmt(), br(2)],
-                    vec![cond_br(0, 0, 3)],
-                    vec![ret()],
-                ])
+                ..draft(
+                    &[0],
+                    vec![vec![stmt(), stmt(), br(2)], vec![stmt(), br(2)], vec![cond_br(0, 0, 3)], vec![ret()]],
+                )
             },
         ),
         (
             "bounds-forget-copies",
-            draft(&[0; 3], vec![
-                vec![mov(1, 0), ins(kind::TAKE_BOUNDS, 0, &[2, 2, 2]), stmt(), cond_br(1, 1, 2)],
-                vec![cond_br(2, 0, 2)],
-                vec![ret()],
-            ]),
+            draft(
+                &[0; 3],
+                vec![
+                    vec![mov(1, 0), ins(kind::TAKE_BOUNDS, 0, &[2, 2, 2]), stmt(), cond_br(1, 1, 2)],
+                    vec![cond_br(2, 0, 2)],
+                    vec![ret()],
+                ],
+            ),
         ),
         (
             "bounds-forget-values",
-            draft(&[0; 3], vec![
-                vec![constant(0, 1), ins(kind::TAKE_BOUNDS, 0, &[2, 2, 2]), cond_br(0, 1, 2)],
-                vec![constant(0, 1), cond_br(2, 0, 2)],
-                vec![ret()],
-            ]),
+            draft(
+                &[0; 3],
+                vec![
+                    vec![constant(0, 1), ins(kind::TAKE_BOUNDS, 0, &[2, 2, 2]), cond_br(0, 1, 2)],
+                    vec![constant(0, 1), cond_br(2, 0, 2)],
+                    vec![ret()],
+                ],
+            ),
         ),
         (
             // The first CondBr's c is a copy of another kind: known, not copied.
             "copy-of-another-kind",
-            draft(&[0, 2], vec![
-                vec![constant(0, 1), mov(1, 0), cond_br(1, 1, 2)],
-                vec![constant(0, 0), cond_br(1, 0, 2)],
-                vec![constant(1, 0), ret()],
-            ]),
+            draft(
+                &[0, 2],
+                vec![
+                    vec![constant(0, 1), mov(1, 0), cond_br(1, 1, 2)],
+                    vec![constant(0, 0), cond_br(1, 0, 2)],
+                    vec![constant(1, 0), ret()],
+                ],
+            ),
         ),
     ]
 }
 
 fn limits() -> Vec<(String, Draft)> {
     let mut all = Vec::new();
-    let base = printed(stmt_first());
+    let base = p1();
     for n in [479, 480, 481, 756, 757] {
         all.push((format!("instructions-{n}"), of_length(n)));
         let registers = vec![0; n];

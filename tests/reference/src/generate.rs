@@ -13,7 +13,7 @@ impl Rng {
         Rng(seed.wrapping_mul(0x9e37_79b9_7f4a_7c15) ^ 0x5851_f42d_4c95_7f2d)
     }
 
-    pub fn next(&mut self) -> u64 {
+    pub fn draw(&mut self) -> u64 {
         self.0 = self.0.wrapping_add(0x9e37_79b9_7f4a_7c15);
         let mut z = self.0;
         z = (z ^ z >> 30).wrapping_mul(0xbf58_476d_1ce4_e5b9);
@@ -22,7 +22,7 @@ impl Rng {
     }
 
     pub fn below(&mut self, n: usize) -> usize {
-        (self.next() % n as u64) as usize
+        (self.draw() % n as u64) as usize
     }
 
     pub fn range(&mut self, from: usize, to: usize) -> usize {
@@ -237,7 +237,7 @@ fn test(g: &mut Rng, d: &Draft, dst: u32) -> Record {
 
 /// An instruction that `dupable` lets by, or an address.
 fn copyable(g: &mut Rng, d: &mut Draft) -> Record {
-    let dst = if g.chance(15) { new_register(d, g_kind(g)) } else { any(g, d) };
+    let dst = if g.chance(15) { new_register(d, register_kind(g)) } else { any(g, d) };
     match g.below(100) {
         0..30 => mov(dst, any(g, d)),
         30..55 => constant(dst, number(g)),
@@ -248,7 +248,7 @@ fn copyable(g: &mut Rng, d: &mut Draft) -> Record {
     }
 }
 
-fn g_kind(g: &mut Rng) -> u8 {
+fn register_kind(g: &mut Rng) -> u8 {
     g.pick(&[0, 0, 0, 1, 2, 3, 4])
 }
 
@@ -298,7 +298,7 @@ fn list(g: &mut Rng, d: &mut Draft) -> (u32, u32) {
 fn table(g: &mut Rng, d: &mut Draft, blocks: usize) -> u32 {
     let used: usize = d.tables.iter().map(|t| t.arms.len() + 1).sum();
     let n = g.below(4);
-    if used + n + 1 <= 128 && (d.tables.is_empty() || g.chance(70)) {
+    if used + n < 128 && (d.tables.is_empty() || g.chance(70)) {
         let mut block = || g.below(blocks) as u32;
         let default = block();
         let targets: Vec<u32> = (0..n).map(|_| block()).collect();

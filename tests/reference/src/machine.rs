@@ -33,7 +33,7 @@ impl Outside {
     /// The words for `n` written registers, or the end.
     fn answer(self, history: u64, n: usize) -> Option<Vec<u64>> {
         let mut g = Rng::new(self.seed ^ history);
-        if g.next().is_multiple_of(self.patience) {
+        if g.draw().is_multiple_of(self.patience) {
             return None;
         }
         Some((0..n).map(|_| word(&mut g)).collect())
@@ -124,9 +124,9 @@ fn digest(history: u64, a: &Act) -> u64 {
     let mut g = Rng::new(history);
     let words = [u64::from(a.kind), u64::from(a.op), u64::from(a.statement), a.read.len() as u64];
     for w in words.into_iter().chain(a.plain.iter().map(|&p| u64::from(p))).chain(a.read.iter().copied()) {
-        g = Rng::new(g.next() ^ w);
+        g = Rng::new(g.draw() ^ w);
     }
-    g.next()
+    g.draw()
 }
 
 fn compares(op: u8, a: i64, b: i64) -> bool {
@@ -143,7 +143,7 @@ fn compares(op: u8, a: i64, b: i64) -> bool {
 /// What Const, ConstF or AddrOf writes.
 fn fixed(i: &Record) -> u64 {
     match i.kind {
-        kind::ADDR_OF => Rng::new(u64::from(i.op) << 40 ^ i.wide(2)).next(),
+        kind::ADDR_OF => Rng::new(u64::from(i.op) << 40 ^ i.wide(2)).draw(),
         _ => i.wide(2),
     }
 }
@@ -165,7 +165,7 @@ pub fn start(original: &Procedure, g: &mut Rng) -> Vec<u64> {
 /// the same acts and ended alike; and it does nothing else.
 pub fn demand_3(original: &Procedure, shortened: &Procedure, rescued: u32, seed: u64, n: usize) -> Result<(), String> {
     let mut g = Rng::new(seed);
-    let outside = Outside { seed: g.next(), patience: g.pick(&[8, 40, 1000]) };
+    let outside = Outside { seed: g.draw(), patience: g.pick(&[8, 40, 1000]) };
     let words = start(original, &mut g);
     let mut longer = words.clone();
     longer.resize_with(shortened.registers.len(), || word(&mut g));

@@ -118,13 +118,11 @@ fn first_unknown(records: &[Record], count: &[usize; 6]) -> Option<usize> {
             Place::Unused | Place::Plain | Place::Byte | Place::Length => true,
         })
     };
-    records.iter().position(|r| {
-        !match r.class {
-            BODY => exists(r.p[0], count[1]),
-            INSTRUCTION => known_places(r),
-            OPERAND => exists(r.p[0], count[0]),
-            ARM => exists(r.p[5], count[1]),
-            _ => true,
-        }
+    records.iter().position(|r| !match r.class {
+        BODY => exists(r.p[0], count[1]),
+        INSTRUCTION => known_places(r),
+        OPERAND => exists(r.p[0], count[0]),
+        ARM => exists(r.p[5], count[1]),
+        _ => true,
     })
 }

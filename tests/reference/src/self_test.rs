@@ -34,6 +34,7 @@ pub fn run(shorten: Shorten, document: Option<&str>) -> Result<usize, String> {
     expect("P8", answer("P8") == Answer::refused(1, 0))?;
     expect("480 instructions", answer("instructions-480").number == 0)?;
     expect("481 instructions", answer("instructions-481") == Answer::refused(8, 0))?;
+    // Where block 0's Br leads after six hops: past six lone Brs, or to the seventh.
     let chained = |n: u32| code(&answer(&format!("chain-{n}"))).block(0)[1].p[0];
     expect("a chain of six", chained(6) == 7)?;
     expect("a chain of seven", chained(7) == 7)?;

@@ -61,8 +61,7 @@ const REG_TYPES: [RegTy; 5] = [RegTy::I64, RegTy::F64, RegTy::Ptr, RegTy::Sig, R
 const WIDTHS: [Width; 4] = [Width::B1, Width::B4, Width::B8, Width::Sig];
 const CMPS: [CmpOp; 6] = [CmpOp::Eq, CmpOp::Ne, CmpOp::Lt, CmpOp::Le, CmpOp::Gt, CmpOp::Ge];
 const BOOLS: [BoolOp; 4] = [BoolOp::And, BoolOp::Or, BoolOp::Xor, BoolOp::Not];
-const INTS: [IntOp; 7] =
-    [IntOp::Add, IntOp::Sub, IntOp::Mul, IntOp::Div, IntOp::Rem, IntOp::Mod, IntOp::Pow];
+const INTS: [IntOp; 7] = [IntOp::Add, IntOp::Sub, IntOp::Mul, IntOp::Div, IntOp::Rem, IntOp::Mod, IntOp::Pow];
 const CHECKS: [CheckKind; 5] =
     [CheckKind::Range, CheckKind::Index, CheckKind::IndexDown, CheckKind::Length, CheckKind::Null];
 
@@ -103,15 +102,9 @@ fn inst(r: &Record) -> Inst {
         kind::CMP => Inst::Cmp { op: CMPS[op], dst: reg(1), a: reg(2), b: reg(3) },
         kind::BOOL => Inst::Bool { op: BOOLS[op], dst: reg(1), a: reg(2), b: reg(3) },
         kind::BIN => Inst::Bin { op: INTS[op], dst: reg(1), a: reg(2), b: reg(3) },
-        kind::BIN_RANGE => Inst::BinRange {
-            op: INTS[op],
-            dst: reg(1),
-            a: reg(2),
-            b: reg(3),
-            lo: reg(4),
-            hi: reg(5),
-            what: what(6),
-        },
+        kind::BIN_RANGE => {
+            Inst::BinRange { op: INTS[op], dst: reg(1), a: reg(2), b: reg(3), lo: reg(4), hi: reg(5), what: what(6) }
+        }
         kind::LOAD => Inst::Load { dst: reg(1), addr: reg(2), w: WIDTHS[op] },
         kind::STORE => Inst::Store { addr: reg(1), src: reg(2), w: WIDTHS[op] },
         kind::CHECK => Inst::Check { kind: CHECKS[op], v: reg(1), lo: reg(2), hi: reg(3), what: what(4) },
@@ -159,9 +152,7 @@ fn record(i: &Inst, statement: u32) -> Record {
         }
         Inst::Load { dst, addr, w } => (kind::LOAD, at(&WIDTHS, &w), &[dst.0, addr.0]),
         Inst::Store { addr, src, w } => (kind::STORE, at(&WIDTHS, &w), &[addr.0, src.0]),
-        Inst::Check { kind, v, lo, hi, what } => {
-            (kind::CHECK, at(&CHECKS, &kind), &[v.0, lo.0, hi.0, what.0])
-        }
+        Inst::Check { kind, v, lo, hi, what } => (kind::CHECK, at(&CHECKS, &kind), &[v.0, lo.0, hi.0, what.0]),
         Inst::MakeDope { at, parts } => (kind::MAKE_DOPE, 0, &[at.0, parts.start, parts.len]),
         Inst::DopeLen { dst, dope, dim } => (kind::DOPE_LEN, 0, &[dst.0, dope.0, u32::from(dim)]),
         Inst::BoundsLen { dst, left, right, dir } => (kind::BOUNDS_LEN, 0, &[dst.0, left.0, right.0, dir.0]),

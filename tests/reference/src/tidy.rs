@@ -37,10 +37,10 @@ fn writer(f: &Procedure, r: u32) -> (usize, usize) {
 fn lead(f: &Procedure) -> Vec<Vec<bool>> {
     let n = f.blocks.len();
     let mut leads = vec![vec![false; n]; n];
-    for b in 0..n {
+    for (b, reached) in leads.iter_mut().enumerate() {
         let mut left = targets(f, b);
         while let Some(t) = left.pop() {
-            if !std::mem::replace(&mut leads[b][t], true) {
+            if !std::mem::replace(&mut reached[t], true) {
                 left.extend(targets(f, t));
             }
         }

@@ -189,7 +189,9 @@ fn digests() -> io::Result<()> {
 /// FNV-1a.
 fn digest(a: &Answer) -> u64 {
     let numbers = a.numbers().into_iter().flat_map(u32::to_le_bytes);
-    numbers.chain(a.output.iter().copied()).fold(0xcbf2_9ce4_8422_2325, |h, b| (h ^ u64::from(b)).wrapping_mul(0x100_0000_01b3))
+    numbers
+        .chain(a.output.iter().copied())
+        .fold(0xcbf2_9ce4_8422_2325, |h, b| (h ^ u64::from(b)).wrapping_mul(0x100_0000_01b3))
 }
 
 /// A line for each name in `chosen`, in the pool's order. A name may carry `:exact` or `:short`,
