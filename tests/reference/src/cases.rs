@@ -386,13 +386,13 @@ fn decided() -> Vec<(&'static str, Draft)> {
         ),
         (
             "body-passed-over",
-            Draft {
-                body: Some(1),
-                ..draft(
+            with_body(
+                1,
+                draft(
                     &[0],
                     vec![vec![stmt(), stmt(), br(2)], vec![stmt(), br(2)], vec![cond_br(0, 0, 3)], vec![ret()]],
-                )
-            },
+                ),
+            ),
         ),
         (
             "bounds-forget-copies",
@@ -417,6 +417,56 @@ fn decided() -> Vec<(&'static str, Draft)> {
             ),
         ),
         (
+            "body-is-lone",
+            with_body(
+                1,
+                draft(&[0], vec![vec![stmt(), stmt(), stmt(), cond_br(0, 1, 2)], vec![cond_br(0, 0, 2)], vec![ret()]]),
+            ),
+        ),
+        (
+            "arm-to-body",
+            with_body(
+                2,
+                draft(
+                    &[0],
+                    vec![
+                        vec![stmt(), stmt(), cond_br(0, 1, 3)],
+                        vec![cond_br(0, 2, 3)],
+                        vec![stmt(), br(0)],
+                        vec![ret()],
+                    ],
+                ),
+            ),
+        ),
+        ("constant-unread", with_body(2, draft(&[0; 2], constant_in_test(3)))),
+        ("constant-read", with_body(2, draft(&[0; 2], constant_in_test(0)))),
+        (
+            "latch-forward",
+            draft(
+                &[0; 2],
+                vec![
+                    vec![stmt(), br(1)],
+                    vec![cond_br(0, 2, 3)],
+                    vec![ins(kind::BIN, 0, &[1, 1, 1]), br(3)],
+                    vec![br(0)],
+                ],
+            ),
+        ),
+        ("latch-wide", with_body(3, draft(&[0; 2], checked_step()))),
+        ("latch-narrow", draft(&[0; 2], checked_step())),
+        (
+            "up-rescued",
+            draft(
+                &[0, 2],
+                vec![
+                    vec![stmt(), br(2)],
+                    vec![ins(kind::ADDR_OF, 1, &[1, 3, 4]), br(2)],
+                    vec![cond_br(0, 0, 3)],
+                    vec![ret()],
+                ],
+            ),
+        ),
+        (
             // The first CondBr's c is a copy of another kind: known, not copied.
             "copy-of-another-kind",
             draft(
@@ -428,6 +478,25 @@ fn decided() -> Vec<(&'static str, Draft)> {
                 ],
             ),
         ),
+    ]
+}
+
+fn with_body(b: u32, d: Draft) -> Draft {
+    Draft { body: Some(b), ..d }
+}
+
+/// A block that names the constant r1 in a Bool.
+fn constant_in_test(op: u8) -> Vec<Vec<Record>> {
+    vec![vec![constant(1, 1), br(1)], vec![boolean(op, 0, 0, 1), cond_br(0, 0, 2)], vec![stmt(), stmt(), ret()]]
+}
+
+/// A loop whose step block moves and subtracts with a check.
+fn checked_step() -> Vec<Vec<Record>> {
+    vec![
+        vec![stmt(), br(1)],
+        vec![cond_br(0, 2, 3)],
+        vec![mov(1, 0), ins(kind::BIN_RANGE, 1, &[1, 1, 1]), br(1)],
+        vec![ret()],
     ]
 }
 
