@@ -2,12 +2,13 @@ ghost use mathlib.Core.Path.{_≡_};
 ghost use mathlib.Core.Bool.{cond};
 ghost use mathlib.Core.Option.{none, some};
 ghost use mathlib.Core.List.{[], _∷_, _++_};
-ghost use Prim.Native.Nat.{_+_, _≤_, _<_};
+ghost use Prim.Native.Nat.{_+_, _/_, _≤_, _<_};
 ghost use lib.ListN.{length, getD};
 ghost use Rattle.steps.specs.Lists.{found, orElse, valueOr};
-ghost use Rattle.steps.specs.Note.{forget as forgetOf, forgetAll, learn as learnOf, note as noteOf, bit as bitOf, boolOf};
+ghost use Rattle.steps.specs.Note.{forget as forgetOf, forgetAll, learn as learnOf, note as noteOf, notes as notesOf, nothing, bit as bitOf, boolOf};
 ghost use Rattle.roles.specs.Roles.{defsOf};
-ghost use Rattle.note.specs.Storage.{entries, heldIn, constAt, factsIn, wordIn, ended, without, Stored, NoMore, Roomy, OneMore, roomy, notedIn, moved, newEntry, alikeIn};
+ghost use Rattle.procedure.specs.Procedure.{codesOf};
+ghost use Rattle.note.specs.Storage.{entries, heldIn, constAt, factsIn, wordIn, ended, without, Stored, NoMore, Roomy, OneMore, roomy, enough, notedIn, moved, newEntry, alikeIn};
 use inst::BoolOp;
 use inst::Inst;
 
@@ -434,4 +435,57 @@ pub fn note(
         return Noted::Full;
     }
     Noted::At(step(i, h, kr, kv, cr, cs, tys, flags, words))
+}
+
+// What is known after the instructions of some records, from nothing.
+fn gather(
+    code: &[u8],
+    kr: &mut [u64],
+    kv: &mut [u64],
+    cr: &mut [u64],
+    cs: &mut [u64],
+    tys: &[u8],
+    flags: &[u8],
+    words: &[u64],
+) -> Held
+    requires { ⌜ Stored (length (now code) / 32) (now kr) (now kv) × Stored (length (now code) / 32) (now cr) (now cs) ⌝ }
+    ensures { λ z. ⌜ heldIn z (now (kr .exit)) (now (kv .exit)) (now (cr .exit)) (now (cs .exit)) ≡ notesOf (factsIn (now (tys .entry)) (now (flags .entry)) (now (words .entry))) nothing (codesOf (now (code .entry))) ⌝ }
+{
+    let mut h = Held { known: 0, copy: 0 };
+    let mut k = 0;
+    while k < code.len() / 32 {
+        let i = codec::inst_of(format::record_at(code, k));
+        h = step(i, h, kr, kv, cr, cs, tys, flags, words);
+        k += 1;
+    }
+    h
+}
+
+// The same, or Full where one of the slices has fewer places than there are records.
+pub fn notes(
+    code: &[u8],
+    kr: &mut [u64],
+    kv: &mut [u64],
+    cr: &mut [u64],
+    cs: &mut [u64],
+    tys: &[u8],
+    flags: &[u8],
+    words: &[u64],
+) -> Noted
+    ensures { λ z. ⌜ notedIn z (now (kr .exit)) (now (kv .exit)) (now (cr .exit)) (now (cs .exit)) ≡ cond (enough (length (now (code .entry)) / 32) (now (kr .entry)) (now (kv .entry)) (now (cr .entry)) (now (cs .entry))) (some (notesOf (factsIn (now (tys .entry)) (now (flags .entry)) (now (words .entry))) nothing (codesOf (now (code .entry))))) none ⌝ }
+{
+    let n = code.len() / 32;
+    if kr.len() < n {
+        return Noted::Full;
+    }
+    if kv.len() < n {
+        return Noted::Full;
+    }
+    if cr.len() < n {
+        return Noted::Full;
+    }
+    if cs.len() < n {
+        return Noted::Full;
+    }
+    Noted::At(gather(code, kr, kv, cr, cs, tys, flags, words))
 }
