@@ -3,8 +3,8 @@ use mathlib.Core.Path.{sym, ap, _∙_}
 use Rattle.steps.specs.Lists.{orElse}
 use Rattle.note.specs.Storage.{constAt, wordIn}
 use borrow.Author.Needs.{needs}
-use Rattle.note.proofs.value_of.Statement.{statement}
-use Rattle.note.proofs.value_of.Tie as tie
+use Rattle.note.proofs.facts.value_of.Statement.{statement}
+use Rattle.note.proofs.facts.value_of.Tie as tie
 
 find-requires : tie.Need-find-requires
 find-requires c κs = search needs

@@ -4,8 +4,8 @@ use mathlib.Core.Path.{sym, ap, _∙_}
 use mathlib.Core.List.{_++_, append-nil}
 use Rattle.note.specs.Storage.{entries, wordIn, newEntry}
 use borrow.Author.Needs.{needs}
-use Rattle.note.proofs.push_if.Statement.{statement}
-use Rattle.note.proofs.push_if.Tie as tie
+use Rattle.note.proofs.entries.push_if.Statement.{statement}
+use Rattle.note.proofs.entries.push_if.Tie as tie
 
 enum-known-v : tie.Need-enum-known-v
 enum-known-v c = search needs

@@ -3,8 +3,8 @@ use native.Mathlib.Omega.{arith}
 use denote.Ref.{now}
 use lib.ListN.{getD, List·getD-eq-default}
 use borrow.Author.Needs.{needs}
-use Rattle.note.proofs.constant.Statement.{statement}
-use Rattle.note.proofs.constant.Tie as tie
+use Rattle.note.proofs.facts.constant.Statement.{statement}
+use Rattle.note.proofs.facts.constant.Tie as tie
 
 returns : tie.Need-returns
 returns c = let a = c .before .args in rw (List·getD-eq-default (now (a .flags)) 0 {n = a .r} (omega arith))

@@ -7,8 +7,8 @@ use borrow.Author.Tests.{eq-eqb, ne-eqb}
 use Rattle.steps.specs.Lists.{found}
 use Rattle.note.specs.Storage.{entries}
 use Rattle.note.proofs.Laws.{found-here, found-later, found-none}
-use Rattle.note.proofs.find.Statement.{statement}
-use Rattle.note.proofs.find.Tie as tie
+use Rattle.note.proofs.entries.find.Statement.{statement}
+use Rattle.note.proofs.entries.find.Tie as tie
 
 abbrev Inv-loop : tie.InvT-loop
 Inv-loop reg val n r k₀ k = found r (drop k (entries n reg val)) ≡ found r (entries n reg val)

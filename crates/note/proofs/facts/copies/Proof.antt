@@ -3,8 +3,8 @@ use mathlib.Core.Path.{sym, _∙_}
 use borrow.Author.Tests.{eq-eqb, ne-eqb}
 use Rattle.note.proofs.Laws.{alike-by}
 use borrow.Author.Needs.{needs}
-use Rattle.note.proofs.copies.Statement.{statement}
-use Rattle.note.proofs.copies.Tie as tie
+use Rattle.note.proofs.facts.copies.Statement.{statement}
+use Rattle.note.proofs.facts.copies.Tie as tie
 
 kind-at-requires : tie.Need-kind-at-requires
 kind-at-requires c κs = search needs

@@ -2,8 +2,8 @@ use mathlib.Core.Path.{sym}
 use Rattle.note.specs.Storage.{wordIn}
 use Rattle.note.proofs.Laws.{bool-none}
 use borrow.Author.Needs.{needs}
-use Rattle.note.proofs.bool_of.Statement.{statement}
-use Rattle.note.proofs.bool_of.Tie as tie
+use Rattle.note.proofs.bools.bool_of.Statement.{statement}
+use Rattle.note.proofs.bools.bool_of.Tie as tie
 
 enum-known-x : tie.Need-enum-known-x
 enum-known-x c = search needs

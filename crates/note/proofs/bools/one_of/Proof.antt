@@ -3,8 +3,8 @@ use mathlib.Core.Option.{some}
 use lib.Dec.{eqb}
 use Rattle.note.proofs.Laws.{not-not}
 use borrow.Author.Needs.{needs}
-use Rattle.note.proofs.one_of.Statement.{statement}
-use Rattle.note.proofs.one_of.Tie as tie
+use Rattle.note.proofs.bools.one_of.Statement.{statement}
+use Rattle.note.proofs.bools.one_of.Tie as tie
 
 enum-told : tie.Need-enum-told
 enum-told c = search needs

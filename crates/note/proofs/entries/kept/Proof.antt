@@ -1,6 +1,6 @@
 use borrow.Author.Tests.{eq-eqb, ne-eqb}
-use Rattle.note.proofs.kept.Statement.{statement}
-use Rattle.note.proofs.kept.Tie as tie
+use Rattle.note.proofs.entries.kept.Statement.{statement}
+use Rattle.note.proofs.entries.kept.Tie as tie
 
 returns : tie.Need-returns
 returns c = rw (eq-eqb (c .before .args .r) (c .before .args .d) (c .if1 .taken))

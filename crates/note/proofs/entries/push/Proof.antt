@@ -1,8 +1,8 @@
 use denote.Ref.{now}
 use Rattle.note.proofs.Laws.{entries-push}
 use borrow.Author.Needs.{needs}
-use Rattle.note.proofs.push.Statement.{statement}
-use Rattle.note.proofs.push.Tie as tie
+use Rattle.note.proofs.entries.push.Statement.{statement}
+use Rattle.note.proofs.entries.push.Tie as tie
 
 mul-reg : tie.Need-mul-reg
 mul-reg c = search needs

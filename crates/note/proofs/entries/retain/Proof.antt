@@ -6,8 +6,8 @@ use mathlib.Core.Path.{_≡_, refl, _∙_}
 use lib.ListN.{length, getD, length-set}
 use denote.Ref.{now}
 use Rattle.note.proofs.Laws.{at-most-one, Packed, packed-none, packed-next}
-use Rattle.note.proofs.retain.Statement.{statement}
-use Rattle.note.proofs.retain.Tie as tie
+use Rattle.note.proofs.entries.retain.Statement.{statement}
+use Rattle.note.proofs.entries.retain.Tie as tie
 
 abbrev Inv-loop : tie.InvT-loop
 Inv-loop reg₀ val₀ n d also k₀ z₀ reg val k z =

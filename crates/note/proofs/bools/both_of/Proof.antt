@@ -4,8 +4,8 @@ use lib.Dec.{eqb}
 use borrow.Author.Tests.{eq-eqb, ne-eqb}
 use Rattle.note.proofs.Laws.{not-not}
 use borrow.Author.Needs.{needs}
-use Rattle.note.proofs.both_of.Statement.{statement}
-use Rattle.note.proofs.both_of.Tie as tie
+use Rattle.note.proofs.bools.both_of.Statement.{statement}
+use Rattle.note.proofs.bools.both_of.Tie as tie
 
 enum-told : tie.Need-enum-told
 enum-told c = search needs

@@ -2,8 +2,8 @@ use mathlib.Core.Path.{sym, ap, _∙_}
 use Rattle.steps.specs.Lists.{valueOr}
 use Rattle.note.specs.Storage.{wordIn}
 use borrow.Author.Needs.{needs}
-use Rattle.note.proofs.source_of.Statement.{statement}
-use Rattle.note.proofs.source_of.Tie as tie
+use Rattle.note.proofs.entries.source_of.Statement.{statement}
+use Rattle.note.proofs.entries.source_of.Tie as tie
 
 find-requires : tie.Need-find-requires
 find-requires c κs = search needs

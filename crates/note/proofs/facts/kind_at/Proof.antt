@@ -3,8 +3,8 @@ use mathlib.Core.Path.{sym}
 use lib.ListN.{List·getD-eq-default}
 use Rattle.counts.proofs.Laws.{getD-any}
 use borrow.Author.Needs.{needs}
-use Rattle.note.proofs.kind_at.Statement.{statement}
-use Rattle.note.proofs.kind_at.Tie as tie
+use Rattle.note.proofs.facts.kind_at.Statement.{statement}
+use Rattle.note.proofs.facts.kind_at.Tie as tie
 
 shared-slice-read-result : tie.Need-shared-slice-read-result
 shared-slice-read-result c = search needs
