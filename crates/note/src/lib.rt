@@ -115,17 +115,17 @@ fn learn_bool(
     flags: &[u8],
     words: &[u64],
     op: BoolOp,
-    d: u64,
-    a: u64,
-    b: u64,
+    d: u32,
+    a: u32,
+    b: u32,
 ) -> usize
     requires { ⌜ (n < length (now kr)) × (n < length (now kv)) ⌝ }
     ensures { λ z. ⌜ (entries z (now (kr .exit)) (now (kv .exit)) ≡ entries n (now (kr .entry)) (now (kv .entry)) ++ newEntry d (boolOf op (orElse (found a (entries n (now (kr .entry)) (now (kv .entry)))) (constAt (now (flags .entry)) (now (words .entry)) a)) (orElse (found b (entries n (now (kr .entry)) (now (kv .entry)))) (constAt (now (flags .entry)) (now (words .entry)) b)))) × (z ≤ n + 1) ⌝ }
 {
-    let x = facts::value_of(kr, kv, n, flags, words, a);
-    let y = facts::value_of(kr, kv, n, flags, words, b);
+    let x = facts::value_of(kr, kv, n, flags, words, a as u64);
+    let y = facts::value_of(kr, kv, n, flags, words, b as u64);
     let v = bools::bool_of(op, x, y);
-    entries::push_if(kr, kv, n, d, v)
+    entries::push_if(kr, kv, n, d as u64, v)
 }
 
 // Move d s: nothing of a register moved to itself.
@@ -138,8 +138,8 @@ fn learn_move(
     tys: &[u8],
     flags: &[u8],
     words: &[u64],
-    d: u64,
-    s: u64,
+    d: u32,
+    s: u32,
 ) -> Held
     requires { ⌜ Roomy h (now kr) (now kv) (now cr) (now cs) ⌝ }
     ensures { λ z. ⌜ (heldIn z (now (kr .exit)) (now (kv .exit)) (now (cr .exit)) (now (cs .exit)) ≡ moved (factsIn (now (tys .entry)) (now (flags .entry)) (now (words .entry))) d s (heldIn h (now (kr .entry)) (now (kv .entry)) (now (cr .entry)) (now (cs .entry)))) × OneMore z h ⌝ }
@@ -147,9 +147,9 @@ fn learn_move(
     if d == s {
         return h;
     }
-    let from = entries::source_of(cr, cs, h.copy, s);
-    let known = learn_value(kr, kv, h.known, flags, words, d, from);
-    let copy = learn_copy(cr, cs, h.copy, tys, d, from);
+    let from = entries::source_of(cr, cs, h.copy, s as u64);
+    let known = learn_value(kr, kv, h.known, flags, words, d as u64, from);
+    let copy = learn_copy(cr, cs, h.copy, tys, d as u64, from);
     Held { known, copy }
 }
 
@@ -177,15 +177,10 @@ fn learn(
             }
         }
         Inst::Move { dst, src } => {
-            let d = wide(dst.0);
-            let s = wide(src.0);
-            learn_move(h, kr, kv, cr, cs, tys, flags, words, d, s)
+            learn_move(h, kr, kv, cr, cs, tys, flags, words, dst.0, src.0)
         }
         Inst::Bool { op, dst, a, b } => {
-            let d = wide(dst.0);
-            let x = wide(a.0);
-            let y = wide(b.0);
-            let known = learn_bool(kr, kv, h.known, flags, words, op, d, x, y);
+            let known = learn_bool(kr, kv, h.known, flags, words, op, dst.0, a.0, b.0);
             Held {
                 known,
                 copy: h.copy,
