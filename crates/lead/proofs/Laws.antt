@@ -6,11 +6,15 @@ use mathlib.Core.Bool.{Bool, true, false, _&&_, _||_, not, cond}
 use mathlib.Core.List.{List, [], _∷_}
 use mathlib.Core.Logic.{_⊎_, inl, inr, ⊎-elim}
 use lib.ListN.{length, getD, set, replicate, length-set, length-replicate}
-use Rattle.lead.specs.Lead.{anyMarked, isNew, visited, swept, found, closed, leading, arcs}
+use Rattle.lead.specs.Lead.{anyMarked, isNew, visited, swept, found, closed, clear, leading, arcs}
 
 pub cases : (b : Bool) → (b ≡ true) ⊎ (b ≡ false)
 cases true = inl refl
 cases false = inr refl
+
+pub clear-length : length clear ≡ 160
+unfolding clear
+clear-length = length-replicate 160 false
 
 or-false : (b : Bool) → (b || false) ≡ b
 or-false true = refl
@@ -114,17 +118,30 @@ module _ (next : ℕ → List ℕ) where
       by zero e = absurd (omega arith)
       by (suc k) e = rw (closed, e)
 
+  length-closed : (f : ℕ) (m : List Bool) → length (closed next f m) ≡ length m
+  unfolding closed
+  length-closed zero m = refl
+  length-closed (suc f) m = by (found next 160 m) refl (length-closed f (swept next 160 m))
+    where
+      by : (k : ℕ) → found next 160 m ≡ k → length (closed next f (swept next 160 m)) ≡ length (swept next 160 m) → length (closed next (suc f) m) ≡ length m
+      by zero e i = ap length (closed-last f m e) ∙ length-swept 160 m
+      by (suc k) e i = ap length (closed-more f m (omega arith)) ∙ i ∙ length-swept 160 m
+
+  pub length-leading : (t : ℕ) → length (leading next t) ≡ 160
+  unfolding leading
+  length-leading t = length-closed 161 (set clear t true) ∙ length-set clear t true ∙ clear-length
+
   -- the sweeps that are left come to the same marks
   pub record Left (t : ℕ) (m : List Bool) : Type 0 where
     pub sweeps : ℕ
     pub enough : unmarked m < sweeps
     pub same : closed next sweeps m ≡ leading next t
 
-  pub left-all : (t : ℕ) {m : List Bool} → m ≡ set (replicate 160 false) t true → Left t m
+  pub left-all : (t : ℕ) {m : List Bool} → m ≡ set clear t true → Left t m
   unfolding leading
   left-all t {m} e = record {
     sweeps = 161;
-    enough = let i = unmarked-le m in let j = ap length e ∙ length-set (replicate 160 false) t true ∙ length-replicate 160 false in omega arith;
+    enough = let i = unmarked-le m in let j = ap length e ∙ length-set clear t true ∙ clear-length in omega arith;
     same = ap (closed next 161) e;
   }
 
@@ -147,22 +164,22 @@ module _ (next : ℕ → List ℕ) where
       by (suc f) a b = e ∙ sym (closed-last f m i) ∙ b
 
 -- the same answers where the targets come to the same
-module _ (one two : ℕ → List ℕ) (same : (m : List Bool) (a : ℕ) → length m ≡ 160 → isNew one m a ≡ isNew two m a) where
-  visited-same : (m : List Bool) (a : ℕ) → length m ≡ 160 → visited one m a ≡ visited two m a
+module _ (one two : ℕ → List ℕ) (same : (m : List Bool) (a : ℕ) → length m ≡ 160 → a < 160 → isNew one m a ≡ isNew two m a) where
+  visited-same : (m : List Bool) (a : ℕ) → length m ≡ 160 → a < 160 → visited one m a ≡ visited two m a
   unfolding visited
-  visited-same m a h = rw (same m a h)
+  visited-same m a h i = rw (same m a h i)
 
-  swept-same : (n : ℕ) (m : List Bool) → length m ≡ 160 → swept one n m ≡ swept two n m
+  swept-same : (n : ℕ) (m : List Bool) → length m ≡ 160 → n ≤ 160 → swept one n m ≡ swept two n m
   unfolding swept
-  swept-same zero m h = refl
-  swept-same (suc a) m h = swept-same a (visited one m a) (length-visited one m a ∙ h) ∙ ap (swept two a) (visited-same m a h)
+  swept-same zero m h i = refl
+  swept-same (suc a) m h i = swept-same a (visited one m a) (length-visited one m a ∙ h) (omega arith) ∙ ap (swept two a) (visited-same m a h i)
 
-  found-same : (n : ℕ) (m : List Bool) → length m ≡ 160 → found one n m ≡ found two n m
+  found-same : (n : ℕ) (m : List Bool) → length m ≡ 160 → n ≤ 160 → found one n m ≡ found two n m
   unfolding found
-  found-same zero m h = refl
-  found-same (suc a) m h =
-      ap (λ (k : ℕ). cond (isNew one m a) 1 0 + k) (found-same a (visited one m a) (length-visited one m a ∙ h) ∙ ap (found two a) (visited-same m a h))
-      ∙ ap (λ (b : Bool). cond b 1 0 + found two a (visited two m a)) (same m a h)
+  found-same zero m h i = refl
+  found-same (suc a) m h i =
+      ap (λ (k : ℕ). cond (isNew one m a) 1 0 + k) (found-same a (visited one m a) (length-visited one m a ∙ h) (omega arith) ∙ ap (found two a) (visited-same m a h i))
+      ∙ ap (λ (b : Bool). cond b 1 0 + found two a (visited two m a)) (same m a h i)
 
   closed-same : (f : ℕ) (m : List Bool) → length m ≡ 160 → closed one f m ≡ closed two f m
   unfolding closed
@@ -170,13 +187,13 @@ module _ (one two : ℕ → List ℕ) (same : (m : List Bool) (a : ℕ) → leng
   closed-same (suc f) m h = by (found one 160 m) refl (closed-same f (swept one 160 m) (length-swept one 160 m ∙ h))
     where
       by : (k : ℕ) → found one 160 m ≡ k → closed one f (swept one 160 m) ≡ closed two f (swept one 160 m) → closed one (suc f) m ≡ closed two (suc f) m
-      by zero e i = closed-last one f m e ∙ swept-same 160 m h ∙ sym (closed-last two f m (sym (found-same 160 m h) ∙ e))
+      by zero e i = closed-last one f m e ∙ swept-same 160 m h (omega arith) ∙ sym (closed-last two f m (sym (found-same 160 m h (omega arith)) ∙ e))
       by (suc k) e i =
           closed-more one f m (omega arith)
           ∙ i
-          ∙ ap (closed two f) (swept-same 160 m h)
-          ∙ sym (closed-more two f m (let j = found-same 160 m h in omega arith))
+          ∙ ap (closed two f) (swept-same 160 m h (omega arith))
+          ∙ sym (closed-more two f m (let j = found-same 160 m h (omega arith) in omega arith))
 
   pub leading-same : (t : ℕ) → leading one t ≡ leading two t
   unfolding leading
-  leading-same t = closed-same 161 (set (replicate 160 false) t true) (length-set (replicate 160 false) t true ∙ length-replicate 160 false)
+  leading-same t = closed-same 161 (set clear t true) (length-set clear t true ∙ clear-length)

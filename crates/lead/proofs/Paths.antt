@@ -9,9 +9,9 @@ use mathlib.Core.Logic.{_⊎_, inl, inr, ⊎-elim, _↔_}
 use borrow.Author.Tests.{eqb-true, eq-eqb, ltb-true, ltb-false, eqb-false}
 use lib.Dec.{eqb, ltb}
 use lib.ListN.{length, getD, set, replicate, length-set, length-replicate, getD-replicate, List·getD-eq-default}
-use lib.Seq.{getD-set-same, getD-set-other}
-use Rattle.lead.specs.Lead.{isIn, anyMarked, Chain, Leads, isNew, visited, swept, found, closed, leading}
-use Rattle.lead.proofs.Laws.{cases, unmarked, unmarked-le, visited-new, visited-old, new-unmarked, length-visited, length-swept, unmarked-swept, closed-last, closed-more}
+use lib.Seq.{getD-set-same, getD-set-other, set-out}
+use Rattle.lead.specs.Lead.{isIn, anyMarked, Chain, Leads, isNew, visited, swept, found, closed, clear, leading}
+use Rattle.lead.proofs.Laws.{cases, clear-length, unmarked, unmarked-le, visited-new, visited-old, new-unmarked, length-visited, length-swept, unmarked-swept, closed-last, closed-more}
 
 false-true : {A : Type 0} {b : Bool} → b ≡ false → b ≡ true → A
 false-true e f = absurd (mathlib.Core.Bool.false≢true (sym e ∙ f))
@@ -45,6 +45,13 @@ in-marked m s (t ∷ ts) e h = by (in-marked m s ts) (cases (eqb t s))
     by : (isIn s ts ≡ true → getD m s false ≡ true → anyMarked m ts ≡ true) → (eqb t s ≡ true) ⊎ (eqb t s ≡ false) → (getD m t false || anyMarked m ts) ≡ true
     by more (inl i) = rw (eqb-true t s i, h)
     by more (inr i) = rw (more (sym (ap (λ (b : Bool). b || isIn s ts) i) ∙ e) h) (or-true (getD m t false))
+
+pub clear-at : (a : ℕ) → a < 160 → getD clear a false ≡ false
+unfolding clear
+clear-at a h = getD-replicate 160 a false false h
+
+clear-all : (a : ℕ) → getD clear a false ≡ false
+clear-all a = ⊎-elim (λ (i : ltb a 160 ≡ true). clear-at a (ltb-true a 160 i)) (λ (i : ltb a 160 ≡ false). List·getD-eq-default clear false (rw clear-length (ltb-false a 160 i))) (cases (ltb a 160))
 
 module _ (next : ℕ → List ℕ) where
   new-any : (m : List Bool) (a : ℕ) → isNew next m a ≡ true → anyMarked m (next a) ≡ true
@@ -146,26 +153,48 @@ module _ (next : ℕ → List ℕ) where
       by h (inl i) = any-new m a (none a (ltb-true a 160 i)) (in-marked m s (next a) (c .0) h)
       by h (inr i) = false-true (ap (isIn s) (past a (ltb-false a 160 i))) (c .0)
 
-  start-length : (t : ℕ) → length (set (replicate 160 false) t true) ≡ 160
-  start-length t = length-set (replicate 160 false) t true ∙ length-replicate 160 false
+  start-length : (t : ℕ) → length (set clear t true) ≡ 160
+  start-length t = length-set clear t true ∙ clear-length
 
-  start-sound : (t : ℕ) → Sound t (set (replicate 160 false) t true)
+  start-sound : (t : ℕ) → Sound t (set clear t true)
   unfolding Sound
-  start-sound t a e = ⊎-elim (λ (j : eqb a t ≡ true). ([], eqb-true a t j)) (λ (j : eqb a t ≡ false). false-true (getD-set-other (replicate 160 false) t a true false (eqb-false a t j) ∙ blank (cases (ltb a 160))) e) (cases (eqb a t))
-    where
-      blank : (ltb a 160 ≡ true) ⊎ (ltb a 160 ≡ false) → getD (replicate 160 false) a false ≡ false
-      blank (inl i) = getD-replicate 160 a false false (ltb-true a 160 i)
-      blank (inr i) = List·getD-eq-default (replicate 160 false) false (ltb-false a 160 i)
+  start-sound t a e = ⊎-elim (λ (j : eqb a t ≡ true). ([], eqb-true a t j)) (λ (j : eqb a t ≡ false). false-true (getD-set-other clear t a true false (eqb-false a t j) ∙ clear-all a) e) (cases (eqb a t))
 
   pub starts : (t : ℕ) → t < 160 → getD (leading next t) t false ≡ true
   unfolding leading
-  starts t h = kept-closed 161 (set (replicate 160 false) t true) t (getD-set-same (replicate 160 false) t true false h)
+  starts t h = kept-closed 161 (set clear t true) t (getD-set-same clear t true false (rw clear-length h))
+
+  -- no block leads to one that isn't there
+  none-any : (ss : List ℕ) → anyMarked clear ss ≡ false
+  none-any [] = refl
+  none-any (s ∷ ss) = rw (clear-all s, none-any ss)
+
+  none-clear : (a : ℕ) → isNew next clear a ≡ false
+  unfolding isNew
+  none-clear a = rw (none-any (next a)) (mathlib.Core.Bool.and-false (not (getD clear a false)))
+
+  none-found : (n : ℕ) → (found next n clear ≡ 0) × (swept next n clear ≡ clear)
+  unfolding found swept
+  none-found zero = (refl, refl)
+  none-found (suc a) =
+      let o = none-clear a in
+      let v = visited-old next clear a o in
+      let r = none-found a in
+      (rw (o, v) (omega arith), ap (swept next a) v ∙ r .1)
+
+  pub leading-past : (t a : ℕ) → 160 ≤ t → getD (leading next t) a false ≡ false
+  unfolding leading
+  leading-past t a h =
+      let r = none-found 160 in
+      ap (λ (m : List Bool). getD (closed next 161 m) a false) (set-out clear t true (rw clear-length h))
+      ∙ ap (λ (m : List Bool). getD m a false) (closed-last next 160 clear (r .0) ∙ r .1)
+      ∙ clear-all a
 
   -- a block is marked where it leads to t, over any number of blocks, and only there
   pub leading-is : (t : ℕ) → t < 160 → ((a : ℕ) → 160 ≤ a → next a ≡ []) → (a : ℕ) → (getD (leading next t) a false ≡ true) ↔ Leads next a t
   unfolding leading Sound
   leading-is t h past a =
-      let m = set (replicate 160 false) t true in
+      let m = set clear t true in
       let l = start-length t in (
         sound-closed t 161 m (start-sound t) a,
         λ p. complete (closed next 161 m) t (none-left 161 m l (let i = unmarked-le m in omega arith)) past (starts t h) (p .0) a (p .1),

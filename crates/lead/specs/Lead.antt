@@ -16,6 +16,10 @@ abbrev pub anyMarked : List Bool → List ℕ → Bool
 anyMarked m [] = false
 anyMarked m (s ∷ ss) = getD m s false || anyMarked m ss
 
+-- one mark for each of 160 blocks, all clear at the start
+unfoldable pub clear : List Bool
+clear = replicate 160 false
+
 -- next gives the targets of each block
 module _ (next : ℕ → List ℕ) where
   -- each block of a list is a target of the one before it, and the last one is t
@@ -53,7 +57,7 @@ module _ (next : ℕ → List ℕ) where
 
   -- the blocks that lead to t, and t
   unfoldable pub leading : ℕ → List Bool
-  leading t = closed 161 (set (replicate 160 false) t true)
+  leading t = closed 161 (set clear t true)
 
 -- the targets of the blocks, two for each, in one list
 abbrev pub arcs : List ℕ → ℕ → List ℕ

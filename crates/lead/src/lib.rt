@@ -1,8 +1,8 @@
 ghost use mathlib.Core.Path.{_≡_};
 ghost use mathlib.Core.Bool.{true, false, cond};
 ghost use Prim.Native.Nat.{ℕ, _+_, _≤_, _<_};
-ghost use lib.ListN.{length, getD, set, replicate};
-ghost use Rattle.lead.specs.Lead.{arcs, isNew as newIn, visited, swept, found as foundIn, leading};
+ghost use lib.ListN.{length, getD};
+ghost use Rattle.lead.specs.Lead.{arcs, isNew as newIn, visited, swept, found as foundIn, clear, leading};
 
 fn marked(marks: &[bool], block: u32) -> bool
     ensures { λ z. ⌜ z ≡ getD (now (marks .entry)) block false ⌝ }
@@ -55,7 +55,7 @@ fn sweep(targets: &[u32; 320], marks: &mut [bool]) -> usize
 
 // Marks t and the blocks that lead to it.
 pub fn lead_to(targets: &[u32; 320], t: usize, marks: &mut [bool])
-    requires { ⌜ (t < 160) × (now marks ≡ replicate 160 false) ⌝ }
+    requires { ⌜ (t < 160) × (now marks ≡ clear) ⌝ }
     ensures { λ u. ⌜ now (marks .exit) ≡ leading (arcs (now (targets .entry))) t ⌝ }
 {
     marks[t] = true;

@@ -15,9 +15,9 @@ use Rattle.inst.specs.Inst.{kindOf}
 use Rattle.inst.specs.declared.Code.{Code}
 use Rattle.codec.specs.Codec.{codeOf, instOf}
 use Rattle.roles.specs.declared.Roles.{Roles}
-use Rattle.lead.specs.Lead.{arcs, leading}
+use Rattle.lead.specs.Lead.{arcs, clear, leading}
 use Rattle.tidy.specs.declared.Tidiness.{Tidiness}
-use Rattle.tidy.specs.Tidy.{Placed, Field, wrong, targetsOf, told, regsOf}
+use Rattle.tidy.specs.Tidy.{Placed, Field, wrong, targetsOf, lastOf, told, regsOf}
 
 -- a writer as one number, at least 2
 abbrev pub packed : ℕ → ℕ → ℕ → ℕ
@@ -44,8 +44,8 @@ judged next v b k =
     cond (ltb v 2) false
     (wrong (λ a t. getD (leading next t) a false) ((v - 2) % 32) ((v - 2) / 32 % 256) ((v - 2) / 32 / 256) b k)
 
-unfoldable pub offence : (ℕ → List ℕ) → ℕ → List ℕ → Field → Bool
-offence next n ws f = ltb (f .reg) n && judged next (getD ws (f .reg) 0) (f .at .block) (f .at .place)
+unfoldable pub offence : (ℕ → List ℕ) → ℕ → List ℕ → ℕ → ℕ → ℕ → Bool
+offence next n ws r b k = ltb r n && judged next (getD ws r 0) b k
 
 -- the lowest register, after one more
 unfoldable pub lower : Tidiness → ℕ → Tidiness
@@ -55,14 +55,24 @@ unfoldable pub lowered : Tidiness → List ℕ → Tidiness
 lowered s [] = s
 lowered s (r ∷ rs) = lowered (lower s r) rs
 
-abbrev pub judgedAll : (ℕ → List ℕ) → ℕ → List ℕ → Tidiness → List Field → Tidiness
-judgedAll next n ws s fs = lowered s (regsOf (offence next n ws) fs)
+-- one read more: n registers, a table and targets; the place of the read; the lowest so far; the register
+unfoldable pub step : (ℕ → List ℕ) → ℕ → List ℕ → ℕ → ℕ → Tidiness → ℕ → Tidiness
+step next n ws b k s r = cond (offence next n ws r b k) (lower s r) s
+
+unfoldable pub stepped : (ℕ → List ℕ) → ℕ → List ℕ → ℕ → ℕ → Tidiness → List ℕ → Tidiness
+stepped next n ws b k s [] = s
+stepped next n ws b k s (r ∷ rs) = stepped next n ws b k (step next n ws b k s r) rs
+
+unfoldable pub judgedAll : (ℕ → List ℕ) → ℕ → List ℕ → Tidiness → List Field → Tidiness
+judgedAll next n ws s [] = s
+judgedAll next n ws s (f ∷ fs) = judgedAll next n ws (step next n ws (f .at .block) (f .at .place) s (f .reg)) fs
 
 -- the targets of a block as two numbers, 160 where there is none
 abbrev pub Pair : List ℕ → ℕ → ℕ → Type 0
 Pair [] x y = (x ≡ 160) × (y ≡ 160)
 Pair (t ∷ []) x y = (x ≡ t) × (y ≡ t)
-Pair (t ∷ f ∷ ts) x y = (x ≡ t) × (y ≡ f)
+Pair (t ∷ f ∷ []) x y = (x ≡ t) × (y ≡ f)
+Pair (t ∷ f ∷ g ∷ ts) x y = ⊥
 
 -- the marks of the blocks that lead to t, if they were asked for
 abbrev pub row : ℕ → List Bool → List Bool
@@ -70,11 +80,21 @@ row t rows = take 160 (drop (160 * t) rows)
 
 pub record Kept (targets : List ℕ) (rows : List Bool) : Type 0 where
   pub size : length rows ≡ 25600
-  pub each : (t : ℕ) → t < 160 → (row t rows ≡ replicate 160 false) ⊎ (row t rows ≡ leading (arcs targets) t)
+  pub each : (t : ℕ) → t < 160 → (row t rows ≡ clear) ⊎ (row t rows ≡ leading (arcs targets) t)
+
+-- roles as an instruction has them
+pub record Five (r : Roles) : Type 0 where
+  pub defs : r .defs ≤ r .n
+  pub most : r .n ≤ 5
+  pub size : length (r .reg) ≡ 5
 
 -- the registers that an instruction reads, over the file's operands
 abbrev pub allReads : List ℕ → Roles → List ℕ
 allReads ops r = drop (r .defs) (take (r .n) (r .reg)) ++ take (r .list .len) (drop (r .list .start) ops)
+
+-- how many, of n operands
+abbrev pub readCount : ℕ → Roles → ℕ
+readCount n r = r .n - r .defs + min (r .list .len) (n - r .list .start)
 
 abbrev pub blockRecords : List Record → Layout → List Record
 blockRecords rs l = part (l .blocks) (l .bodies - l .blocks) rs
@@ -85,8 +105,11 @@ codeRecords rs l = part (l .code) (l .operands - l .code) rs
 abbrev pub operandsIn : List Record → Layout → List ℕ
 operandsIn rs l = map (λ r. r .p1) (part (l .operands) (l .arms - l .operands) rs)
 
+abbrev pub blockCode : List Record → Layout → Record → List Code
+blockCode rs l b = map codeOf (recordsOfBlock (codeRecords rs l) b)
+
 abbrev pub blocksIn : List Record → Layout → List (List Code)
-blocksIn rs l = map (λ b. map codeOf (recordsOfBlock (codeRecords rs l) b)) (blockRecords rs l)
+blocksIn rs l = map (blockCode rs l) (blockRecords rs l)
 
 -- what Read has seen to
 pub record Fit (rs : List Record) (l : Layout) : Type 0 where
@@ -98,3 +121,7 @@ pub record Fit (rs : List Record) (l : Layout) : Type 0 where
   pub operands : l .operands ≤ l .arms
   pub arms : l .arms ≤ length rs
   pub inCode : InCode (l .operands - l .code) (blockRecords rs l)
+
+-- the targets of each block of a file
+abbrev pub TargetsIn : List Record → Layout → List ℕ → Type 0
+TargetsIn rs l targets = (a : ℕ) → a < 160 → Pair (targetsOf (lastOf (getD (blocksIn rs l) a []))) (getD targets (2 * a) 0) (getD targets (2 * a + 1) 0)

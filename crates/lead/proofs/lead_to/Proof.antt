@@ -1,12 +1,12 @@
 use Prim.Native.Nat.{_<_}
 use mathlib.Core.Path.{_≡_, sym, ap, _∙_}
-use mathlib.Core.Bool.{Bool, true, false}
+use mathlib.Core.Bool.{Bool, true}
 use mathlib.Core.List.{List}
 use native.Mathlib.Omega.{arith}
 use denote.Ref.{now}
-use lib.ListN.{length, set, replicate, length-set, length-replicate}
-use Rattle.lead.specs.Lead.{arcs, swept, found as foundIn}
-use Rattle.lead.proofs.Laws.{unmarked, Left, left-all, left-more, left-none, length-swept, unmarked-swept}
+use lib.ListN.{length, set, length-set}
+use Rattle.lead.specs.Lead.{arcs, clear, swept, found as foundIn}
+use Rattle.lead.proofs.Laws.{clear-length, unmarked, Left, left-all, left-more, left-none, length-swept, unmarked-swept}
 use Rattle.lead.proofs.lead_to.Statement.{statement}
 use Rattle.lead.proofs.lead_to.Tie as tie
 
@@ -17,16 +17,16 @@ abbrev μ-loop : tie.MeasureT-loop
 μ-loop targets t marks₀ marks = unmarked marks
 
 slice-write-marks : tie.Need-slice-write-marks Inv-loop μ-loop
-slice-write-marks c = let e = ap length (c .before .pre .1) ∙ length-replicate 160 false in omega arith
+slice-write-marks c = let e = ap length (c .before .pre .1) ∙ clear-length in omega arith
 
 loop-holds : tie.Need-loop-holds Inv-loop μ-loop
-loop-holds c = let e = c .before .pre .1 in let s = ap (λ (m : List Bool). set m (c .before .args .t) true) e in (ap length s ∙ length-set (replicate 160 false) (c .before .args .t) true ∙ length-replicate 160 false, left-all (arcs (now (c .before .args .targets))) (c .before .args .t) s)
+loop-holds c = let e = c .before .pre .1 in let s = ap (λ (m : List Bool). set m (c .before .args .t) true) e in (ap length s ∙ length-set clear (c .before .args .t) true ∙ clear-length, left-all (arcs (now (c .before .args .targets))) (c .before .args .t) s)
 
 sweep-requires : tie.Need-sweep-requires Inv-loop μ-loop
 sweep-requires c κs = c .before .loop .inv .0
 
 same-length : tie.Need-same-length Inv-loop μ-loop
-same-length c = let l = c .before .before .before .before .before in let a = l .before .before .args in let t = arcs (now (a .targets)) in let v = c .before .before .before .sweep .ensures in ap length (v .0) ∙ length-swept t 160 (l .loop .marks) ∙ l .loop .inv .0 ∙ sym (ap length (l .before .before .pre .1) ∙ length-replicate 160 false)
+same-length c = let l = c .before .before .before .before .before in let a = l .before .before .args in let t = arcs (now (a .targets)) in let v = c .before .before .before .sweep .ensures in ap length (v .0) ∙ length-swept t 160 (l .loop .marks) ∙ l .loop .inv .0 ∙ sym (ap length (l .before .before .pre .1) ∙ clear-length)
 
 returns : tie.Need-returns Inv-loop μ-loop
 returns c = let l = c .before .before .before .before .before in let a = l .before .before .args in let t = arcs (now (a .targets)) in let v = c .before .before .before .sweep .ensures in left-none t (a .t) (l .loop .inv .1) (sym (v .1) ∙ c .if1 .taken) (v .0)
