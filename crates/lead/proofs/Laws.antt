@@ -6,7 +6,7 @@ use mathlib.Core.Bool.{Bool, true, false, _&&_, _||_, not, cond}
 use mathlib.Core.List.{List, [], _∷_}
 use mathlib.Core.Logic.{_⊎_, inl, inr, ⊎-elim}
 use lib.ListN.{length, getD, set, replicate, length-set, length-replicate}
-use Rattle.lead.specs.Lead.{anyMarked, isNew, visited, swept, found, closed, clear, leading, arcs}
+use Rattle.lead.specs.Lead.{unmarked, anyMarked, isNew, visited, swept, found, closed, clear, leading, arcs}
 
 pub cases : (b : Bool) → (b ≡ true) ⊎ (b ≡ false)
 cases true = inl refl
@@ -16,30 +16,7 @@ pub clear-length : length clear ≡ 160
 unfolding clear
 clear-length = length-replicate 160 false
 
-or-false : (b : Bool) → (b || false) ≡ b
-or-false true = refl
-or-false false = refl
-
--- the three answers for two targets
-module _ (l : List ℕ) (m : List Bool) (a : ℕ) where
-  pub new-not : getD m a false ≡ true → false ≡ isNew (arcs l) m a
-  unfolding isNew
-  new-not e = sym (rw e)
-
-  pub new-first : getD m a false ≡ false → getD m (getD l (2 * a) 0) false ≡ true → true ≡ isNew (arcs l) m a
-  unfolding isNew
-  new-first e f = sym (rw (e, f))
-
-  pub new-second : getD m a false ≡ false → getD m (getD l (2 * a) 0) false ≡ false → getD m (getD l (2 * a + 1) 0) false ≡ isNew (arcs l) m a
-  unfolding isNew
-  new-second e f = sym (rw (e, f) (or-false (getD m (getD l (2 * a + 1) 0) false)))
-
--- blocks that are not marked
-unfoldable pub unmarked : List Bool → ℕ
-unmarked [] = 0
-unmarked (b ∷ m) = cond b 0 1 + unmarked m
-
-unmarked-set : (m : List Bool) (a : ℕ) → a < length m → getD m a false ≡ false → unmarked (set m a true) + 1 ≡ unmarked m
+pub unmarked-set : (m : List Bool) (a : ℕ) → a < length m → getD m a false ≡ false → unmarked (set m a true) + 1 ≡ unmarked m
 unfolding unmarked
 unmarked-set [] a h e = absurd (omega arith)
 unmarked-set (b ∷ m) zero h e = rw e (omega arith)
@@ -84,27 +61,6 @@ module _ (next : ℕ → List ℕ) where
       let j = unmarked-visited m a h in
       omega arith
 
-  -- one block more of a sweep
-  pub swept-step : (a : ℕ) (m : List Bool) → 0 < a → swept next (a - 1) (visited next m (a - 1)) ≡ swept next a m
-  unfolding swept
-  swept-step zero m h = absurd (omega arith)
-  swept-step (suc a) m h = let e : suc a - 1 ≡ a = omega arith in rw e
-
-  pub found-step : (a : ℕ) (m : List Bool) → 0 < a → cond (isNew next m (a - 1)) 1 0 + found next (a - 1) (visited next m (a - 1)) ≡ found next a m
-  unfolding found
-  found-step zero m h = absurd (omega arith)
-  found-step (suc a) m h = let e : suc a - 1 ≡ a = omega arith in rw e
-
-  pub swept-end : (a : ℕ) (m : List Bool) → a ≤ 0 → m ≡ swept next a m
-  unfolding swept
-  swept-end zero m h = refl
-  swept-end (suc a) m h = absurd (omega arith)
-
-  pub found-end : (a : ℕ) (m : List Bool) → a ≤ 0 → found next a m ≡ 0
-  unfolding found
-  found-end zero m h = refl
-  found-end (suc a) m h = absurd (omega arith)
-
   -- one sweep more
   pub closed-last : (f : ℕ) (m : List Bool) → found next 160 m ≡ 0 → closed next (suc f) m ≡ swept next 160 m
   unfolding closed
@@ -130,38 +86,6 @@ module _ (next : ℕ → List ℕ) where
   pub length-leading : (t : ℕ) → length (leading next t) ≡ 160
   unfolding leading
   length-leading t = length-closed 161 (set clear t true) ∙ length-set clear t true ∙ clear-length
-
-  -- the sweeps that are left come to the same marks
-  pub record Left (t : ℕ) (m : List Bool) : Type 0 where
-    pub sweeps : ℕ
-    pub enough : unmarked m < sweeps
-    pub same : closed next sweeps m ≡ leading next t
-
-  pub left-all : (t : ℕ) {m : List Bool} → m ≡ set clear t true → Left t m
-  unfolding leading
-  left-all t {m} e = record {
-    sweeps = 161;
-    enough = let i = unmarked-le m in let j = ap length e ∙ length-set clear t true ∙ clear-length in omega arith;
-    same = ap (closed next 161) e;
-  }
-
-  pub left-more : (t : ℕ) {m n : List Bool} → length m ≡ 160 → Left t m → 0 < found next 160 m → n ≡ swept next 160 m → Left t n
-  left-more t {m} {n} l h i e = by (h .sweeps) (h .enough) (h .same)
-    where
-      by : (f : ℕ) → unmarked m < f → closed next f m ≡ leading next t → Left t n
-      by zero a b = absurd (omega arith)
-      by (suc f) a b = record {
-        sweeps = f;
-        enough = rw e (let u = unmarked-swept 160 m (omega arith) in omega arith);
-        same = ap (closed next f) e ∙ sym (closed-more f m i) ∙ b;
-      }
-
-  pub left-none : (t : ℕ) {m n : List Bool} → Left t m → found next 160 m ≡ 0 → n ≡ swept next 160 m → n ≡ leading next t
-  left-none t {m} {n} h i e = by (h .sweeps) (h .enough) (h .same)
-    where
-      by : (f : ℕ) → unmarked m < f → closed next f m ≡ leading next t → n ≡ leading next t
-      by zero a b = absurd (omega arith)
-      by (suc f) a b = e ∙ sym (closed-last f m i) ∙ b
 
 -- the same answers where the targets come to the same
 module _ (one two : ℕ → List ℕ) (same : (m : List Bool) (a : ℕ) → length m ≡ 160 → a < 160 → isNew one m a ≡ isNew two m a) where

@@ -10,8 +10,8 @@ use borrow.Author.Tests.{eqb-true, eq-eqb, ltb-true, ltb-false, eqb-false}
 use lib.Dec.{eqb, ltb}
 use lib.ListN.{length, getD, set, replicate, length-set, length-replicate, getD-replicate, List·getD-eq-default}
 use lib.Seq.{getD-set-same, getD-set-other, set-out}
-use Rattle.lead.specs.Lead.{isIn, anyMarked, Chain, Leads, isNew, visited, swept, found, closed, clear, leading}
-use Rattle.lead.proofs.Laws.{cases, clear-length, unmarked, unmarked-le, visited-new, visited-old, new-unmarked, length-visited, length-swept, unmarked-swept, closed-last, closed-more}
+use Rattle.lead.specs.Lead.{unmarked, isIn, anyMarked, Chain, Leads, isNew, visited, swept, found, closed, clear, leading}
+use Rattle.lead.proofs.Laws.{cases, clear-length, unmarked-le, visited-new, visited-old, new-unmarked, length-visited, length-swept, unmarked-swept, closed-last, closed-more}
 
 false-true : {A : Type 0} {b : Bool} → b ≡ false → b ≡ true → A
 false-true e f = absurd (mathlib.Core.Bool.false≢true (sym e ∙ f))
@@ -20,7 +20,7 @@ no-more : (a b : ℕ) → a + b ≡ 0 → (a ≡ 0) × (b ≡ 0)
 no-more a b h = (omega arith, omega arith)
 
 -- a marked one of some blocks
-marked-in : (m : List Bool) (ss : List ℕ) → anyMarked m ss ≡ true → (s : ℕ) × (isIn s ss ≡ true) × (getD m s false ≡ true)
+pub marked-in : (m : List Bool) (ss : List ℕ) → anyMarked m ss ≡ true → (s : ℕ) × (isIn s ss ≡ true) × (getD m s false ≡ true)
 marked-in m [] e = absurd (mathlib.Core.Bool.false≢true e)
 marked-in m (t ∷ ts) e = by (marked-in m ts) (cases (getD m t false))
   where
@@ -34,7 +34,7 @@ marked-in m (t ∷ ts) e = by (marked-in m ts) (cases (getD m t false))
         or-true true = refl
         or-true false = refl
 
-in-marked : (m : List Bool) (s : ℕ) (ss : List ℕ) → isIn s ss ≡ true → getD m s false ≡ true → anyMarked m ss ≡ true
+pub in-marked : (m : List Bool) (s : ℕ) (ss : List ℕ) → isIn s ss ≡ true → getD m s false ≡ true → anyMarked m ss ≡ true
 in-marked m s [] e h = absurd (mathlib.Core.Bool.false≢true e)
 in-marked m s (t ∷ ts) e h = by (in-marked m s ts) (cases (eqb t s))
   where
@@ -50,15 +50,15 @@ pub clear-at : (a : ℕ) → a < 160 → getD clear a false ≡ false
 unfolding clear
 clear-at a h = getD-replicate 160 a false false h
 
-clear-all : (a : ℕ) → getD clear a false ≡ false
+pub clear-all : (a : ℕ) → getD clear a false ≡ false
 clear-all a = ⊎-elim (λ (i : ltb a 160 ≡ true). clear-at a (ltb-true a 160 i)) (λ (i : ltb a 160 ≡ false). List·getD-eq-default clear false (rw clear-length (ltb-false a 160 i))) (cases (ltb a 160))
 
 module _ (next : ℕ → List ℕ) where
-  new-any : (m : List Bool) (a : ℕ) → isNew next m a ≡ true → anyMarked m (next a) ≡ true
+  pub new-any : (m : List Bool) (a : ℕ) → isNew next m a ≡ true → anyMarked m (next a) ≡ true
   unfolding isNew
   new-any m a e = sym (rw (new-unmarked next m a e)) ∙ e
 
-  any-new : (m : List Bool) (a : ℕ) → isNew next m a ≡ false → anyMarked m (next a) ≡ true → getD m a false ≡ true
+  pub any-new : (m : List Bool) (a : ℕ) → isNew next m a ≡ false → anyMarked m (next a) ≡ true → getD m a false ≡ true
   unfolding isNew
   any-new m a e h = ⊎-elim (λ (t : getD m a false ≡ true). t) (λ (t : getD m a false ≡ false). false-true e (rw (t, h))) (cases (getD m a false))
 
@@ -145,7 +145,7 @@ module _ (next : ℕ → List ℕ) where
       by (suc k) e more a i = rw (closed-more next f m (omega arith)) (more (let u = unmarked-swept next 160 m (omega arith) in omega arith) a i)
 
   -- marks with nothing new hold every block that leads to a marked one
-  complete : (m : List Bool) (t : ℕ) → ((a : ℕ) → a < 160 → isNew next m a ≡ false) → ((a : ℕ) → 160 ≤ a → next a ≡ []) → getD m t false ≡ true → (ss : List ℕ) (a : ℕ) → Chain next t a ss → getD m a false ≡ true
+  pub complete : (m : List Bool) (t : ℕ) → ((a : ℕ) → a < 160 → isNew next m a ≡ false) → ((a : ℕ) → 160 ≤ a → next a ≡ []) → getD m t false ≡ true → (ss : List ℕ) (a : ℕ) → Chain next t a ss → getD m a false ≡ true
   complete m t none past e [] a c = rw c e
   complete m t none past e (s ∷ ss) a c = by (complete m t none past e ss s (c .1)) (cases (ltb a 160))
     where
@@ -163,6 +163,43 @@ module _ (next : ℕ → List ℕ) where
   pub starts : (t : ℕ) → t < 160 → getD (leading next t) t false ≡ true
   unfolding leading
   starts t h = kept-closed 161 (set clear t true) t (getD-set-same clear t true false (rw clear-length h))
+
+  pub leading-none : (t a : ℕ) → a < 160 → isNew next (leading next t) a ≡ false
+  unfolding leading
+  leading-none t = let m = set clear t true in none-left 161 m (start-length t) (let i = unmarked-le m in let l = start-length t in omega arith)
+
+  -- marks with nothing new hold all that the sweeps mark
+  module _ (m : List Bool) (none : (a : ℕ) → a < 160 → isNew next m a ≡ false) where
+    Under : List Bool → Type 0
+    Under n = (a : ℕ) → getD n a false ≡ true → getD m a false ≡ true
+
+    under-visited : (n : List Bool) (b : ℕ) → b < 160 → Under n → Under (visited next n b)
+    unfolding Under
+    under-visited n b h u a e = ⊎-elim is (λ (i : isNew next n b ≡ false). u a (sym (ap (λ (l : List Bool). getD l a false) (visited-old next n b i)) ∙ e)) (cases (isNew next n b))
+      where
+        here : isNew next n b ≡ true → getD m b false ≡ true
+        here i = let s = marked-in n (next b) (new-any n b i) in any-new m b (none b h) (in-marked m (s .0) (next b) (s .1) (u (s .0) (s .2)))
+
+        is : isNew next n b ≡ true → getD m a false ≡ true
+        is i = ⊎-elim (λ (j : eqb a b ≡ true). rw (eqb-true a b j) (here i)) (λ (j : eqb a b ≡ false). u a (sym (getD-set-other n b a true false (eqb-false a b j)) ∙ sym (ap (λ (l : List Bool). getD l a false) (visited-new next n b i)) ∙ e)) (cases (eqb a b))
+
+    under-swept : (k : ℕ) (n : List Bool) → k ≤ 160 → Under n → Under (swept next k n)
+    unfolding swept
+    under-swept zero n h u = u
+    under-swept (suc b) n h u = under-swept b (visited next n b) (omega arith) (under-visited n b h u)
+
+    under-closed : (f : ℕ) (n : List Bool) → Under n → Under (closed next f n)
+    unfolding closed
+    under-closed zero n u = u
+    under-closed (suc f) n u = by (found next 160 n) refl (under-closed f (swept next 160 n) (under-swept 160 n (omega arith) u))
+      where
+        by : (k : ℕ) → found next 160 n ≡ k → Under (closed next f (swept next 160 n)) → Under (closed next (suc f) n)
+        by zero e i = subst Under (sym (closed-last next f n e)) (under-swept 160 n (omega arith) u)
+        by (suc k) e i = subst Under (sym (closed-more next f n (omega arith))) i
+
+    pub leading-least : (t : ℕ) → getD m t false ≡ true → (a : ℕ) → getD (leading next t) a false ≡ true → getD m a false ≡ true
+    unfolding leading Under
+    leading-least t e = under-closed 161 (set clear t true) (λ a i. ⊎-elim (λ (j : eqb a t ≡ true). rw (eqb-true a t j) e) (λ (j : eqb a t ≡ false). false-true (getD-set-other clear t a true false (eqb-false a t j) ∙ clear-all a) i) (cases (eqb a t)))
 
   -- no block leads to one that isn't there
   none-any : (ss : List ℕ) → anyMarked clear ss ≡ false

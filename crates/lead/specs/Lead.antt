@@ -62,3 +62,8 @@ module _ (next : ℕ → List ℕ) where
 -- the targets of the blocks, two for each, in one list
 abbrev pub arcs : List ℕ → ℕ → List ℕ
 arcs l a = getD l (2 * a) 0 ∷ getD l (2 * a + 1) 0 ∷ []
+
+-- blocks that are not marked
+unfoldable pub unmarked : List Bool → ℕ
+unmarked [] = 0
+unmarked (b ∷ m) = cond b 0 1 + unmarked m

@@ -17,6 +17,7 @@ use Rattle.read.specs.Parts.{part}
 use Rattle.read.proofs.Laws.{part-length, part-at}
 use Rattle.inst.specs.declared.Code.{Code}
 use Rattle.codec.specs.Codec.{codeOf, instOf}
+use Rattle.lead.specs.Search.{Links, Threads}
 use Rattle.tidy.specs.Tidy.{targetsOf, lastOf}
 use Rattle.tidy.specs.Work.{Pair, TargetsIn, blockRecords, blockCode, blocksIn, Fit}
 use Rattle.tidy.proofs.Tables.{blocks-length, block-in, block-code}
@@ -54,13 +55,13 @@ block-last {rs} {l} h k {r} i e =
 abbrev pub Noted : List Record → Layout → ℕ → List ℕ → Type 0
 Noted rs l k ts = (a : ℕ) → a < 160 → (a < k → Pair (targetsOf (lastOf (getD (blocksIn rs l) a []))) (getD ts (2 * a) 0) (getD ts (2 * a + 1) 0)) × (k ≤ a → (getD ts (2 * a) 0 ≡ 160) × (getD ts (2 * a + 1) 0 ≡ 160))
 
-pub none-noted : (rs : List Record) (l : Layout) {ts : List ℕ} → ts ≡ replicate 320 160 → Noted rs l 0 ts
+pub none-noted : (rs : List Record) (l : Layout) {ts : List ℕ} → ts ≡ replicate 800 160 → Noted rs l 0 ts
 none-noted rs l {ts} e a h = (λ i. absurd (omega arith), λ i. (at (2 * a) (omega arith), at (2 * a + 1) (omega arith)))
   where
     at : (j : ℕ) → j < 320 → getD ts j 0 ≡ 160
-    at j i = ap (λ (t : List ℕ). getD t j 0) e ∙ getD-replicate 320 j 160 0 i
+    at j i = ap (λ (t : List ℕ). getD t j 0) e ∙ getD-replicate 800 j 160 0 (omega arith)
 
-pub more-noted : (rs : List Record) (l : Layout) (k : ℕ) (ts : List ℕ) (x y : ℕ) → length ts ≡ 320 → k < 160 → Noted rs l k ts → Pair (targetsOf (lastOf (getD (blocksIn rs l) k []))) x y → Noted rs l (k + 1) (set (set ts (2 * k) x) (2 * k + 1) y)
+pub more-noted : (rs : List Record) (l : Layout) (k : ℕ) (ts : List ℕ) (x y : ℕ) → length ts ≡ 800 → k < 160 → Noted rs l k ts → Pair (targetsOf (lastOf (getD (blocksIn rs l) k []))) x y → Noted rs l (k + 1) (set (set ts (2 * k) x) (2 * k + 1) y)
 more-noted rs l k ts x y s h n p a i = ⊎-elim (λ (e : eqb a k ≡ true). same (eqb-true a k e)) (λ (e : eqb a k ≡ false). other (eqb-false a k e)) (cases (eqb a k))
   where
     new : List ℕ
@@ -92,3 +93,14 @@ all-noted {rs} {l} h k ts i n a j = ⊎-elim (λ (e : ltb a k ≡ true). n a j .
         let m = length-map (blockRecords rs l) (blockCode rs l) in
         let q = blocks-length h in
         subst (λ (b : List Code). Pair (targetsOf (lastOf b)) (getD ts (2 * a) 0) (getD ts (2 * a + 1) 0)) (sym (List·getD-eq-default (blocksIn rs l) [] {n = a} (omega arith))) (n a j .1 e)
+
+-- the places past the targets are not written
+pub none-linked : {ts : List ℕ} → ts ≡ replicate 800 160 → Links ts
+none-linked e i h j = ap (λ (t : List ℕ). getD t i 0) e ∙ getD-replicate 800 i 160 0 j
+
+pub still-linked : (ts : List ℕ) (k x y : ℕ) → k < 160 → Links ts → Links (set (set ts (2 * k) x) (2 * k + 1) y)
+still-linked ts k x y h n i j l = getD-set-other (set ts (2 * k) x) (2 * k + 1) i y 0 (omega arith) ∙ getD-set-other ts (2 * k) i x 0 (omega arith) ∙ n i j l
+
+-- and the chains leave the targets as they are
+pub threaded-targets : (rs : List Record) (l : Layout) (ts us : List ℕ) → TargetsIn rs l ts → Threads 320 ts us → TargetsIn rs l us
+threaded-targets rs l ts us n t a h = rw (t .same (2 * a) (omega arith), t .same (2 * a + 1) (omega arith)) (n a h)

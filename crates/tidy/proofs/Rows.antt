@@ -12,6 +12,7 @@ use lib.ListN.{length, getD, take, drop, replicate, length-drop, length-replicat
 use lib.Seq.{getD-take, getD-drop, take-take, take-nil, drop-drop, take-at, drop-at, length-take-le}
 use Rattle.layout.proofs.Walks.{cases}
 use Rattle.lead.specs.Lead.{arcs, clear, leading}
+use Rattle.lead.specs.Search.{Threaded}
 use Rattle.lead.proofs.Laws.{length-leading}
 use Rattle.lead.proofs.Paths.{clear-at, starts}
 use Rattle.tidy.specs.Work.{row, Kept}
@@ -74,6 +75,7 @@ pub kept-put : {targets : List ℕ} {rows new : List Bool} (t : ℕ) → t < 160
 kept-put {targets} {rows} {new} t h k e =
     let n : length new ≡ 160 = ap length e ∙ length-leading (arcs targets) t in
     record {
+      threads = k .threads;
       size = put-length rows new t h (k .size) n ∙ k .size;
       each = λ u i. ⊎-elim
           (λ (j : eqb u t ≡ true). inr (subst (λ (x : ℕ). row x (putMid (160 * t) (160 * t + 160 - 160 * t) rows new) ≡ leading (arcs targets) x) (sym (eqb-true u t j)) (put-same rows new t h (k .size) n ∙ e)))
@@ -100,9 +102,10 @@ take-replicate (suc m) (suc n) h = ap (λ (l : List Bool). false ∷ l) (take-re
 clear-row : (t n k : ℕ) → k ≡ 160 → 160 * t + 160 ≤ n → row t (replicate n false) ≡ replicate k false
 clear-row t n k e h = ap (take 160) (drop-replicate (160 * t) n) ∙ take-replicate 160 (n - 160 * t) (omega arith) ∙ ap (λ (j : ℕ). replicate j false) (sym e)
 
-pub none-kept : (targets : List ℕ) (rows : List Bool) (n : ℕ) → n ≡ 25600 → rows ≡ replicate n false → Kept targets rows
+pub none-kept : {targets : List ℕ} (rows : List Bool) (n : ℕ) → Threaded targets → n ≡ 25600 → rows ≡ replicate n false → Kept targets rows
 unfolding clear
-none-kept targets rows n s e = record {
+none-kept rows n th s e = record {
+  threads = th;
   size = ap length e ∙ length-replicate n false ∙ s;
   each = λ t h. inl (ap (row t) e ∙ clear-row t n 160 refl (omega arith));
 }

@@ -16,6 +16,7 @@ use Rattle.inst.specs.declared.Code.{Code}
 use Rattle.codec.specs.Codec.{codeOf, instOf}
 use Rattle.roles.specs.declared.Roles.{Roles}
 use Rattle.lead.specs.Lead.{arcs, clear, leading}
+use Rattle.lead.specs.Search.{Threaded}
 use Rattle.tidy.specs.declared.Tidiness.{Tidiness}
 use Rattle.tidy.specs.Tidy.{Placed, Field, wrong, targetsOf, lastOf, told, regsOf}
 
@@ -79,6 +80,7 @@ abbrev pub row : ℕ → List Bool → List Bool
 row t rows = take 160 (drop (160 * t) rows)
 
 pub record Kept (targets : List ℕ) (rows : List Bool) : Type 0 where
+  pub threads : Threaded targets
   pub size : length rows ≡ 25600
   pub each : (t : ℕ) → t < 160 → (row t rows ≡ clear) ⊎ (row t rows ≡ leading (arcs targets) t)
 

@@ -24,8 +24,9 @@ fn judge(b: &[u8], l: Layout) -> Tidiness
 {
     let mut ws = [0u32; 756];
     writers::note_blocks(b, l, &mut ws);
-    let mut targets = [160u32; 320];
+    let mut targets = [160u32; 800];
     targets::note_targets(b, l, &mut targets);
+    lead::thread(&mut targets);
     let mut rows = [false; 25600];
     let s = Tidiness {
         number: 0,

@@ -16,7 +16,7 @@ use layout::Layout;
 use roles::Roles;
 
 // Whether a block leads to another. The blocks that lead to one are marked once, when they are first asked for.
-fn leads(targets: &[u32; 320], rows: &mut [bool], from: usize, to: usize) -> bool
+fn leads(targets: &[u32; 800], rows: &mut [bool], from: usize, to: usize) -> bool
     requires { ⌜ (from < 160) × Kept (now targets) (now rows) ⌝ }
     ensures { λ z. ⌜ Kept (now (targets .entry)) (now (rows .exit)) × (z ≡ getD (leading (arcs (now (targets .entry))) to) from false) ⌝ }
 {
@@ -33,7 +33,7 @@ fn leads(targets: &[u32; 320], rows: &mut [bool], from: usize, to: usize) -> boo
 }
 
 // Whether a read is wrong, by what the table has of its register's writers.
-fn wrong(v: u32, block: u32, place: u32, targets: &[u32; 320], rows: &mut [bool]) -> bool
+fn wrong(v: u32, block: u32, place: u32, targets: &[u32; 800], rows: &mut [bool]) -> bool
     requires { ⌜ (block < 160) × Kept (now targets) (now rows) ⌝ }
     ensures { λ z. ⌜ Kept (now (targets .entry)) (now (rows .exit)) × (z ≡ judged (arcs (now (targets .entry))) v block place) ⌝ }
 {
@@ -83,7 +83,7 @@ fn lower(s: Tidiness, r: u32) -> Tidiness
 fn read_one(
     registers: usize,
     ws: &[u32],
-    targets: &[u32; 320],
+    targets: &[u32; 800],
     rows: &mut [bool],
     block: u32,
     place: u32,
@@ -142,7 +142,7 @@ fn read_roles(
     b: &[u8],
     l: Layout,
     ws: &[u32],
-    targets: &[u32; 320],
+    targets: &[u32; 800],
     rows: &mut [bool],
     roles: Roles,
     block: u32,
@@ -167,7 +167,7 @@ fn read_inst(
     b: &[u8],
     l: Layout,
     ws: &[u32],
-    targets: &[u32; 320],
+    targets: &[u32; 800],
     rows: &mut [bool],
     at: usize,
     block: u32,
@@ -185,7 +185,7 @@ fn read_block(
     b: &[u8],
     l: Layout,
     ws: &[u32],
-    targets: &[u32; 320],
+    targets: &[u32; 800],
     rows: &mut [bool],
     first: usize,
     count: usize,
@@ -209,7 +209,7 @@ pub fn read_blocks(
     b: &[u8],
     l: Layout,
     ws: &[u32],
-    targets: &[u32; 320],
+    targets: &[u32; 800],
     rows: &mut [bool],
     s: Tidiness,
 ) -> Tidiness

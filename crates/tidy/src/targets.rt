@@ -1,7 +1,8 @@
 ghost use mathlib.Core.Path.{_≡_};
 ghost use mathlib.Core.List.{[]};
 ghost use Prim.Native.Nat.{ℕ, _+_, _*_, _≤_, _<_};
-ghost use lib.ListN.{getD, replicate};
+ghost use lib.ListN.{length, getD, replicate};
+ghost use Rattle.lead.specs.Search.{Links};
 ghost use Rattle.format.specs.Record.{recordsOf};
 ghost use Rattle.codec.specs.Codec.{instOf};
 ghost use Rattle.tidy.specs.Tidy.{targetsOf, lastOf};
@@ -33,10 +34,10 @@ fn targets_of(r: Record) -> Targets
     Targets { one: 160, two: 160 }
 }
 
-// The targets of all blocks, two for each.
-pub fn note_targets(b: &[u8], l: Layout, targets: &mut [u32; 320])
-    requires { ⌜ Fit (recordsOf (now b)) l × (now targets ≡ replicate 320 160) ⌝ }
-    ensures { λ u. ⌜ TargetsIn (recordsOf (now (b .entry))) l (now (targets .exit)) ⌝ }
+// The targets of all blocks, two for each; the rest is for the chains of `lead`.
+pub fn note_targets(b: &[u8], l: Layout, targets: &mut [u32; 800])
+    requires { ⌜ Fit (recordsOf (now b)) l × (now targets ≡ replicate 800 160) ⌝ }
+    ensures { λ u. ⌜ TargetsIn (recordsOf (now (b .entry))) l (now (targets .exit)) × (length (now (targets .exit)) ≡ 800) × Links (now (targets .exit)) ⌝ }
 {
     let count = l.bodies - l.blocks;
     let mut k = 0;

@@ -46,7 +46,7 @@ part-lead-to-end : tie.Need-part-lead-to-end
 part-lead-to-end c = search needs
 
 lead-to-requires : tie.Need-lead-to-requires
-lead-to-requires c κs = let s = c .before .before .before .before .before in let a = s .args in let h : a .to < 160 = omega arith in let e : 160 * a .to + 160 - 160 * a .to ≡ 160 = omega arith in (h, rw e (unasked (s .pre .1) (a .to) h (c .before .if2 .left)))
+lead-to-requires c κs = let s = c .before .before .before .before .before in let a = s .args in let h : a .to < 160 = omega arith in let e : 160 * a .to + 160 - 160 * a .to ≡ 160 = omega arith in (h, s .pre .1 .threads, rw e (unasked (s .pre .1) (a .to) h (c .before .if2 .left)))
 
 add-result-2 : tie.Need-add-result-2
 add-result-2 c = search needs

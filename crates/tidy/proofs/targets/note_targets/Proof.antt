@@ -1,3 +1,4 @@
+use Rattle.lead.specs.Search.{Links}
 use Prim.Native.Nat.{ℕ, _+_, _*_, _-_, _≤_}
 use mathlib.Core.Path.{_≡_, sym, ap, subst, _∙_}
 use native.Mathlib.Omega.{arith}
@@ -11,12 +12,12 @@ use Rattle.codec.specs.Codec.{instOf}
 use Rattle.tidy.specs.Tidy.{targetsOf}
 use Rattle.tidy.specs.Work.{Pair}
 use Rattle.tidy.proofs.Tables.{block-in}
-use Rattle.tidy.proofs.Arcs.{Noted, none-noted, more-noted, all-noted, block-last}
+use Rattle.tidy.proofs.Arcs.{none-linked, still-linked, Noted, none-noted, more-noted, all-noted, block-last}
 use Rattle.tidy.proofs.targets.note_targets.Statement.{statement}
 use Rattle.tidy.proofs.targets.note_targets.Tie as tie
 
 abbrev Inv-loop : tie.InvT-loop
-Inv-loop b l targets₀ count k₀ targets k = (k ≤ count) × (length targets ≡ 320) × Noted (recordsOf b) l k targets
+Inv-loop b l targets₀ count k₀ targets k = (k ≤ count) × (length targets ≡ 800) × Links targets × Noted (recordsOf b) l k targets
 
 abbrev μ-loop : tie.MeasureT-loop
 μ-loop b l targets₀ count k₀ targets k = count - k
@@ -25,7 +26,7 @@ sub-count : tie.Need-sub-count Inv-loop μ-loop
 sub-count c = search needs
 
 loop-holds : tie.Need-loop-holds Inv-loop μ-loop
-loop-holds c = let s = c .before .before in (omega arith, ap length (s .pre .1) ∙ length-replicate {A = ℕ} 320 160, none-noted (recordsOf (now (s .args .b))) (s .args .l) (s .pre .1))
+loop-holds c = let s = c .before .before in (omega arith, ap length (s .pre .1) ∙ length-replicate {A = ℕ} 800 160, none-linked (s .pre .1), none-noted (recordsOf (now (s .args .b))) (s .args .l) (s .pre .1))
 
 add-record-at : tie.Need-add-record-at Inv-loop μ-loop
 add-record-at c = let s = c .before .before .before .before .before in let f = s .pre .0 in let q = length-records (now (s .args .b)) in omega arith
@@ -81,10 +82,10 @@ loop-again c = let s = c .before .before .before .before .before .before .before
     let t = c .targets-of .result in
     let e = block-last f (l .loop .k) (omega arith) (c .before .before .before .before .record-at .ensures) in
     let p = subst (λ (x : Inst). Pair (targetsOf x) (t .one) (t .two)) (ap instOf (c .before .record-at2 .ensures) ∙ sym e) (c .targets-of .ensures) in
-    (omega arith, length-set (set (l .loop .targets) (2 * l .loop .k) (t .one)) (2 * l .loop .k + 1) (t .two) ∙ length-set (l .loop .targets) (2 * l .loop .k) (t .one) ∙ l .loop .inv .1, more-noted rs (s .args .l) (l .loop .k) (l .loop .targets) (t .one) (t .two) (l .loop .inv .1) (omega arith) (l .loop .inv .2) p)
+    (omega arith, length-set (set (l .loop .targets) (2 * l .loop .k) (t .one)) (2 * l .loop .k + 1) (t .two) ∙ length-set (l .loop .targets) (2 * l .loop .k) (t .one) ∙ l .loop .inv .1, still-linked (l .loop .targets) (l .loop .k) (t .one) (t .two) (omega arith) (l .loop .inv .2), more-noted rs (s .args .l) (l .loop .k) (l .loop .targets) (t .one) (t .two) (l .loop .inv .1) (omega arith) (l .loop .inv .3) p)
 
 returns : tie.Need-returns Inv-loop μ-loop
-returns c = all-noted (c .before .before .before .before .pre .0) (c .before .loop .k) (c .before .loop .targets) (c .loop-test .left) (c .before .loop .inv .2)
+returns c = let i = c .before .loop .inv in (all-noted (c .before .before .before .before .pre .0) (c .before .loop .k) (c .before .loop .targets) (c .loop-test .left) (i .3), i .1, i .2)
 
 pub note-targets-spec : {M : Type 1} → statement M
 note-targets-spec =
