@@ -1,12 +1,12 @@
 -- Laws of marking: what one block more does, and how the unmarked blocks grow fewer.
-use Prim.Native.Nat.{ℕ, zero, suc, _+_, _-_, _*_, _≤_, _<_}
+use Prim.Native.Nat.{ℕ, zero, suc, _+_, _≤_, _<_}
 use native.Mathlib.Omega.{arith}
-use mathlib.Core.Path.{_≡_, refl, sym, ap, subst, _∙_}
-use mathlib.Core.Bool.{Bool, true, false, _&&_, _||_, not, cond}
+use mathlib.Core.Path.{_≡_, refl, sym, ap, _∙_}
+use mathlib.Core.Bool.{Bool, true, false, cond}
 use mathlib.Core.List.{List, [], _∷_}
 use mathlib.Core.Logic.{_⊎_, inl, inr, ⊎-elim}
-use lib.ListN.{length, getD, set, replicate, length-set, length-replicate}
-use Rattle.lead.specs.Lead.{unmarked, anyMarked, isNew, visited, swept, found, closed, clear, leading, arcs}
+use lib.ListN.{length, getD, set, length-set, length-replicate}
+use Rattle.lead.specs.Lead.{unmarked, isNew, visited, swept, found, closed, clear, leading}
 
 pub cases : (b : Bool) → (b ≡ true) ⊎ (b ≡ false)
 cases true = inl refl

@@ -1,17 +1,16 @@
 -- The blocks that the sweeps mark are those that lead to the first one marked, over any number of blocks.
 use Prim.Native.Nat.{ℕ, zero, suc, _+_, _≤_, _<_}
 use native.Mathlib.Omega.{arith}
-use native.Mathlib.Nat.{eq-or-lt-of-le}
 use mathlib.Core.Path.{_≡_, refl, sym, ap, subst, _∙_}
-use mathlib.Core.Bool.{Bool, true, false, _&&_, _||_, not, cond}
+use mathlib.Core.Bool.{Bool, true, false, _||_, not, cond}
 use mathlib.Core.List.{List, [], _∷_}
 use mathlib.Core.Logic.{_⊎_, inl, inr, ⊎-elim, _↔_}
 use borrow.Author.Tests.{eqb-true, eq-eqb, ltb-true, ltb-false, eqb-false}
 use lib.Dec.{eqb, ltb}
-use lib.ListN.{length, getD, set, replicate, length-set, length-replicate, getD-replicate, List·getD-eq-default}
+use lib.ListN.{length, getD, set, length-set, getD-replicate, List·getD-eq-default}
 use lib.Seq.{getD-set-same, getD-set-other, set-out}
 use Rattle.lead.specs.Lead.{unmarked, isIn, anyMarked, Chain, Leads, isNew, visited, swept, found, closed, clear, leading}
-use Rattle.lead.proofs.Laws.{cases, clear-length, unmarked-le, visited-new, visited-old, new-unmarked, length-visited, length-swept, unmarked-swept, closed-last, closed-more}
+use Rattle.lead.proofs.Laws.{cases, clear-length, unmarked-le, visited-new, visited-old, new-unmarked, length-swept, unmarked-swept, closed-last, closed-more}
 
 false-true : {A : Type 0} {b : Bool} → b ≡ false → b ≡ true → A
 false-true e f = absurd (mathlib.Core.Bool.false≢true (sym e ∙ f))

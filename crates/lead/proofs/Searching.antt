@@ -1,13 +1,13 @@
 -- Laws of the search: a step along a chain, a block taken from the list, and the end.
-use Prim.Native.Nat.{ℕ, zero, suc, _+_, _-_, _*_, _/_, _%_, _≤_, _<_}
+use Prim.Native.Nat.{ℕ, suc, _+_, _-_, _*_, _/_, _%_, _≤_, _<_}
 use native.Mathlib.Omega.{arith}
 use mathlib.Core.Path.{_≡_, refl, sym, ap, subst, _∙_}
-use mathlib.Core.Bool.{Bool, true, false, _&&_, _||_, not, cond}
+use mathlib.Core.Bool.{Bool, true, false, _||_}
 use mathlib.Core.List.{List, [], _∷_, _++_}
 use mathlib.Core.Logic.{_⊎_, inl, inr, ⊎-elim}
-use borrow.Author.Tests.{eqb-true, eqb-false, eq-eqb, ltb-true, ltb-false}
-use lib.Dec.{eqb, ltb}
-use lib.ListN.{length, getD, set, take, length-set, length-append, List·getD-eq-default}
+use borrow.Author.Tests.{eqb-true, eqb-false, eq-eqb}
+use lib.Dec.{eqb}
+use lib.ListN.{length, getD, set, take, length-set, length-append}
 use lib.Seq.{getD-set-same, getD-set-other, ext-getD, take-suc}
 use Rattle.lead.specs.Lead.{isIn, anyMarked, isNew, arcs, unmarked, clear, leading}
 use Rattle.lead.specs.Search.{Ahead, On, Threaded, Arc, Due, Walk, Sized, Found, Step, Steps}

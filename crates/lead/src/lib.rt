@@ -1,6 +1,6 @@
 ghost use mathlib.Core.Path.{_≡_};
 ghost use mathlib.Core.List.{List};
-ghost use Prim.Native.Nat.{ℕ, _+_, _≤_, _<_};
+ghost use Prim.Native.Nat.{ℕ, _+_, _<_};
 ghost use lib.ListN.{length, getD};
 ghost use Rattle.lead.specs.Lead.{arcs, clear, leading};
 ghost use Rattle.lead.specs.Search.{Threaded, Sized, Found, Step, Steps, Links, Threads};

@@ -1,11 +1,11 @@
 -- What a file that Read accepts is, for the steps of Tidy.
-use Prim.Native.Nat.{ℕ, zero, suc, _+_, _*_, _-_, _/_, _%_, _≤_, _<_}
+use Prim.Native.Nat.{ℕ, _+_, _*_, _-_, _%_, _≤_, _<_}
 use native.Mathlib.Omega.{arith}
 use mathlib.Core.Path.{_≡_, refl, sym, ap, subst, _∙_}
 use mathlib.Core.Bool.{Bool, true, false, _||_, not, cond}
-use mathlib.Core.List.{List, [], _∷_, map}
-use mathlib.Core.Logic.{_⊎_, inl, inr, ⊎-elim}
-use borrow.Author.Tests.{ltb-true, ltb-false, eq-eqb, ne-eqb}
+use mathlib.Core.List.{List, [], map}
+use mathlib.Core.Logic.{_⊎_, inl, inr}
+use borrow.Author.Tests.{ltb-false, eq-eqb, ne-eqb}
 use lib.Dec.{eqb, ltb}
 use lib.ListN.{length, getD, replicate, length-map, length-replicate, getD-replicate}
 use Rattle.format.specs.declared.Record.{Record}
@@ -20,7 +20,7 @@ use Rattle.read.specs.Reading.{unless, answer, reading, readRecords, readBlocks
 use Rattle.read.specs.Parts.{part, InCode, LaidOut}
 use Rattle.read.proofs.Laid.{sizes, class-part, laid-of, end-is, in-tiles}
 use Rattle.codec.specs.Codec.{codeOf}
-use Rattle.procedure.specs.Procedure.{Procedure, procedureOf}
+use Rattle.procedure.specs.Procedure.{procedureOf}
 use Rattle.lead.specs.Lead.{arcs}
 use Rattle.inst.specs.declared.Code.{Code}
 use Rattle.tidy.specs.declared.Tidiness.{Tidiness}

@@ -1,10 +1,10 @@
 -- Laws of an instruction's kind and roles.
-use Prim.Native.Nat.{ℕ, _+_, _*_, _≤_}
+use Prim.Native.Nat.{ℕ, _≤_}
 use native.Mathlib.Omega.{arith}
-use mathlib.Core.Path.{_≡_, refl, sym, ap, _∙_}
+use mathlib.Core.Path.{_≡_}
 use mathlib.Core.List.{List, [], _∷_, _++_}
 use lib.Dec.{T, leb, leb→le}
-use lib.ListN.{length, take, drop, length-append}
+use lib.ListN.{take, length-append}
 use lib.Seq.{length-take-le}
 use Rattle.inst.specs.Inst.{kindOf}
 use Rattle.inst.specs.declared.Inst.{Inst}

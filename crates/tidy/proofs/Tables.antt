@@ -1,13 +1,13 @@
 -- Laws of the table of writers, and of the instructions that it is made from.
-use Prim.Native.Nat.{ℕ, zero, suc, _+_, _-_, _≤_, _<_}
+use Prim.Native.Nat.{ℕ, _+_, _-_, _≤_, _<_}
 use native.Mathlib.Numerals.{add-one}
 use native.Mathlib.Omega.{arith}
-use mathlib.Core.Path.{_≡_, refl, sym, ap, subst, _∙_}
-use mathlib.Core.Bool.{Bool, true, false, cond}
+use mathlib.Core.Path.{_≡_, refl, sym, ap, _∙_}
+use mathlib.Core.Bool.{cond}
 use mathlib.Core.List.{List, [], _∷_, _++_, map, append-assoc}
 use borrow.Author.Tests.{eq-eqb, ne-eqb}
 use lib.Dec.{eqb}
-use lib.ListN.{length, getD, set, take, drop, length-set, length-map, List·getD-map, drop-of-length-le}
+use lib.ListN.{length, getD, set, drop, length-set, length-map, List·getD-map, drop-of-length-le}
 use lib.Seq.{drop-cons, set-out}
 use Rattle.format.specs.declared.Record.{Record}
 use Rattle.format.specs.Record.{blank}

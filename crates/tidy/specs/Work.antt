@@ -1,24 +1,23 @@
 -- What the steps of Tidy keep: a table of writers, the targets of blocks, and the lowest register so far.
-use Prim.Native.Nat.{ℕ, zero, suc, _+_, _*_, _-_, _/_, _%_, _≤_, _<_, min}
+use Prim.Native.Nat.{ℕ, _+_, _*_, _-_, _/_, _%_, _≤_, _<_, min}
 use mathlib.Core.Path.{_≡_}
 use mathlib.Core.List.{List, [], _∷_, _++_, map}
-use mathlib.Core.Bool.{Bool, true, false, _&&_, not, cond}
+use mathlib.Core.Bool.{Bool, false, _&&_, cond}
 use mathlib.Core.Logic.{_⊎_}
 use lib.Dec.{eqb, ltb}
-use lib.ListN.{length, getD, set, take, drop, replicate}
+use lib.ListN.{length, getD, set, take, drop}
 use Rattle.format.specs.declared.Record.{Record}
-use Rattle.format.specs.Record.{blank}
 use Rattle.layout.specs.declared.Layout.{Layout}
 use Rattle.read.specs.Structure.{codeOf as recordsOfBlock}
 use Rattle.read.specs.Parts.{part, InCode}
 use Rattle.inst.specs.Inst.{kindOf}
 use Rattle.inst.specs.declared.Code.{Code}
-use Rattle.codec.specs.Codec.{codeOf, instOf}
+use Rattle.codec.specs.Codec.{codeOf}
 use Rattle.roles.specs.declared.Roles.{Roles}
 use Rattle.lead.specs.Lead.{arcs, clear, leading}
 use Rattle.lead.specs.Search.{Threaded}
 use Rattle.tidy.specs.declared.Tidiness.{Tidiness}
-use Rattle.tidy.specs.Tidy.{Placed, Field, wrong, targetsOf, lastOf, told, regsOf}
+use Rattle.tidy.specs.Tidy.{Placed, Field, wrong, targetsOf, lastOf, told}
 
 -- a writer as one number, at least 2
 abbrev pub packed : ℕ → ℕ → ℕ → ℕ

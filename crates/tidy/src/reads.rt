@@ -1,7 +1,7 @@
 ghost use mathlib.Core.Path.{_≡_};
-ghost use mathlib.Core.List.{map, [], _∷_};
+ghost use mathlib.Core.List.{map};
 ghost use mathlib.Core.Bool.{false};
-ghost use Prim.Native.Nat.{ℕ, _+_, _-_, _≤_, _<_};
+ghost use Prim.Native.Nat.{_+_, _-_, _≤_, _<_};
 ghost use lib.ListN.{length, getD};
 ghost use Rattle.format.specs.Record.{recordsOf, recordAt};
 ghost use Rattle.read.specs.Parts.{part};

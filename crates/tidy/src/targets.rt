@@ -1,11 +1,10 @@
 ghost use mathlib.Core.Path.{_≡_};
-ghost use mathlib.Core.List.{[]};
-ghost use Prim.Native.Nat.{ℕ, _+_, _*_, _≤_, _<_};
-ghost use lib.ListN.{length, getD, replicate};
+ghost use Prim.Native.Nat.{_+_, _*_, _<_};
+ghost use lib.ListN.{length, replicate};
 ghost use Rattle.lead.specs.Search.{Links};
 ghost use Rattle.format.specs.Record.{recordsOf};
 ghost use Rattle.codec.specs.Codec.{instOf};
-ghost use Rattle.tidy.specs.Tidy.{targetsOf, lastOf};
+ghost use Rattle.tidy.specs.Tidy.{targetsOf};
 ghost use Rattle.tidy.specs.Work.{Pair, TargetsIn, Fit};
 use format::Record;
 use layout::Layout;
