@@ -1,0 +1,6 @@
+pub mod Word
+pub mod Act
+pub mod Machine
+pub mod Single
+pub mod Demand
+pub mod Reading
