@@ -20,7 +20,7 @@ ROOT = os.path.dirname(os.path.dirname(os.path.dirname(os.path.abspath(__file__)
 REFERENCE = os.path.join(ROOT, "tests", "reference")
 sys.path.insert(0, REFERENCE)
 
-CRATES = "format store shape layout read real inst roles ops codec procedure steps".split()
+CRATES = "format store shape layout read real inst roles ops codec items procedure steps".split()
 A_FILE = 20  # answers in one file of the scratch crate
 
 
