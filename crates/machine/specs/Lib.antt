@@ -4,3 +4,5 @@ pub mod Machine
 pub mod Single
 pub mod Demand
 pub mod Reading
+pub mod Printed
+pub mod Refuted
