@@ -4,5 +4,7 @@ pub mod Machine
 pub mod Single
 pub mod Demand
 pub mod Reading
+pub mod Shorter
 pub mod Printed
 pub mod Refuted
+pub mod Holds
