@@ -116,3 +116,63 @@ module _ (outside : Outside) (address : Address) where
       → Q (enter outside address looping (choose v 1 3) g h) (enter outside address looping′ (choose v 1 3) g′ h)
   lands₁ zero g g′ h e = last g g′ h
   lands₁ (suc v) g g′ h e = act₁ g g′ h e
+
+  quiet₁ : (g : Regs) (h : List Act) (j : ℕ) → j ≤ 2 → seen l j (at (br 2 33 ∷ []) g h) ≡ record { acts = h; end = none }
+  unfolding effect opOf
+  quiet₁ g h zero x = refl
+  quiet₁ g h (suc zero) x = refl
+  quiet₁ g h (suc (suc zero)) x = refl
+  quiet₁ g h (suc (suc (suc j))) x = absurd (omega arith)
+
+  start-quiet : (k : Mach) (s : k.S) (j : ℕ) → j ≤ 0 → seen k j s ≡ k .show s
+  start-quiet k s zero x = refl
+  start-quiet k s (suc j) x = absurd (omega arith)
+
+  quiet₀ : (g : Regs) (h : List Act) (v : ℕ) → g 0 ≡ suc v → (j : ℕ) → j ≤ 1 → seen l′ j (at (condBr 0 0 1 31 ∷ []) g h) ≡ record { acts = h; end = none }
+  unfolding effect opOf
+  quiet₀ g h v a zero x = refl
+  quiet₀ g h v a (suc zero) x = refl
+  quiet₀ g h v a (suc (suc j)) x = absurd (omega arith)
+
+  -- block 0 again costs the original one instruction and the shortened form two
+  turns : (v : ℕ) (g g′ : Regs) (h : List Act) → g 0 ≡ v → g′ 0 ≡ v
+      → Stretch l l′ Q (at (condBr 0 0 1 31 ∷ []) g h) (at (condBr 0 0 1 31 ∷ []) g′ h)
+  unfolding effect opOf
+  turns zero g g′ h a b = together l l′ Q _ _ (rw (a, b) (omega arith)) (rw (a, b) (act₁ g g′ h (a ∙ sym b)))
+  turns (suc v) g g′ h a b =
+      record {
+        k = 0;
+        k′ = 1;
+        rel = rw (a, b) (act₀ g _ h (a ∙ sym b));
+        cheap = rw (a, b) (omega arith);
+        quiet = start-quiet l _;
+        quiet′ = quiet₀ g′ h v b;
+      }
+
+  go-on₂ : (s s′ : State) → Q s s′ → Stretch l l′ Q s s′
+  unfolding effect opOf
+  go-on₂ s s′ (act₀ g g′ h e) = together l l′ Q _ _ (omega arith) (acted₀ (outside h (actOf i.Stmt 30 [])) (actOf i.Stmt 30 []) g g′ h e)
+  go-on₂ s s′ (branch₀ g g′ h e) = turns (g 0) g g′ h refl (sym e)
+  go-on₂ s s′ (act₁ g g′ h e) = together l l′ Q _ _ (omega arith) (acted₁ (outside h (actOf i.Stmt 32 [])) (actOf i.Stmt 32 []) g g′ h e)
+  go-on₂ s s′ (branch₁ g g′ h e) =
+      record {
+        k = 2;
+        k′ = 0;
+        rel = rw (← e) (lands₁ (g 0) _ g′ h e);
+        cheap = omega arith;
+        quiet = quiet₁ g h;
+        quiet′ = start-quiet l′ _;
+      }
+  go-on₂ s s′ (last g g′ h) = together l l′ Q _ _ (omega arith) (over _ _)
+  go-on₂ s s′ (over h e) = together l l′ Q _ _ (omega arith) (over h e)
+
+pub looping-holds : Demand3 looping looping′ 1
+unfolding effect opOf
+looping-holds outside address g g′ s =
+    alike outside address looping looping′ 1 g g′ 0 1 (omega arith) still
+      (simulates _ _ (Q outside address) (same₂ outside address) (go-on₂ outside address) _ _ (act₀ g _ [] (s .same 0 (lit< tt))))
+  where
+    still : (i : ℕ) → i ≤ 1 → shows outside address looping′ 0 g′ i ≡ shows outside address looping 0 g 0
+    still zero l = refl
+    still (suc zero) l = refl
+    still (suc (suc i)) l = absurd (omega arith)
