@@ -72,8 +72,8 @@ module _ (outside : Outside) (address : Address) where
 
 pub printed-holds : Demand3 printed printed′ 0
 printed-holds outside address g g′ s =
-    alike outside address printed printed′ 0 g g′ 0 0 (omega arith) still
-      (simulates _ _ (R outside address) (same outside address) (go-on outside address) _ _ (act 10 11 g g′ [] (s .same 0 (lit< tt))))
+    alike outside address printed printed′ 0 0 g g′ 0 0 (omega arith) still
+    (simulates _ _ (R outside address) (same outside address) (go-on outside address) _ _ (act 10 11 g g′ [] (s .same 0 (lit< tt))))
   where
     still : (i : ℕ) → i ≤ 0 → shows outside address printed′ 0 g′ i ≡ shows outside address printed 0 g 0
     still zero l = refl
@@ -169,8 +169,8 @@ module _ (outside : Outside) (address : Address) where
 pub looping-holds : Demand3 looping looping′ 1
 unfolding effect opOf
 looping-holds outside address g g′ s =
-    alike outside address looping looping′ 1 g g′ 0 1 (omega arith) still
-      (simulates _ _ (Q outside address) (same₂ outside address) (go-on₂ outside address) _ _ (act₀ g _ [] (s .same 0 (lit< tt))))
+    alike outside address looping looping′ 0 1 g g′ 0 1 (omega arith) still
+    (simulates _ _ (Q outside address) (same₂ outside address) (go-on₂ outside address) _ _ (act₀ g _ [] (s .same 0 (lit< tt))))
   where
     still : (i : ℕ) → i ≤ 1 → shows outside address looping′ 0 g′ i ≡ shows outside address looping 0 g 0
     still zero l = refl

@@ -8,7 +8,7 @@ use native.Mathlib.Nat.{zero-add, suc-add}
 use Rattle.inst.specs.declared.Code.{Code}
 use Rattle.procedure.specs.Procedure.{Procedure}
 use Rattle.machine.specs.Act.{Act}
-use Rattle.machine.specs.Machine.{Regs, Address, Outside, End, Effect, writes, goes, ends, acts, State, at, done, Shown, shown, start, effectOf, answered, after, step, run}
+use Rattle.machine.specs.Machine.{Regs, Address, Outside, End, Effect, writes, goes, ends, asks, State, at, done, Shown, shown, start, effectOf, answered, after, step, run}
 use Rattle.machine.specs.Demand.{Alike, shows}
 
 pub record Prefix (xs ys : List Act) : Type 0 where
@@ -46,7 +46,7 @@ module _ (outside : Outside) (address : Address) (p : Procedure) where
   after-grows (writes vs) rs cs g h = prefix-refl h
   after-grows (goes b) rs cs g h = prefix-refl h
   after-grows (ends e) rs cs g h = prefix-refl h
-  after-grows (acts a) rs cs g h = answered-grows (outside h a) a rs cs g h
+  after-grows (asks a) rs cs g h = answered-grows (outside h a) a rs cs g h
 
   step-grows : (s : State) → Prefix (shown s .acts) (shown (step outside address p s) .acts)
   step-grows (at [] g h) = prefix-refl h

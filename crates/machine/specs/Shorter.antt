@@ -5,7 +5,7 @@ use native.Mathlib.Omega.{arith}
 use native.Mathlib.Nat.{zero-add, suc-add, le-trans}
 use native.Mathlib.Decide.{decLe}
 use Rattle.procedure.specs.Procedure.{Procedure}
-use Rattle.machine.specs.Machine.{Regs, Address, Outside, State, Shown, shown, start, step, run, entry, entered}
+use Rattle.machine.specs.Machine.{Regs, Address, Outside, State, Shown, shown, start, step, run, entry, entered, intoZero}
 use Rattle.machine.specs.Demand.{Alike, shows, entries}
 use Rattle.machine.specs.Reading.{run-add}
 
@@ -69,10 +69,11 @@ module _ (m m′ : Mach) (R : m.S → m′.S → Type 0) where
 
   there-join : (s : m.S) (s′ : m′.S) (k k′ n : ℕ) → spent m′ k′ s′ ≤ spent m k s
       → There m m′ n (steps m k s) (steps m′ k′ s′) → There m m′ (k + n) s s′
-  there-join s s′ k k′ n c t =
-      (k′ + t .0
-      , omega (arith, spent-add m k n s, spent-add m′ k′ (t .0) s′, t .1)
-      , ap (m′ .show) (steps-add m′ k′ (t .0) s′) ∙ t .2 ∙ sym (ap (m .show) (steps-add m k n s)))
+  there-join s s′ k k′ n c t = (
+    k′ + t .0,
+    omega (arith, spent-add m k n s, spent-add m′ k′ (t .0) s′, t .1),
+    ap (m′ .show) (steps-add m′ k′ (t .0) s′) ∙ t .2 ∙ sym (ap (m .show) (steps-add m k n s)),
+  )
 
   back-join : (s : m.S) (s′ : m′.S) (k k′ n′ : ℕ)
       → Back m m′ n′ (steps m k s) (steps m′ k′ s′) → Back m m′ (k′ + n′) s s′
@@ -88,6 +89,7 @@ module _ (m m′ : Mach) (R : m.S → m′.S → Type 0) where
       where
         x : Stretch s s′
         x = go-on s s′ r
+
         by : Dec (n ≤ x .k) → (n - suc (x .k) < b → There m m′ (n - suc (x .k)) (steps m (suc (x .k)) s) (steps m′ (suc (x .k′)) s′))
             → There m m′ n s s′
         by (yes h) t = (0, zero-le, sym (x .quiet n h ∙ same s s′ r))
@@ -101,6 +103,7 @@ module _ (m m′ : Mach) (R : m.S → m′.S → Type 0) where
       where
         x : Stretch s s′
         x = go-on s s′ r
+
         by : Dec (n ≤ x .k′) → (n - suc (x .k′) < b → Back m m′ (n - suc (x .k′)) (steps m (suc (x .k)) s) (steps m′ (suc (x .k′)) s′))
             → Back m m′ n s s′
         by (yes h) t = (0, x .quiet′ n h ∙ sym (same s s′ r))
@@ -133,29 +136,39 @@ module _ (outside : Outside) (address : Address) where
     spent-is κ zero s = omega arith
     spent-is κ (suc n) s = omega (arith, spent-is κ n (step outside address p s))
 
-  module _ (p q : Procedure) (κ : ℕ) (g g′ : Regs) where
-    abbrev front : ℕ → State
-    front j = run outside address q j (start outside address q 0 g′)
+  module _ (p q : Procedure) (block κ : ℕ) (g g′ : Regs) where
+    abbrev original : ℕ → Shown
+    original = shows outside address p block g
 
-    -- where q is silent for its first κ instructions at most, and shorter from there on
-    pub alike : (κ′ j : ℕ) → j ≤ κ → ((i : ℕ) → i ≤ j → shows outside address q 0 g′ i ≡ shows outside address p 0 g 0)
-        → Shorter (mach κ p) (mach κ′ q) (start outside address p 0 g) (front j)
-        → Alike (λ N. N + κ * entries outside address p 0 g N) (shows outside address p 0 g) (shows outside address q 0 g′)
-    alike κ′ j l quiet x = record { there = λ N. forth N; back = λ M. over M (decLe M j) }
+    abbrev shortened : ℕ → Shown
+    shortened = shows outside address q block g′
+
+    abbrev front : ℕ → State
+    front j = run outside address q j (start outside address q block g′)
+
+    -- q first carries out j instructions that show nothing, κ at most and only in block 0, and is shorter from there on
+    pub alike : (κ′ j : ℕ) → j ≤ κ * intoZero block → ((i : ℕ) → i ≤ j → shortened i ≡ original 0)
+        → Shorter (mach κ p) (mach κ′ q) (start outside address p block g) (front j)
+        → Alike (λ N. N + κ * entries outside address p block g N) original shortened
+    alike κ′ j l quiet x = record { there = forth; back = λ M. by M (decLe M j) }
       where
-        first : (n : ℕ) → seen (mach κ p) n (start outside address p 0 g) ≡ shows outside address p 0 g n
+        first : (n : ℕ) → seen (mach κ p) n (start outside address p block g) ≡ original n
         first n = ap shown (steps-run p κ n _)
-        second : (n : ℕ) → shows outside address q 0 g′ (j + n) ≡ seen (mach κ′ q) n (front j)
+
+        second : (n : ℕ) → shortened (j + n) ≡ seen (mach κ′ q) n (front j)
         second n = ap shown (run-add outside address q j n _ ∙ sym (steps-run q κ′ n _))
-        forth : (N : ℕ) → (M : ℕ) × (M ≤ N + κ * entries outside address p 0 g N) × (shows outside address q 0 g′ M ≡ shows outside address p 0 g N)
+
+        forth : (N : ℕ) → (M : ℕ) × (M ≤ N + κ * entries outside address p block g N) × (shortened M ≡ original N)
         forth N =
-            let t = x .there N in
-            (j + t .0
-            , omega (arith, t .1, spent-is p κ N (start outside address p 0 g), spent-is q κ′ (t .0) (front j))
-            , second (t .0) ∙ t .2 ∙ first N)
-        over : (M : ℕ) → Dec (M ≤ j) → (N : ℕ) × (shows outside address q 0 g′ M ≡ shows outside address p 0 g N)
-        over M (yes h) = (0, quiet M h)
-        over M (no h) =
+            let t = x .there N in (
+              j + t .0,
+              omega (arith, t .1, spent-is p κ N (start outside address p block g), spent-is q κ′ (t .0) (front j)),
+              second (t .0) ∙ t .2 ∙ first N,
+            )
+
+        by : (M : ℕ) → Dec (M ≤ j) → (N : ℕ) × (shortened M ≡ original N)
+        by M (yes h) = (0, quiet M h)
+        by M (no h) =
             let t = x .back (M - j) in
             let e : j + (M - j) ≡ M = omega arith in
-            (t .0, ap (shows outside address q 0 g′) (sym e) ∙ second (M - j) ∙ t .1 ∙ first (t .0))
+            (t .0, ap shortened (sym e) ∙ second (M - j) ∙ t .1 ∙ first (t .0))

@@ -11,7 +11,7 @@ use Rattle.inst.specs.declared.Inst.{Inst}
 use Rattle.roles.specs.Roles.{defsOf}
 use Rattle.procedure.specs.Procedure.{Procedure, firstOf}
 use Rattle.machine.specs.Word.{bit}
-use Rattle.machine.specs.Machine.{Regs, Address, Effect, writes, goes, ends, acts, effect}
+use Rattle.machine.specs.Machine.{Regs, Address, Effect, writes, goes, ends, asks, effect}
 
 -- the instructions of all blocks, in order
 abbrev pub codes : List (List Code) → List Code
@@ -32,7 +32,7 @@ abbrev pub given : Effect → Option ℕ
 given (writes vs) = firstOf vs
 given (goes b) = none
 given (ends e) = none
-given (acts a) = none
+given (asks a) = none
 
 -- what a Const, ConstF or AddrOf writes
 unfoldable pub constantOf : Address → Inst → Option ℕ
