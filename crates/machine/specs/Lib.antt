@@ -4,6 +4,7 @@ pub mod Machine
 pub mod Single
 pub mod Demand
 pub mod Reading
+pub mod Exact
 pub mod Shorter
 pub mod Printed
 pub mod Refuted
