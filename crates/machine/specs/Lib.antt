@@ -1,6 +1,7 @@
 pub mod Word
 pub mod Act
 pub mod Machine
+pub mod Kinds
 pub mod Single
 pub mod Demand
 pub mod Reading

@@ -10,7 +10,7 @@ use Rattle.inst.specs.declared.Code.{Code}
 use Rattle.inst.specs.declared.OptReg.the-variants as o
 use Rattle.inst.specs.declared.Inst.{Inst}
 use Rattle.inst.specs.declared.Inst.the-variants as i
-use Rattle.codec.specs.Codec.{regOf, blockOf, instRecord}
+use Rattle.codec.specs.Codec.{regOf, blockOf}
 use Rattle.procedure.specs.Procedure.{Procedure}
 use Rattle.machine.specs.Act.{Act, opOf}
 use Rattle.machine.specs.Machine.{Regs, Address, Outside, End, returned, stopped, Shown, effect}
