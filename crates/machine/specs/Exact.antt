@@ -1,4 +1,4 @@
--- Alike asks no more than the paper's words: of two runs under one outside, Reading's clauses give it back.
+-- Alike asks no more than the sentence: of two runs under one outside, the clauses of Reads give it back.
 use Prim.Native.Nat.{ℕ, zero, suc, _+_, _≤_, zero-le}
 use mathlib.Core.Path.{_≡_, refl, sym, ap, subst, _∙_}
 use mathlib.Core.Logic.{_⊎_, inl, inr}

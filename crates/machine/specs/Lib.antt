@@ -3,6 +3,7 @@ pub mod Act
 pub mod Machine
 pub mod Kinds
 pub mod Single
+pub mod Words
 pub mod Demand
 pub mod Reading
 pub mod Exact

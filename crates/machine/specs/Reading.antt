@@ -1,4 +1,4 @@
--- Demand 3 in the paper's words, clause by clause, from the two directions of Alike.
+-- Demand 3's sentence clause by clause, from the two directions of Alike.
 use Prim.Native.Nat.{ℕ, zero, suc, _+_, _-_, _≤_}
 use mathlib.Core.Path.{_≡_, refl, sym, ap, subst, _∙_}
 use mathlib.Core.List.{List, [], _∷_, _++_, append-assoc, append-nil}
@@ -25,15 +25,14 @@ prefix-trans {xs} a b =
       joins = sym (append-assoc xs (a .rest) (b .rest)) ∙ ap (λ l. l ++ b .rest) (a .joins) ∙ b .joins;
     }
 
--- the demand's sentence
 pub record Reads (bound : ℕ → ℕ) (original shortened : ℕ → Shown) : Type 0 where
-  -- "does the original's acts, in order, with their values and statements, within [bound]"
+  -- it does the original's acts, in order, with their values and statements, within the bound
   pub does : (N : ℕ) → Prefix (original N .acts) (shortened (bound N) .acts)
-  -- "it does no other act"
+  -- it does no other act
   pub no-other : (M : ℕ) → (N : ℕ) × Prefix (shortened M .acts) (original N .acts)
-  -- "it ends if .. the original does, and alike", after the same acts
+  -- it ends if the original does, within the bound, and alike
   pub ends-if : (N : ℕ) (e : End) → original N .end ≡ some e → shortened (bound N) ≡ original N
-  -- "and only if"
+  -- and only if the original does, and alike
   pub ends-only-if : (M : ℕ) (e : End) → shortened M .end ≡ some e → (N : ℕ) × (original N ≡ shortened M)
 
 module _ (outside : Outside) (address : Address) (p : Procedure) where
