@@ -1,6 +1,6 @@
 -- Alike asks no more than the sentence: of two runs under one outside, the clauses of Reads give it back.
-use Prim.Native.Nat.{ℕ, zero, suc, _+_, _≤_, zero-le}
-use mathlib.Core.Path.{_≡_, refl, sym, ap, subst, _∙_}
+use Prim.Native.Nat.{ℕ, zero, suc, _≤_, zero-le}
+use mathlib.Core.Path.{_≡_, refl, sym, ap, _∙_}
 use mathlib.Core.Logic.{_⊎_, inl, inr}
 use mathlib.Core.List.{List, [], _∷_, _++_}
 use mathlib.Core.Option.{Option, none, some}
@@ -8,7 +8,7 @@ use native.Mathlib.Omega.{arith}
 use Rattle.inst.specs.declared.Code.{Code}
 use Rattle.procedure.specs.Procedure.{Procedure}
 use Rattle.machine.specs.Act.{Act}
-use Rattle.machine.specs.Machine.{Regs, Address, Outside, End, stopped, Effect, writes, goes, ends, asks, State, at, done, Shown, shown, start, effectOf, answered, after, step, run}
+use Rattle.machine.specs.Machine.{Regs, Address, Outside, End, Effect, writes, goes, ends, asks, State, at, done, Shown, shown, start, effectOf, answered, after, step, run}
 use Rattle.machine.specs.Demand.{Alike, shows}
 use Rattle.machine.specs.Reading.{Prefix, Reads}
 

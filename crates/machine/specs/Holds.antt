@@ -1,18 +1,17 @@
 -- Demand 3 proved of two pairs, for every outside and every start: the printed procedure, and the loop through block 0.
-use Prim.Native.Nat.{ℕ, zero, suc, _+_, _*_, _≤_}
-use mathlib.Core.Path.{_≡_, refl, sym, ap, subst, _∙_}
-use mathlib.Core.List.{List, [], _∷_, _++_}
+use Prim.Native.Nat.{ℕ, zero, suc, _≤_}
+use mathlib.Core.Path.{_≡_, refl, sym, _∙_}
+use mathlib.Core.List.{List, [], _∷_}
 use mathlib.Core.Option.{Option, none, some}
 use native.Mathlib.Omega.{arith}
 use lib.Dec.{lit<}
 use Rattle.inst.specs.declared.Inst.the-variants as i
-use Rattle.codec.specs.Codec.{regOf}
 use Rattle.machine.specs.Word.{choose}
 use Rattle.machine.specs.Act.{Act, actOf, opOf}
-use Rattle.machine.specs.Machine.{Regs, Address, Outside, End, State, at, done, Shown, shown, enter, answered, effect}
-use Rattle.machine.specs.Demand.{Demand3, Starts, shows}
-use Rattle.machine.specs.Shorter.{Mach, Stretch, simulates, together, mach, seen, alike}
-use Rattle.machine.specs.Printed.{code, stmt, br, condBr, ret, printed, printed′}
+use Rattle.machine.specs.Machine.{Regs, Address, Outside, End, State, at, done, shown, enter, answered, effect}
+use Rattle.machine.specs.Demand.{Demand3, shows}
+use Rattle.machine.specs.Shorter.{Mach, Stretch, simulates, together, mach, seen, at-once, alike}
+use Rattle.machine.specs.Printed.{stmt, br, condBr, ret, printed, printed′}
 use Rattle.machine.specs.Refuted.{looping, looping′}
 
 module _ (outside : Outside) (address : Address) where
@@ -22,7 +21,7 @@ module _ (outside : Outside) (address : Address) where
   abbrev m′ : Mach
   m′ = mach outside address 0 printed′
 
-  -- where the two runs stand
+  -- where the two runs stand: before an act, before the branch behind it, before the Ret, at the end
   data R : State → State → Type 0 where
     act : (n k : ℕ) (g g′ : Regs) (h : List Act) → g 0 ≡ g′ 0 → R (at (stmt n ∷ br 2 k ∷ []) g h) (at (stmt n ∷ condBr 0 1 3 14 ∷ []) g′ h)
     branch : (k : ℕ) (g g′ : Regs) (h : List Act) → g 0 ≡ g′ 0 → R (at (br 2 k ∷ []) g h) (at (condBr 0 1 3 14 ∷ []) g′ h)
@@ -51,10 +50,6 @@ module _ (outside : Outside) (address : Address) where
   quiet k g h (suc zero) l = refl
   quiet k g h (suc (suc j)) l = absurd (omega arith)
 
-  quiet′ : (g : Regs) (h : List Act) (j : ℕ) → j ≤ 0 → seen m′ j (at (condBr 0 1 3 14 ∷ []) g h) ≡ record { acts = h; end = none }
-  quiet′ g h zero l = refl
-  quiet′ g h (suc j) l = absurd (omega arith)
-
   go-on : (s s′ : State) → R s s′ → Stretch m m′ R s s′
   unfolding effect opOf
   go-on s s′ (act n k g g′ h e) = together m m′ R _ _ (omega arith) (acted (outside h (actOf i.Stmt n [])) (actOf i.Stmt n []) k g g′ h e)
@@ -65,7 +60,7 @@ module _ (outside : Outside) (address : Address) where
         rel = rw (← e) (lands (g 0) g g′ h e);
         cheap = omega arith;
         quiet = quiet k g h;
-        quiet′ = quiet′ g′ h;
+        quiet′ = at-once m′ _;
       }
   go-on s s′ (last g g′ h) = together m m′ R _ _ (omega arith) (over _ _)
   go-on s s′ (over h e) = together m m′ R _ _ (omega arith) (over h e)
@@ -86,6 +81,7 @@ module _ (outside : Outside) (address : Address) where
   abbrev l′ : Mach
   l′ = mach outside address 0 looping′
 
+  -- the same, in block 0 with its constant behind it, and in block 1
   data Q : State → State → Type 0 where
     act₀ : (g g′ : Regs) (h : List Act) → g 0 ≡ g′ 0 → Q (at (stmt 30 ∷ condBr 0 0 1 31 ∷ []) g h) (at (stmt 30 ∷ condBr 0 0 1 31 ∷ []) g′ h)
     branch₀ : (g g′ : Regs) (h : List Act) → g 0 ≡ g′ 0 → Q (at (condBr 0 0 1 31 ∷ []) g h) (at (condBr 0 0 1 31 ∷ []) g′ h)
@@ -124,10 +120,6 @@ module _ (outside : Outside) (address : Address) where
   quiet₁ g h (suc (suc zero)) x = refl
   quiet₁ g h (suc (suc (suc j))) x = absurd (omega arith)
 
-  start-quiet : (k : Mach) (s : k.S) (j : ℕ) → j ≤ 0 → seen k j s ≡ k .show s
-  start-quiet k s zero x = refl
-  start-quiet k s (suc j) x = absurd (omega arith)
-
   quiet₀ : (g : Regs) (h : List Act) (v : ℕ) → g 0 ≡ suc v → (j : ℕ) → j ≤ 1 → seen l′ j (at (condBr 0 0 1 31 ∷ []) g h) ≡ record { acts = h; end = none }
   unfolding effect opOf
   quiet₀ g h v a zero x = refl
@@ -145,7 +137,7 @@ module _ (outside : Outside) (address : Address) where
         k′ = 1;
         rel = rw (a, b) (act₀ g _ h (a ∙ sym b));
         cheap = rw (a, b) (omega arith);
-        quiet = start-quiet l _;
+        quiet = at-once l _;
         quiet′ = quiet₀ g′ h v b;
       }
 
@@ -161,7 +153,7 @@ module _ (outside : Outside) (address : Address) where
         rel = rw (← e) (lands₁ (g 0) _ g′ h e);
         cheap = omega arith;
         quiet = quiet₁ g h;
-        quiet′ = start-quiet l′ _;
+        quiet′ = at-once l′ _;
       }
   go-on₂ s s′ (last g g′ h) = together l l′ Q _ _ (omega arith) (over _ _)
   go-on₂ s s′ (over h e) = together l l′ Q _ _ (omega arith) (over h e)

@@ -2,8 +2,7 @@
 use Prim.Native.Nat.{ℕ, _+_, _-_, _*_, _^_}
 use mathlib.Core.Path.{_≡_, refl}
 use mathlib.Core.List.{List, [], _∷_, map}
-use mathlib.Core.Option.{Option, none, some}
-use Rattle.format.specs.declared.Record.{Record}
+use mathlib.Core.Option.{none, some}
 use Rattle.real.specs.Real.{realOf, bitsOf}
 use Rattle.ops.specs.Ops.{spaceNum, spaceArg}
 use Rattle.codec.specs.Codec.{codeOf, instOf, withStmt, rowOf}

@@ -1,9 +1,9 @@
 -- Document 01's printed procedure and its shortened form, run by computation: demand 3 up to some N and M.
-use Prim.Native.Nat.{ℕ, zero, suc, _+_, _*_}
+use Prim.Native.Nat.{ℕ, zero, suc}
 use mathlib.Core.Path.{_≡_, refl}
-use mathlib.Core.Bool.{Bool, true, false}
+use mathlib.Core.Bool.{true, false}
 use mathlib.Core.List.{List, [], _∷_, _++_, map}
-use mathlib.Core.Option.{Option, none, some}
+use mathlib.Core.Option.{none, some}
 use lib.Dec.{eqb}
 use lib.ListN.{length}
 use Rattle.inst.specs.declared.Code.{Code}
@@ -13,8 +13,8 @@ use Rattle.inst.specs.declared.Inst.the-variants as i
 use Rattle.codec.specs.Codec.{regOf, blockOf}
 use Rattle.procedure.specs.Procedure.{Procedure}
 use Rattle.machine.specs.Act.{Act, opOf}
-use Rattle.machine.specs.Machine.{Regs, Address, Outside, End, returned, stopped, Shown, effect}
-use Rattle.machine.specs.Demand.{shows, entries}
+use Rattle.machine.specs.Machine.{Regs, Address, Outside, returned, stopped, Shown, effect}
+use Rattle.machine.specs.Demand.{shows}
 
 abbrev pub code : Inst → ℕ → Code
 code x n = record { inst = x; stmt = record { 0 = n } }

@@ -1,8 +1,8 @@
 -- What demand 3 refuses: a branch exchanged, an act too early, and, of a right shortened form, a bound without the entries into block 0.
 use Prim.Native.Nat.{ℕ, zero, suc, _+_, _*_, _≤_}
-use mathlib.Core.Path.{_≡_, refl, sym, ap, subst, _∙_}
+use mathlib.Core.Path.{_≡_, refl, sym, ap, _∙_}
 use mathlib.Core.Bool.{Bool, true, false, not, _&&_}
-use mathlib.Core.List.{List, [], _∷_, map}
+use mathlib.Core.List.{[], _∷_}
 use mathlib.Core.Option.{Option, none, some}
 use native.Mathlib.Omega.{arith}
 use native.Mathlib.Decide.{ℕ-discrete}
@@ -12,10 +12,10 @@ use Rattle.inst.specs.declared.Inst.the-variants as i
 use Rattle.codec.specs.Codec.{regOf}
 use Rattle.procedure.specs.Procedure.{Procedure}
 use Rattle.machine.specs.Act.{opOf}
-use Rattle.machine.specs.Machine.{Regs, End, Shown, shown, State, start, run, effect}
+use Rattle.machine.specs.Machine.{Regs, End, Shown, effect}
 use Rattle.machine.specs.Single.{single, constantOf, load, load-loads}
-use Rattle.machine.specs.Demand.{Alike, AlikeFrom, Demand3, Starts, shows, entries}
-use Rattle.machine.specs.Printed.{code, stmt, br, condBr, ret, procedure, printed, nowhere, willing, all, upTo}
+use Rattle.machine.specs.Demand.{AlikeFrom, Demand3, Starts, shows, entries}
+use Rattle.machine.specs.Printed.{code, stmt, br, condBr, ret, procedure, printed, nowhere, willing, all}
 
 -- two for each act done, and one if the run has ended
 abbrev ended : Option End → ℕ

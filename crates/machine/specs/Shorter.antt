@@ -35,6 +35,10 @@ pub spent-add : (m : Mach) (k n : ℕ) (s : m.S) → spent m (k + n) s ≡ spent
 spent-add m zero n s = simp zero-add
 spent-add m (suc k) n s = rw suc-add (omega (arith, spent-add m k n (m .next s)))
 
+pub at-once : (m : Mach) (s : m.S) (j : ℕ) → j ≤ 0 → seen m j s ≡ m .show s
+at-once m s zero l = refl
+at-once m s (suc j) l = absurd (omega arith)
+
 module _ (m m′ : Mach) where
   abbrev There : ℕ → m.S → m′.S → Type 0
   There n s s′ = (n′ : ℕ) × (spent m′ n′ s′ ≤ spent m n s) × (seen m′ n′ s′ ≡ seen m n s)
@@ -116,11 +120,7 @@ module _ (m m′ : Mach) (R : m.S → m′.S → Type 0) where
 
   -- one step of each
   pub together : (s : m.S) (s′ : m′.S) → m′ .cost s′ ≤ m .cost s → R (m .next s) (m′ .next s′) → Stretch s s′
-  together s s′ c r = record { k = 0; k′ = 0; rel = r; cheap = omega arith; quiet = q m s; quiet′ = q m′ s′ }
-    where
-      q : (m : Mach) (s : m.S) (j : ℕ) → j ≤ 0 → seen m j s ≡ m .show s
-      q m s zero l = refl
-      q m s (suc j) l = absurd (omega arith)
+  together s s′ c r = record { k = 0; k′ = 0; rel = r; cheap = omega arith; quiet = at-once m s; quiet′ = at-once m′ s′ }
 
 module _ (outside : Outside) (address : Address) where
   -- an instruction of p costs one, and κ more if it goes to block 0

@@ -1,8 +1,8 @@
 -- "Registers are 64-bit words": where the start, the constants, the addresses and the outside's values are words, every register is one, at all times.
-use Prim.Native.Nat.{ℕ, zero, suc, _<_, _^_}
-use mathlib.Core.Path.{_≡_, refl, sym, subst}
+use Prim.Native.Nat.{ℕ, zero, suc}
+use mathlib.Core.Path.{_≡_, refl}
 use mathlib.Core.Bool.{Bool, true, false, cond, not, _&&_, _||_}
-use mathlib.Core.List.{List, [], _∷_, _++_, map}
+use mathlib.Core.List.{List, [], _∷_, map}
 use mathlib.Core.Option.{Option, none, some}
 use lib.Dec.{eqb, lit<}
 use lib.ListN.{getD, drop}
@@ -12,12 +12,11 @@ use Rattle.inst.specs.declared.Inst.the-variants as i
 use Rattle.inst.specs.declared.CmpOp.{CmpOp}
 use Rattle.inst.specs.declared.BoolOp.{BoolOp}
 use Rattle.inst.specs.declared.BoolOp.the-variants as b
-use Rattle.real.specs.Real.{bitsOf}
 use Rattle.roles.specs.Roles.{defsOf, readsOf}
 use Rattle.procedure.specs.Procedure.{Procedure, Table}
 use Rattle.machine.specs.Word.{Word, bit, holds, choose, signed, ordered, compares, tests}
 use Rattle.machine.specs.Act.{Act}
-use Rattle.machine.specs.Machine.{Regs, Address, Outside, Effect, writes, goes, ends, asks, effect, effectOf, upd, stores, State, at, done, enter, answered, after, step, run}
+use Rattle.machine.specs.Machine.{Regs, Address, Outside, Effect, writes, goes, ends, asks, effect, effectOf, upd, stores, State, at, done, answered, after, step, run}
 use Rattle.machine.specs.Single.{constantOf}
 
 abbrev All : List ℕ → Type 0
@@ -132,8 +131,8 @@ module _ (outside : Outside) (address : Address) (p : Procedure)
   step-words (at [] g h) w = tt
   step-words (at (c ∷ cs) g h) w =
       after-words (effectOf outside address p c g) (defsOf (c .inst)) cs g h
-        (effect-fine address (p .tables) (c .stmt .0) _ _ (map-word g (w .0) (readsOf (p .operands) (c .inst))) (c .inst) (w .1 .0))
-        (w .0, w .1 .1)
+      (effect-fine address (p .tables) (c .stmt .0) _ _ (map-word g (w .0) (readsOf (p .operands) (c .inst))) (c .inst) (w .1 .0))
+      (w .0, w .1 .1)
   step-words (done h e) w = tt
 
   pub run-words : (n : ℕ) (s : State) → InWords s → InWords (run outside address p n s)
