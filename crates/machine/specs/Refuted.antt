@@ -12,9 +12,10 @@ use Rattle.inst.specs.declared.Inst.the-variants as i
 use Rattle.codec.specs.Codec.{regOf}
 use Rattle.procedure.specs.Procedure.{Procedure}
 use Rattle.machine.specs.Act.{opOf}
-use Rattle.machine.specs.Machine.{Regs, End, Shown, effect}
+use Rattle.machine.specs.Machine.{Regs, End, Shown, shown, effect}
 use Rattle.machine.specs.Single.{single, constantOf, load, load-loads}
 use Rattle.machine.specs.Demand.{AlikeFrom, Demand3, Starts, shows, entries}
+use Rattle.machine.specs.Reading.{run-done}
 use Rattle.machine.specs.Printed.{code, stmt, br, condBr, ret, procedure, printed, nowhere, willing, all}
 
 -- two for each act done, and one if the run has ended
@@ -71,7 +72,8 @@ module _ (p q : Procedure) (v : ℕ) where
       let a = (d willing nowhere (regs p v) (regs p v) (starts p v)) .there N in
       none-of (λ M. weight (shortened M)) (weight (original N)) _ t (a .0) (a .1) (ap weight (a .2))
 
--- 1. the printed procedure's shortened form with the branch of block 0 exchanged: where register 0 holds 1
+-- 1. the printed procedure's shortened form with the branch of block 0 exchanged, whatever the bound: where register 0 holds 1,
+-- the original does a second act, and this form ends after one
 abbrev exchanged : Procedure
 exchanged = procedure (0 ∷ []) (
     (stmt 10 ∷ condBr 0 3 1 14 ∷ [])
@@ -80,9 +82,19 @@ exchanged = procedure (0 ∷ []) (
     ∷ (ret 15 ∷ [])
     ∷ [])
 
-pub branch-exchanged : Demand3 printed exchanged 0 → ⊥
+pub branch-exchanged : (rescued : ℕ) → Demand3 printed exchanged rescued → ⊥
 unfolding effect opOf single constantOf
-branch-exchanged = refute printed exchanged 1 (λ N e. N + 0 * e) 4 tt
+branch-exchanged rescued d =
+    let t = (d willing nowhere (regs printed 1) (regs printed 1) (starts printed 1)) .there 4 in
+    by (t .0) (t .2)
+  where
+    by : (M : ℕ) → shortened printed exchanged 1 M ≡ original printed exchanged 1 4 → ⊥
+    by zero e = let z : _≡_ {A = ℕ} 0 4 = ap weight e in omega arith
+    by (suc zero) e = let z : _≡_ {A = ℕ} 2 4 = ap weight e in omega arith
+    by (suc (suc zero)) e = let z : _≡_ {A = ℕ} 2 4 = ap weight e in omega arith
+    by (suc (suc (suc M))) e =
+        let z : _≡_ {A = ℕ} 3 4 = ap weight (sym (ap shown (run-done willing nowhere exchanged M _ _)) ∙ e) in
+        omega arith
 
 -- 2. an act done before the loop that it waits for: where register 0 holds 1, the original goes round for ever and does no act.
 -- Where it holds 0 the two forms do the same in as many instructions: only `back` refuses this one.
@@ -97,9 +109,9 @@ unfolding effect opOf single constantOf
 silent zero = refl
 silent (suc N) = silent N
 
-pub act-too-early : Demand3 waits early 0 → ⊥
+pub act-too-early : (rescued : ℕ) → Demand3 waits early rescued → ⊥
 unfolding effect opOf single constantOf
-act-too-early d =
+act-too-early rescued d =
     let a = (d willing nowhere (regs waits 1) (regs waits 1) (starts waits 1)) .back 1 in
     let z : _≡_ {A = ℕ} 2 0 = ap weight (a .1 ∙ silent (a .0)) in
     omega arith

@@ -36,7 +36,6 @@ given (asks a) = none
 
 -- what a Const, ConstF or AddrOf writes
 unfoldable pub constantOf : Address → Inst → Option ℕ
-unfolding effect
 constantOf address x = cond (eqb (kindOf x) 0 || eqb (kindOf x) 1 || eqb (kindOf x) 3) (given (effect address [] 0 [] [] x)) none
 
 -- what the first instruction that writes r writes, if it is one of these
@@ -46,7 +45,6 @@ constantIn address (c ∷ cs) r = cond (eqb (times r (defsOf (c .inst))) 0) (con
 
 -- the value of a single constant
 unfoldable pub single : Address → Procedure → ℕ → Option ℕ
-unfolding constantOf
 single address p r = cond (eqb (timesWritten (codes (p .blocks)) r) 1) (constantIn address (codes (p .blocks)) r) none
 
 -- "already loaded"
