@@ -56,6 +56,12 @@ fn answer_file(path: &[u8]) {
 fn answer_argument(i: usize) {
     let mut path = io::buffer();
     let n = os::arg(i, &mut path);
+    if os::errno() != 0 {
+        say(b"argument ");
+        io::print_decimal(STDOUT_FILENO, i as u64);
+        say(b": cannot be opened: longer than a path\n");
+        return;
+    }
     answer_file(&path[..n]);
 }
 
