@@ -11,3 +11,4 @@ pub mod Shorter
 pub mod Printed
 pub mod Refuted
 pub mod Holds
+pub mod Given
