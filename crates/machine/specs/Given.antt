@@ -13,8 +13,7 @@ use Rattle.steps.specs.Gate.{backEdgeFrom, copied, mayThreadFrom}
 use Rattle.steps.specs.Copy.{exchanged, howOf, ownUses, copyFrom, kindsGiven}
 use Rattle.steps.specs.Thread.{armOf, hopCondBr, stops, hopBr, hop, hops, threadFrom}
 use Rattle.steps.specs.Emit.{total, walk, reached, stays, emptyFrom, rescuedOf, rescues}
-use Rattle.steps.specs.Run.{emit}
-use Rattle.steps.specs.Run.{run}
+use Rattle.steps.specs.Run.{emit, run}
 use Rattle.machine.specs.Demand.{Demand3}
 use Rattle.machine.specs.Printed.{printed, printed′}
 use Rattle.machine.specs.Refuted.{looping, looping′}
