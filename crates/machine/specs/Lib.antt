@@ -12,3 +12,4 @@ pub mod Printed
 pub mod Refuted
 pub mod Holds
 pub mod Given
+pub mod Exchanged
