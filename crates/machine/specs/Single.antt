@@ -1,7 +1,7 @@
 -- Document 01, "Machine": "registers singly written by Const, ConstF or AddrOf in the original already loaded: these are its single constants."
 use Prim.Native.Nat.{ℕ, _+_}
-use mathlib.Core.Path.{_≡_, refl, sym, ap, _∙_}
-use mathlib.Core.Bool.{Bool, true, false, cond, _||_}
+use mathlib.Core.Path.{_≡_}
+use mathlib.Core.Bool.{cond, _||_}
 use mathlib.Core.List.{List, [], _∷_, _++_}
 use mathlib.Core.Option.{Option, none, some}
 use lib.Dec.{eqb}
@@ -11,7 +11,7 @@ use Rattle.inst.specs.declared.Inst.{Inst}
 use Rattle.roles.specs.Roles.{defsOf}
 use Rattle.procedure.specs.Procedure.{Procedure, firstOf}
 use Rattle.machine.specs.Word.{bit}
-use Rattle.machine.specs.Machine.{Regs, Address, Effect, writes, goes, ends, acts, effect}
+use Rattle.machine.specs.Machine.{Regs, Address, Effect, writes, goes, ends, asks, effect}
 
 -- the instructions of all blocks, in order
 abbrev pub codes : List (List Code) → List Code
@@ -32,11 +32,10 @@ abbrev pub given : Effect → Option ℕ
 given (writes vs) = firstOf vs
 given (goes b) = none
 given (ends e) = none
-given (acts a) = none
+given (asks a) = none
 
 -- what a Const, ConstF or AddrOf writes
 unfoldable pub constantOf : Address → Inst → Option ℕ
-unfolding effect
 constantOf address x = cond (eqb (kindOf x) 0 || eqb (kindOf x) 1 || eqb (kindOf x) 3) (given (effect address [] 0 [] [] x)) none
 
 -- what the first instruction that writes r writes, if it is one of these
@@ -46,7 +45,6 @@ constantIn address (c ∷ cs) r = cond (eqb (times r (defsOf (c .inst))) 0) (con
 
 -- the value of a single constant
 unfoldable pub single : Address → Procedure → ℕ → Option ℕ
-unfolding constantOf
 single address p r = cond (eqb (timesWritten (codes (p .blocks)) r) 1) (constantIn address (codes (p .blocks)) r) none
 
 -- "already loaded"
