@@ -8,6 +8,8 @@ pub mod Demand
 pub mod Reading
 pub mod Exact
 pub mod Shorter
+pub mod Exchanged
 pub mod Printed
 pub mod Refuted
 pub mod Holds
+pub mod Given

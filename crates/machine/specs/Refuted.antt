@@ -11,9 +11,12 @@ use lib.ListN.{length}
 use Rattle.inst.specs.declared.Inst.the-variants as i
 use Rattle.codec.specs.Codec.{regOf}
 use Rattle.procedure.specs.Procedure.{Procedure}
+use Rattle.steps.specs.Lists.{anyOf, times}
+use Rattle.steps.specs.Counts.{writesIn}
+use Rattle.steps.specs.Facts.{fixedOf}
 use Rattle.machine.specs.Act.{opOf}
 use Rattle.machine.specs.Machine.{Regs, End, Shown, shown, effect}
-use Rattle.machine.specs.Single.{single, constantOf, load, load-loads}
+use Rattle.machine.specs.Single.{singleIn, constantIn, constantOf, load, load-loads}
 use Rattle.machine.specs.Demand.{AlikeFrom, Demand3, Starts, shows, entries}
 use Rattle.machine.specs.Reading.{run-done}
 use Rattle.machine.specs.Printed.{code, stmt, br, condBr, ret, procedure, printed, nowhere, willing, all}
@@ -83,7 +86,7 @@ exchanged = procedure (0 ∷ []) (
     ∷ [])
 
 pub branch-exchanged : (rescued : ℕ) → Demand3 printed exchanged rescued → ⊥
-unfolding effect opOf single constantOf
+unfolding effect opOf anyOf times writesIn fixedOf singleIn constantIn constantOf
 branch-exchanged rescued d =
     let t = (d willing nowhere (regs printed 1) (regs printed 1) (starts printed 1)) .there 4 in
     by (t .0) (t .2)
@@ -105,12 +108,12 @@ abbrev early : Procedure
 early = procedure (0 ∷ []) ((stmt 21 ∷ condBr 0 1 2 20 ∷ []) ∷ (condBr 0 1 2 20 ∷ []) ∷ (ret 22 ∷ []) ∷ [])
 
 silent : (N : ℕ) → original waits early 1 N ≡ original waits early 1 0
-unfolding effect opOf single constantOf
+unfolding effect opOf anyOf times writesIn fixedOf singleIn constantIn constantOf
 silent zero = refl
 silent (suc N) = silent N
 
 pub act-too-early : (rescued : ℕ) → Demand3 waits early rescued → ⊥
-unfolding effect opOf single constantOf
+unfolding effect opOf anyOf times writesIn fixedOf singleIn constantIn constantOf
 act-too-early rescued d =
     let a = (d willing nowhere (regs waits 1) (regs waits 1) (starts waits 1)) .back 1 in
     let z : _≡_ {A = ℕ} 2 0 = ap weight (a .1 ∙ silent (a .0)) in
@@ -135,10 +138,10 @@ looping′ = procedure (0 ∷ 0 ∷ []) (
     ∷ [])
 
 pub without-entries : AlikeFrom 0 (λ N entries. N) looping looping′ → ⊥
-unfolding effect opOf single constantOf
+unfolding effect opOf anyOf times writesIn fixedOf singleIn constantIn constantOf
 without-entries = refute looping looping′ 1 (λ N e. N) 1 tt
 
 -- the rescued constant counted once and not for each entry
 pub one-entry : AlikeFrom 0 (λ N entries. N + 1) looping looping′ → ⊥
-unfolding effect opOf single constantOf
+unfolding effect opOf anyOf times writesIn fixedOf singleIn constantIn constantOf
 one-entry = refute looping looping′ 1 (λ N e. N + 1) 3 tt
