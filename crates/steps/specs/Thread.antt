@@ -120,5 +120,8 @@ unfoldable pub threadFrom : Facts → ℕ → ℕ → Work → Work
 threadFrom f zero a w = w
 threadFrom f (suc n) a w = threadFrom f n (suc a) (hops f 6 a w)
 
+abbrev pub unthreaded : List (List Code) → Work
+unthreaded P = record { blocks = P; kinds = []; grown = 0; edited = false }
+
 abbrev pub thread : Facts → List (List Code) → Work
-thread f P = threadFrom f (length P) 0 (record { blocks = P; kinds = []; grown = 0; edited = false })
+thread f P = threadFrom f (length P) 0 (unthreaded P)
