@@ -4,7 +4,7 @@ use mathlib.Core.Path.{_≡_, refl}
 use mathlib.Core.List.{List, [], _∷_, map}
 use mathlib.Core.Option.{none}
 use lib.ListN.{replicate}
-use Rattle.codec.specs.Codec.{regOf, blockOf, regsOf}
+use Rattle.codec.specs.Codec.{regOf, blockOf, regsOf as listOf}
 use Rattle.inst.specs.declared.Inst.{Inst}
 use Rattle.inst.specs.declared.Inst.the-variants as i
 use Rattle.inst.specs.declared.OptReg.the-variants as o
@@ -45,7 +45,7 @@ unfolding blocks move ret placedIn placedFrom written reads writers offends regs
 read-early = refl
 
 -- a list operand is read
-read-in-list : offenders (blocks ((i.CallNative 0 (regsOf 0 1) o.None ∷ move 5 1 ∷ ret 1 ∷ []) ∷ [])) ≡ 5 ∷ []
+read-in-list : offenders (blocks ((i.CallNative 0 (listOf 0 1) o.None ∷ move 5 1 ∷ ret 1 ∷ []) ∷ [])) ≡ 5 ∷ []
 unfolding blocks move ret placedIn placedFrom written reads writers offends regsOf
 read-in-list = refl
 
