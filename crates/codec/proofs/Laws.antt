@@ -1,9 +1,9 @@
 -- The laws of reading and writing an instruction.
 use Prim.Native.Nat.{ℕ, _/_, _≤_, _<_, _^_}
 use native.Mathlib.Omega.{arith}
-use mathlib.Core.Path.{_≡_, refl, sym, ap, subst, _∙_}
-use mathlib.Core.Bool.{Bool, true, _&&_, _||_}
-use mathlib.Core.List.{List, [], _∷_}
+use mathlib.Core.Path.{_≡_, refl, sym, ap, _∙_}
+use mathlib.Core.Bool.{Bool, true, _&&_}
+use mathlib.Core.List.{List, []}
 use mathlib.Core.Logic.{_⊎_, inl, inr}
 use lib.Dec.{ltb, eqb, lit<}
 use lib.ListN.{length, getD}
@@ -17,7 +17,7 @@ use Rattle.inst.specs.declared.Inst.the-variants as i
 use Rattle.ops.proofs.Laws.{below}
 use Rattle.store.specs.Store.{Bytes, Fits, putOf}
 use Rattle.store.proofs.Laws.{order, fits-at, put-same, put-back}
-use Rattle.codec.specs.Codec.{instOf, codeOf, instRecord, recordOf, withStmt, rowOf, words, inRange, InRange}
+use Rattle.codec.specs.Codec.{instOf, codeOf, instRecord, recordOf, withStmt, rowOf, inRange, InRange}
 use Rattle.codec.proofs.Table.{inst-past}
 use Rattle.codec.proofs.Read.{first, second, inst-back, inst-right, inst-words}
 use Rattle.codec.proofs.Write.{kept}

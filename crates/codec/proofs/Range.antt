@@ -1,12 +1,11 @@
 -- What is read from fields of 32 bits is in its types' ranges.
-use Prim.Native.Nat.{ℕ, zero, suc, _+_, _*_, _%_, _≤_, _<_, _^_}
+use Prim.Native.Nat.{ℕ, zero, suc, _%_, _<_, _^_}
 use native.Mathlib.Omega.{arith}
 use mathlib.Core.Path.{_≡_, refl}
 use mathlib.Core.Bool.{true}
 use lib.Dec.{ltb}
 use lib.ListN.{getD}
 use borrow.Author.Tests.{lt-ltb, ltb-true}
-use Rattle.real.specs.Real.{realOf, canonical}
 use Rattle.real.proofs.Laws.{real-canonical}
 use Rattle.inst.specs.declared.Inst.the-variants as i
 use Rattle.ops.specs.Ops.{spaceOf, optOf, optArg}

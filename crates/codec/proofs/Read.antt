@@ -1,28 +1,25 @@
 -- What was written reads back as the same value, and its record is right.
-use Prim.Native.Nat.{ℕ, _+_, _*_, _/_, _%_, _≤_, _<_, _^_}
+use Prim.Native.Nat.{ℕ, _%_, _<_, _^_}
 use native.Mathlib.Omega.{arith}
-use mathlib.Core.Path.{_≡_, refl, sym, ap, _∙_}
+use mathlib.Core.Path.{_≡_, refl, ap, _∙_}
 use mathlib.Core.Bool.{Bool, true, false, _&&_}
-use mathlib.Core.List.{List, [], _∷_}
+use mathlib.Core.List.{[], _∷_}
 use lib.Dec.{ltb}
 use borrow.Author.Tests.{lt-ltb, ltb-true}
-use Rattle.format.specs.declared.Record.{Record}
 use Rattle.format.specs.Kinds.{right, fields}
 use Rattle.real.specs.Real.{realOf, bitsOf, canonical}
 use Rattle.real.proofs.Laws.{real-bits, bits-lt}
-use Rattle.inst.specs.declared.OptReg.{OptReg}
 use Rattle.inst.specs.declared.OptReg.the-variants as o
 use Rattle.inst.specs.declared.AddrSpace.{AddrSpace}
 use Rattle.inst.specs.declared.AddrSpace.the-variants as s
 use Rattle.inst.specs.declared.CmpOp.{CmpOp}
 use Rattle.inst.specs.declared.BoolOp.{BoolOp}
 use Rattle.inst.specs.declared.IntOp.{IntOp}
-use Rattle.inst.specs.declared.Width.{Width}
 use Rattle.inst.specs.declared.CheckKind.{CheckKind}
 use Rattle.inst.specs.declared.Inst.{Inst}
 use Rattle.inst.specs.declared.Inst.the-variants as i
-use Rattle.ops.specs.Ops.{spaceOf, spaceNum, spaceArg, cmpNum, boolNum, intNum, widthNum, checkNum, optArg}
-use Rattle.ops.proofs.Laws.{cmp-back, cmp-lt, bool-back, bool-lt, int-back, int-lt, width-back, width-lt, check-back, check-lt, opt-back, opt-lt}
+use Rattle.ops.specs.Ops.{spaceOf, spaceNum, spaceArg, cmpNum, boolNum, intNum, widthNum, checkNum}
+use Rattle.ops.proofs.Laws.{cmp-back, cmp-lt, bool-back, bool-lt, int-back, int-lt, width-back, width-lt, check-back, check-lt, opt-back}
 use Rattle.codec.specs.Codec.{wordOf, lowOf, highOf, instOf, instRecord, withStmt, words, spaceInRange, inRange}
 
 pub first : (a b : Bool) → (a && b) ≡ true → a ≡ true
@@ -33,7 +30,7 @@ pub second : (a b : Bool) → (a && b) ≡ true → b ≡ true
 second true b e = e
 second false b e = let z : _≡_ {A = Bool} false true = e in cc
 
-word-join : (v : ℕ) → wordOf (lowOf v) (highOf v) ≡ v
+pub word-join : (v : ℕ) → wordOf (lowOf v) (highOf v) ≡ v
 word-join v = omega arith
 
 small : (n : ℕ) → ltb n 256 ≡ true → n % 256 ≡ n

@@ -1,39 +1,36 @@
 -- What was read from a right record writes the same record, kind by kind.
-use Prim.Native.Nat.{ℕ, zero, suc, _+_, _*_, _/_, _%_, _≤_, _<_, _^_}
+use Prim.Native.Nat.{ℕ, _%_, _<_, _^_}
 use native.Mathlib.Omega.{arith}
-use mathlib.Core.Path.{_≡_, refl, sym, ap, subst, _∙_}
-use mathlib.Core.Bool.{Bool, true, false, _&&_, _||_}
+use mathlib.Core.Path.{_≡_, refl}
+use mathlib.Core.Bool.{true}
 use mathlib.Core.List.{List, [], _∷_}
 use lib.Dec.{ltb, eqb}
-use lib.ListN.{getD, List·getD-eq-default}
-use borrow.Author.Tests.{lt-ltb, ltb-true, eqb-true}
-use Rattle.format.specs.declared.Record.{Record}
-use Rattle.format.specs.Kinds.{right, fields, instructionPlaces, instructionOps, allFit, zeros}
-use Rattle.real.specs.Real.{realOf, bitsOf, canonical}
-use Rattle.real.proofs.Laws.{bits-real, real-canonical}
-use Rattle.inst.specs.declared.Inst.{Inst}
+use lib.ListN.{getD}
+use borrow.Author.Tests.{ltb-true, eqb-true}
+use Rattle.format.specs.Kinds.{right, instructionPlaces, instructionOps, allFit, zeros}
+use Rattle.real.proofs.Laws.{bits-real}
 use Rattle.inst.specs.declared.Inst.the-variants as i
 use Rattle.ops.specs.Ops.{spaceOf, spaceNum, spaceArg, optOf, optNum, optArg}
-use Rattle.ops.proofs.Laws.{Below, below, cmp-num, bool-num, int-num, width-num, check-num}
-use Rattle.codec.specs.Codec.{wordOf, lowOf, highOf, insts, rowOf, instRecord, words, spaceInRange, inRange}
+use Rattle.ops.proofs.Laws.{below, cmp-num, bool-num, int-num, width-num, check-num}
+use Rattle.codec.specs.Codec.{wordOf, lowOf, highOf, insts, rowOf, instRecord}
 use Rattle.codec.proofs.Read.{first, second}
 
 -- a list of as many zeros
-abbrev cleared : List ℕ → List ℕ
+abbrev pub cleared : List ℕ → List ℕ
 cleared [] = []
 cleared (p ∷ ps) = 0 ∷ cleared ps
 
-all-zero : (ps : List ℕ) → zeros ps ≡ true → ps ≡ cleared ps
+pub all-zero : (ps : List ℕ) → zeros ps ≡ true → ps ≡ cleared ps
 all-zero [] h = refl
 all-zero (p ∷ ps) h =
     let e = eqb-true p 0 (first (eqb p 0) (zeros ps) h) in
     let f = all-zero ps (second (eqb p 0) (zeros ps) h) in
     cc
 
-low-word : (p q : ℕ) → p < 2 ^ 32 → lowOf (wordOf p q) ≡ p
+pub low-word : (p q : ℕ) → p < 2 ^ 32 → lowOf (wordOf p q) ≡ p
 low-word p q h = omega arith
 
-high-word : (p q : ℕ) → p < 2 ^ 32 → highOf (wordOf p q) ≡ q
+pub high-word : (p q : ℕ) → p < 2 ^ 32 → highOf (wordOf p q) ≡ q
 high-word p q h = omega arith
 
 word-fits : (p q : ℕ) → p < 2 ^ 32 → q < 2 ^ 32 → wordOf p q < 2 ^ 64

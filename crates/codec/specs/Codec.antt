@@ -21,20 +21,22 @@ use Rattle.ops.specs.Ops.{cmpOf, cmpNum, boolOf, boolNum, intOf, intNum, widthO
 abbrev pub wordOf : ℕ → ℕ → ℕ
 wordOf low high = low + 4294967296 * high
 
+-- its low half, and its high half
 abbrev pub lowOf : ℕ → ℕ
 lowOf v = v % 4294967296
 
 abbrev pub highOf : ℕ → ℕ
 highOf v = v / 4294967296
 
+-- "Register, block and statement numbers are tuple structs"; a list is its start and length
 abbrev pub regOf : ℕ → Reg
 regOf n = record { 0 = n }
 
 abbrev pub blockOf : ℕ → BlockId
 blockOf n = record { 0 = n }
 
-abbrev pub listOf : ℕ → ℕ → Regs
-listOf start len = record { start = start; len = len }
+abbrev pub regsOf : ℕ → ℕ → Regs
+regsOf start len = record { start = start; len = len }
 
 -- "Kinds:", over the record's op and p1..p6, in the order of the paper
 abbrev pub insts : ℕ → ℕ → ℕ → ℕ → ℕ → ℕ → ℕ → List Inst
@@ -51,12 +53,12 @@ insts op p1 p2 p3 p4 p5 p6 =
     ∷ i.Load (regOf p1) (regOf p2) (widthOf op)
     ∷ i.Store (regOf p1) (regOf p2) (widthOf op)
     ∷ i.Check (checkOf op) (regOf p1) (regOf p2) (regOf p3) p4
-    ∷ i.MakeDope (regOf p1) (listOf p2 p3)
+    ∷ i.MakeDope (regOf p1) (regsOf p2 p3)
     ∷ i.DopeLen (regOf p1) (regOf p2) (p3 % 256)
     ∷ i.BoundsLen (regOf p1) (regOf p2) (regOf p3) (regOf p4)
     ∷ i.Alloc (regOf p1) (regOf p2)
     ∷ i.TakeBounds (regOf p1) (regOf p2) (regOf p3)
-    ∷ i.CallNative p1 (listOf p2 p3) (optOf op p4)
+    ∷ i.CallNative p1 (regsOf p2 p3) (optOf op p4)
     ∷ i.Br (blockOf p1)
     ∷ i.CondBr (regOf p1) (blockOf p2) (blockOf p3)
     ∷ i.Case (regOf p1) p2
@@ -64,10 +66,11 @@ insts op p1 p2 p3 p4 p5 p6 =
     ∷ i.Unreachable p1
     ∷ []
 
+-- over the record itself
 abbrev pub instsOf : Record → List Inst
 instsOf r = insts (r .op) (r .p1) (r .p2) (r .p3) (r .p4) (r .p5) (r .p6)
 
--- kind 23, and any past it, is a Stmt
+-- "23 Stmt"; a kind past it is read as a Stmt too
 unfoldable pub instOf : Record → Inst
 instOf r = getD (instsOf r) (r .kind) i.Stmt
 
@@ -75,7 +78,7 @@ instOf r = getD (instsOf r) (r .kind) i.Stmt
 abbrev pub codeOf : Record → Code
 codeOf r = record { inst = instOf r; stmt = record { 0 = r .stmt } }
 
--- "Unused places are zero": an instruction's record, with statement 0
+-- "Byte 0 class", "3 zero": a record of class 4, with statement 0
 abbrev pub rowOf : ℕ → ℕ → ℕ → ℕ → ℕ → ℕ → ℕ → ℕ → Record
 rowOf kind op p1 p2 p3 p4 p5 p6 = record {
   class = 4;
@@ -91,6 +94,7 @@ rowOf kind op p1 p2 p3 p4 p5 p6 = record {
   p6 = p6;
 }
 
+-- "Kinds:" and "Unused places are zero": the record of an instruction, with statement 0
 unfoldable pub instRecord : Inst → Record
 instRecord (i.Const d v) = rowOf 0 0 (d .0) (lowOf v) (highOf v) 0 0 0
 instRecord (i.ConstF d v) = rowOf 1 0 (d .0) (lowOf (bitsOf v)) (highOf (bitsOf v)) 0 0 0
@@ -117,6 +121,7 @@ instRecord (i.Ret v) = rowOf 21 (optNum v) (optArg v) 0 0 0 0 0
 instRecord (i.Unreachable w) = rowOf 22 0 w 0 0 0 0 0
 instRecord i.Stmt = rowOf 23 0 0 0 0 0 0 0
 
+-- the same record with a statement
 abbrev pub withStmt : Record → ℕ → Record
 withStmt r n = record {
   class = r .class;
@@ -132,6 +137,7 @@ withStmt r n = record {
   p6 = r .p6;
 }
 
+-- the record of an instruction with its statement
 abbrev pub recordOf : Code → Record
 recordOf c = withStmt (instRecord (c .inst)) (c .stmt .0)
 
@@ -176,6 +182,7 @@ inRange (i.Ret v) = words (optArg v ∷ [])
 inRange (i.Unreachable w) = words (w ∷ [])
 inRange i.Stmt = true
 
+-- the same of an instruction with its statement
 pub record InRange (c : Code) : Type 0 where
   pub inst : inRange (c .inst) ≡ true
   pub stmt : c .stmt .0 < 2 ^ 32

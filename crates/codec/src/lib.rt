@@ -10,19 +10,20 @@ use inst::Reg;
 use inst::Regs;
 use inst::StmtId;
 
-fn word_of(low: u32, high: u32) -> u64
+// The word whose low and high halves stand in two fields.
+pub fn word_of(low: u32, high: u32) -> u64
     ensures { λ r. ⌜ r ≡ wordOf low high ⌝ }
 {
     (low as u64) + 4294967296 * (high as u64)
 }
 
-fn low_of(v: u64) -> u32
+pub fn low_of(v: u64) -> u32
     ensures { λ r. ⌜ r ≡ lowOf v ⌝ }
 {
     (v % 4294967296) as u32
 }
 
-fn high_of(v: u64) -> u32
+pub fn high_of(v: u64) -> u32
     ensures { λ r. ⌜ r ≡ highOf v ⌝ }
 {
     (v / 4294967296) as u32

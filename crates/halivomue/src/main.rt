@@ -91,6 +91,12 @@ fn answer_file(command: Command, path: &[u8]) {
 fn answer_argument(command: Command, i: usize) {
     let mut path = io::buffer();
     let n = os::arg(i, &mut path);
+    if os::errno() != 0 {
+        say(b"argument ");
+        io::print_decimal(STDOUT_FILENO, i as u64);
+        say(b": cannot be opened: longer than a path\n");
+        return;
+    }
     answer_file(command, &path[..n]);
 }
 

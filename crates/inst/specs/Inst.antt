@@ -1,7 +1,7 @@
 -- Document 01, "Class 4, instruction": the kinds' numbers.
 use Prim.Native.Nat.{ℕ}
 use mathlib.Core.Bool.{Bool, _&&_}
-use lib.Dec.{leb, ltb}
+use lib.Dec.{leb}
 use Rattle.inst.specs.declared.Inst.{Inst}
 use Rattle.inst.specs.declared.Inst.the-variants as i
 
@@ -36,5 +36,6 @@ kindOf i.Stmt = 23
 abbrev pub terminatorKind : ℕ → Bool
 terminatorKind k = leb 18 k && leb k 22
 
+-- "each ending in its only terminator": whether an instruction is one
 abbrev pub terminatorOf : Inst → Bool
 terminatorOf i = terminatorKind (kindOf i)

@@ -203,9 +203,19 @@ pub struct Code {
     pub stmt: StmtId,
 }
 
+// Where a block starts and ends in the code; the end is exclusive.
 pub struct Block {
     pub start: u32,
     pub end: u32,
+}
+
+// An arm of a table. The default's bounds are zero.
+pub struct Arm {
+    pub table: u32,
+    pub low: u64,
+    pub high: u64,
+    pub to: BlockId,
+    pub default: bool,
 }
 
 pub fn kind(i: Inst) -> u32

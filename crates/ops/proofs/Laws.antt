@@ -1,11 +1,9 @@
 -- Laws of the ops: each number that an enum has comes back, and so does each of its cases.
-use Prim.Native.Nat.{ℕ, zero, suc, _%_, _≤_, _<_}
+use Prim.Native.Nat.{ℕ, zero, suc, _≤_, _<_}
 use native.Mathlib.Omega.{arith}
-use mathlib.Core.Path.{_≡_, refl, sym, ap, subst, _∙_}
+use mathlib.Core.Path.{_≡_, refl, sym, subst}
 use mathlib.Core.Bool.{Bool, true, false}
-use mathlib.Core.List.{List}
-use lib.Dec.{T, eqb, lit<}
-use lib.ListN.{length, getD, List·getD-eq-default}
+use lib.Dec.{eqb, lit<}
 use borrow.Author.Tests.{eqb-true, eqb-false}
 use Rattle.inst.specs.declared.CmpOp.{CmpOp}
 use Rattle.inst.specs.declared.CmpOp.the-variants as c
@@ -23,7 +21,7 @@ use Rattle.inst.specs.declared.OptReg.{OptReg}
 use Rattle.inst.specs.declared.OptReg.the-variants as o
 use Rattle.inst.specs.declared.AddrSpace.{AddrSpace}
 use Rattle.inst.specs.declared.AddrSpace.the-variants as s
-use Rattle.ops.specs.Ops.{cmpOf, cmpNum, boolOf, boolNum, intOf, intNum, widthOf, widthNum, checkOf, checkNum, regTyOf, regTyNum, spaceOf, spaceNum, spaceArg, optOf, optNum, optArg}
+use Rattle.ops.specs.Ops.{cmpOf, cmpNum, boolOf, boolNum, intOf, intNum, widthOf, widthNum, checkOf, checkNum, regTyOf, regTyNum, spaceOf, spaceNum, optOf, optNum, optArg}
 
 -- what holds of each number below n, one by one
 abbrev pub Below : (ℕ → Type 0) → ℕ → Type 0

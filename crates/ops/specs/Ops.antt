@@ -1,8 +1,7 @@
 -- Document 01, "Class 4, instruction": "Ops count from 0 in `inst.rs`'s order." A number past the last is read as the last.
 use Prim.Native.Nat.{ℕ, _%_}
-use mathlib.Core.List.{List, [], _∷_}
+use mathlib.Core.List.{[], _∷_}
 use lib.ListN.{getD}
-use Rattle.inst.specs.declared.Reg.{Reg}
 use Rattle.inst.specs.declared.OptReg.{OptReg}
 use Rattle.inst.specs.declared.OptReg.the-variants as o
 use Rattle.inst.specs.declared.CmpOp.{CmpOp}
@@ -20,6 +19,7 @@ use Rattle.inst.specs.declared.RegTy.the-variants as t
 use Rattle.inst.specs.declared.AddrSpace.{AddrSpace}
 use Rattle.inst.specs.declared.AddrSpace.the-variants as s
 
+-- "5 Cmp": its op
 abbrev pub cmpOf : ℕ → CmpOp
 cmpOf op = getD (c.Eq ∷ c.Ne ∷ c.Lt ∷ c.Le ∷ c.Gt ∷ []) op c.Ge
 
@@ -31,6 +31,7 @@ cmpNum c.Le = 3
 cmpNum c.Gt = 4
 cmpNum c.Ge = 5
 
+-- "6 Bool": its op
 abbrev pub boolOf : ℕ → BoolOp
 boolOf op = getD (b.And ∷ b.Or ∷ b.Xor ∷ []) op b.Not
 
@@ -40,6 +41,7 @@ boolNum b.Or = 1
 boolNum b.Xor = 2
 boolNum b.Not = 3
 
+-- "7 Bin", "8 BinRange": their op
 abbrev pub intOf : ℕ → IntOp
 intOf op = getD (n.Add ∷ n.Sub ∷ n.Mul ∷ n.Div ∷ n.Rem ∷ n.Mod ∷ []) op n.Pow
 
@@ -52,6 +54,7 @@ intNum n.Rem = 4
 intNum n.Mod = 5
 intNum n.Pow = 6
 
+-- "9 Load dst addr (op width)", "10 Store addr src (op width)"
 abbrev pub widthOf : ℕ → Width
 widthOf op = getD (w.B1 ∷ w.B4 ∷ w.B8 ∷ []) op w.Sig
 
@@ -61,6 +64,7 @@ widthNum w.B4 = 1
 widthNum w.B8 = 2
 widthNum w.Sig = 3
 
+-- "11 Check v lo hi what (op kind)"
 abbrev pub checkOf : ℕ → CheckKind
 checkOf op = getD (k.Range ∷ k.Index ∷ k.IndexDown ∷ k.Length ∷ []) op k.Null
 
@@ -86,6 +90,7 @@ regTyNum t.Handle = 4
 abbrev pub spaceOf : ℕ → ℕ → AddrSpace
 spaceOf op n = getD (s.Frame ∷ s.Up (n % 256) ∷ s.Inst ∷ s.Pkg n ∷ s.Const n ∷ []) op s.Shared
 
+-- "AddrOf dst, space number, off (op space)": the op, and the number, 0 where the space carries none
 abbrev pub spaceNum : AddrSpace → ℕ
 spaceNum s.Frame = 0
 spaceNum (s.Up n) = 1

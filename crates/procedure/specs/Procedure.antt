@@ -5,6 +5,7 @@ use mathlib.Core.Option.{Option, none, some}
 use mathlib.Core.Bool.{Bool, cond}
 use lib.ListN.{length}
 use Rattle.format.specs.declared.Record.{Record}
+use Rattle.format.specs.Record.{recordsOf}
 use Rattle.layout.specs.Classes.{ofClass}
 use Rattle.read.specs.Structure.{isDefault, codeOf as recordsOfBlock}
 use Rattle.inst.specs.declared.Code.{Code}
@@ -31,6 +32,10 @@ pub record Procedure : Type 0 where
   -- the register of each operand
   pub operands : List ℕ
   pub tables : List Table
+
+-- the instructions of a part of the code: "Each block's records are a part of the code slice from start to end"
+abbrev pub codesOf : List ℕ → List Code
+codesOf b = map codeOf (recordsOf b)
 
 abbrev pub armOf : Record → Arm
 armOf r = record { low = wordOf (r .p2) (r .p3); high = wordOf (r .p4) (r .p5); target = r .p6 }

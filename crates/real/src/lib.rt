@@ -1,7 +1,7 @@
 ghost use mathlib.Core.Path.{_≡_};
 ghost use Rattle.real.specs.Real.{realOf, bitsOf};
 
-// An f64 kept bit for bit. A NaN's pattern stands by itself: an f64 forgets which NaN it was.
+// An f64 kept bit for bit. A NaN's pattern stands by itself, since the logic's f64 has one NaN for all of them.
 pub enum Real {
     Number(f64),
     Nan(u64),

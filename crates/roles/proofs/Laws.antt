@@ -1,9 +1,10 @@
 -- The roles hold an instruction's lists: those written first, then those read, then the operands.
 use Prim.Native.Nat.{ℕ, _≤_}
+use native.Mathlib.Omega.{arith}
 use mathlib.Core.Path.{_≡_, refl}
 use mathlib.Core.List.{List, _++_}
 use lib.Dec.{T, leb, leb→le}
-use lib.ListN.{length, take, drop}
+use lib.ListN.{length, take, drop, length-append}
 use Rattle.inst.specs.declared.OptReg.the-variants as o
 use Rattle.inst.specs.declared.BoolOp.the-variants as b
 use Rattle.inst.specs.declared.CheckKind.the-variants as k
@@ -49,6 +50,14 @@ few i.Stmt = tt
 
 pub all-few : (x : Inst) → length (defsOf x ++ usesOf x) ≤ 5
 all-few x = leb→le _ _ (few x)
+
+pub n-few : (x : Inst) → rolesOf x .n ≤ 5
+unfolding rolesOf
+n-few x = all-few x
+
+pub defs-few : (x : Inst) → rolesOf x .defs ≤ 5
+unfolding rolesOf
+defs-few x = omega (arith, all-few x, length-append (defsOf x) (usesOf x))
 
 pub defs-first : (x : Inst) → take (rolesOf x .defs) (rolesOf x .reg) ≡ defsOf x
 unfolding rolesOf

@@ -1,6 +1,8 @@
 -- Document 01, "Class 4, instruction": "`Inst::visit_mut` says which register fields are read and written; list operands are read too."
 use Prim.Native.Nat.{ℕ}
+use mathlib.Core.Bool.{Bool, false, _||_}
 use mathlib.Core.List.{List, [], _∷_, _++_}
+use lib.Dec.{eqb}
 use lib.ListN.{length, take, drop}
 use Rattle.roles.specs.declared.Roles.{Roles}
 use Rattle.inst.specs.declared.Regs.{Regs}
@@ -12,6 +14,11 @@ use Rattle.inst.specs.declared.CheckKind.{CheckKind}
 use Rattle.inst.specs.declared.CheckKind.the-variants as k
 use Rattle.inst.specs.declared.Inst.{Inst}
 use Rattle.inst.specs.declared.Inst.the-variants as i
+
+-- whether a register is in a list
+unfoldable pub has : ℕ → List ℕ → Bool
+has x [] = false
+has x (y ∷ ys) = eqb y x || has x ys
 
 -- visit_mut: "if let Some(r)"
 abbrev pub optional : OptReg → List ℕ

@@ -1,5 +1,7 @@
 ghost use mathlib.Core.Path.{_≡_};
-ghost use Rattle.roles.specs.Roles.{rowOf, noList, boolRoles, checkRoles, callRoles, retRoles, rolesOf};
+ghost use Prim.Native.Nat.{_≤_};
+ghost use lib.ListN.{take, drop};
+ghost use Rattle.roles.specs.Roles.{rowOf, noList, boolRoles, checkRoles, callRoles, retRoles, rolesOf, defsOf, usesOf, has};
 use inst::BoolOp;
 use inst::CheckKind;
 use inst::Inst;
@@ -138,4 +140,36 @@ pub fn roles_of(i: Inst) -> Roles
         Inst::Unreachable { what } => row(0, 0, 0, 0, 0, 0, 0),
         Inst::Stmt => row(0, 0, 0, 0, 0, 0, 0),
     }
+}
+
+// Whether x is among the registers from place a up to place e.
+fn among(reg: [u32; 5], a: usize, e: usize, x: u32) -> bool
+    requires { ⌜ e ≤ 5 ⌝ }
+    ensures { λ r. ⌜ r ≡ has x (drop a (take e reg)) ⌝ }
+{
+    let mut k = a;
+    while k < e {
+        if reg[k] == x {
+            return true;
+        }
+        k += 1;
+    }
+    false
+}
+
+pub fn writes(i: Inst, r: Reg) -> bool
+    ensures { λ w. ⌜ w ≡ has (r .0) (defsOf i) ⌝ }
+{
+    let q = roles_of(i);
+    let reg = q.reg;
+    among(reg, 0, q.defs, r.0)
+}
+
+// Whether one of the register fields is read as r; list operands are not looked at.
+pub fn reads(i: Inst, r: Reg) -> bool
+    ensures { λ w. ⌜ w ≡ has (r .0) (usesOf i) ⌝ }
+{
+    let q = roles_of(i);
+    let reg = q.reg;
+    among(reg, q.defs, q.n, r.0)
 }

@@ -3,15 +3,15 @@ use Prim.Native.Nat.{ℕ, zero, suc, _+_, _≤_, _<_}
 use native.Mathlib.Nat.{zero-add, suc-add, eq-or-lt-of-le}
 use mathlib.Core.Logic.{⊎-elim}
 use native.Mathlib.Omega.{arith}
-use mathlib.Core.Path.{_≡_, refl, sym, ap, _∙_}
-use mathlib.Core.Bool.{Bool, true, false, _&&_}
+use mathlib.Core.Path.{_≡_, refl, sym, ap, subst, _∙_}
+use mathlib.Core.Bool.{Bool, true, false, _&&_, cond}
 use mathlib.Core.List.{List, [], _∷_}
-use lib.Dec.{ltb, eqb, leb·suc-suc, leb·zero, leb·suc-zero, eqb·suc-zero}
-use borrow.Author.Tests.{lt-ltb, le-ltb, ne-eqb, eq-eqb}
-use lib.ListN.{length, getD, List·getD-eq-default}
+use lib.Dec.{leb, ltb, eqb, leb·suc-suc, leb·zero, leb·suc-zero, eqb·suc-zero}
+use borrow.Author.Tests.{lt-ltb, le-ltb, lt-leb, ne-eqb, eq-eqb}
+use lib.ListN.{length, getD, drop, drop-of-length-le, List·getD-eq-default}
 use Rattle.format.specs.declared.Record.{Record}
 use Rattle.format.specs.Kinds.{Place, spaceNumber, unused, register, optional, zeros, fields, allFit, places, kindCount, opCount, statementFits, instructionPlaces, right}
-use Rattle.shape.specs.Parts.{plain, below}
+use Rattle.shape.specs.Parts.{plain, below, listedPlaces}
 use Rattle.shape.specs.declared.exist.Counts.{Counts}
 use Rattle.shape.specs.Exist.{exist, allExist, namesExist}
 
@@ -79,8 +79,62 @@ pub address-exists : (n : Counts) (r : Record) {x : Bool} → x ≡ below (n .re
 address-exists n r f = f ∙ ap (λ (b : Bool). ltb (r .p1) (n .registers) && (b && true)) (sym (space-exists n (r .op) (r .p2) (r .p3)))
 
 -- Stmt lists no place
+pub past-row : (k op : ℕ) → 23 ≤ k → [] ≡ getD (instructionPlaces op) k []
+past-row k op h = ⊎-elim (λ (e : 23 ≡ k). at-key (instructionPlaces op) [] (sym e)) (λ (i : 23 < k). at-rest (instructionPlaces op) [] i) (eq-or-lt-of-le h)
+
 pub past-kinds : (r : Record) → 23 ≤ r .kind → [] ≡ getD (instructionPlaces (r .op)) (r .kind) []
-past-kinds r h = ⊎-elim (λ (e : 23 ≡ r .kind). at-key (instructionPlaces (r .op)) [] (sym e)) (λ (i : 23 < r .kind). at-rest (instructionPlaces (r .op)) [] i) (eq-or-lt-of-le h)
+past-kinds r h = past-row (r .kind) (r .op) h
+
+-- the kinds whose places take any number
+pub plain-row : (r : Record) (k op : ℕ) → (k ≡ 3 → ⊥) → (k ≡ 13 → ⊥) → (k ≡ 17 → ⊥) → (k ≡ 21 → ⊥) → zeros (drop (getD listedPlaces k 0) (fields r)) ≡ allFit (getD (instructionPlaces op) k []) (fields r)
+plain-row r zero op a b c d = refl
+plain-row r (suc zero) op a b c d = refl
+plain-row r (suc (suc zero)) op a b c d = refl
+plain-row r (suc (suc (suc zero))) op a b c d = absurd (a refl)
+plain-row r (suc (suc (suc (suc zero)))) op a b c d = refl
+plain-row r (suc (suc (suc (suc (suc zero))))) op a b c d = refl
+plain-row r (suc (suc (suc (suc (suc (suc zero)))))) op a b c d = refl
+plain-row r (suc (suc (suc (suc (suc (suc (suc zero))))))) op a b c d = refl
+plain-row r (suc (suc (suc (suc (suc (suc (suc (suc zero)))))))) op a b c d = refl
+plain-row r (suc (suc (suc (suc (suc (suc (suc (suc (suc zero))))))))) op a b c d = refl
+plain-row r (suc (suc (suc (suc (suc (suc (suc (suc (suc (suc zero)))))))))) op a b c d = refl
+plain-row r (suc (suc (suc (suc (suc (suc (suc (suc (suc (suc (suc zero))))))))))) op a b c d = refl
+plain-row r (suc (suc (suc (suc (suc (suc (suc (suc (suc (suc (suc (suc zero)))))))))))) op a b c d = refl
+plain-row r (suc (suc (suc (suc (suc (suc (suc (suc (suc (suc (suc (suc (suc zero))))))))))))) op a b c d = absurd (b refl)
+plain-row r (suc (suc (suc (suc (suc (suc (suc (suc (suc (suc (suc (suc (suc (suc zero)))))))))))))) op a b c d = refl
+plain-row r (suc (suc (suc (suc (suc (suc (suc (suc (suc (suc (suc (suc (suc (suc (suc zero))))))))))))))) op a b c d = refl
+plain-row r (suc (suc (suc (suc (suc (suc (suc (suc (suc (suc (suc (suc (suc (suc (suc (suc zero)))))))))))))))) op a b c d = refl
+plain-row r (suc (suc (suc (suc (suc (suc (suc (suc (suc (suc (suc (suc (suc (suc (suc (suc (suc zero))))))))))))))))) op a b c d = absurd (c refl)
+plain-row r (suc (suc (suc (suc (suc (suc (suc (suc (suc (suc (suc (suc (suc (suc (suc (suc (suc (suc zero)))))))))))))))))) op a b c d = refl
+plain-row r (suc (suc (suc (suc (suc (suc (suc (suc (suc (suc (suc (suc (suc (suc (suc (suc (suc (suc (suc zero))))))))))))))))))) op a b c d = refl
+plain-row r (suc (suc (suc (suc (suc (suc (suc (suc (suc (suc (suc (suc (suc (suc (suc (suc (suc (suc (suc (suc zero)))))))))))))))))))) op a b c d = refl
+plain-row r (suc (suc (suc (suc (suc (suc (suc (suc (suc (suc (suc (suc (suc (suc (suc (suc (suc (suc (suc (suc (suc zero))))))))))))))))))))) op a b c d = absurd (d refl)
+plain-row r (suc (suc (suc (suc (suc (suc (suc (suc (suc (suc (suc (suc (suc (suc (suc (suc (suc (suc (suc (suc (suc (suc zero)))))))))))))))))))))) op a b c d = refl
+plain-row r (suc (suc (suc (suc (suc (suc (suc (suc (suc (suc (suc (suc (suc (suc (suc (suc (suc (suc (suc (suc (suc (suc (suc zero))))))))))))))))))))))) op a b c d = refl
+plain-row r (suc (suc (suc (suc (suc (suc (suc (suc (suc (suc (suc (suc (suc (suc (suc (suc (suc (suc (suc (suc (suc (suc (suc (suc (k))))))))))))))))))))))))) op a b c d = refl
+
+not-less : 7 < 7 → ⊥
+not-less h = omega arith
+
+-- a kind that lists fewer than 7
+pub few-listed : (r : Record) (k op : ℕ) → getD listedPlaces k 0 < 7 → zeros (drop (getD listedPlaces k 0) (fields r)) ≡ allFit (getD (instructionPlaces op) k []) (fields r)
+few-listed r k op h = plain-row r k op (λ e. not-less (seven 3 e)) (λ e. not-less (seven 13 e)) (λ e. not-less (seven 17 e)) (λ e. not-less (seven 21 e))
+  where
+    seven : (n : ℕ) → k ≡ n → getD listedPlaces n 0 < 7
+    seven n e = subst (λ (n : ℕ). getD listedPlaces n 0 < 7) e h
+
+-- the fields past the first few, picked one by one
+abbrev pub pick : ℕ → Record → List ℕ
+pick u r = cond (leb u 0) (r .p1) 0 ∷ cond (leb u 1) (r .p2) 0 ∷ cond (leb u 2) (r .p3) 0 ∷ cond (leb u 3) (r .p4) 0 ∷ cond (leb u 4) (r .p5) 0 ∷ cond (leb u 5) (r .p6) 0 ∷ []
+
+pub picked : (u : ℕ) (r : Record) → zeros (pick u r) ≡ zeros (drop u (fields r))
+picked zero r = refl
+picked (suc zero) r = refl
+picked (suc (suc zero)) r = refl
+picked (suc (suc (suc zero))) r = refl
+picked (suc (suc (suc (suc zero)))) r = refl
+picked (suc (suc (suc (suc (suc zero))))) r = refl
+picked (suc (suc (suc (suc (suc (suc u)))))) r = rw (lt-leb (suc (suc (suc (suc (suc (suc u)))))) 0 (omega arith), lt-leb (suc (suc (suc (suc (suc (suc u)))))) 1 (omega arith), lt-leb (suc (suc (suc (suc (suc (suc u)))))) 2 (omega arith), lt-leb (suc (suc (suc (suc (suc (suc u)))))) 3 (omega arith), lt-leb (suc (suc (suc (suc (suc (suc u)))))) 4 (omega arith), lt-leb (suc (suc (suc (suc (suc (suc u)))))) 5 (omega arith)) (sym (ap zeros (drop-of-length-le (fields r) {i = suc (suc (suc (suc (suc (suc u)))))} (omega arith))))
 
 pub optional-some : (op : ℕ) → (op ≡ 0 → ⊥) → register ≡ optional op
 optional-some op h = at-rest (unused ∷ []) register {x = op} (omega arith)

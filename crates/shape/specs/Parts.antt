@@ -14,3 +14,7 @@ plain r kinds = ltb (r .kind) kinds && zeros (r .op ∷ r .zero ∷ r .stmt ∷ 
 abbrev pub below : ℕ → List ℕ → Bool
 below n [] = true
 below n (p ∷ ps) = ltb p n && below n ps
+
+-- how many places each kind of instruction lists; 7 where not every number fits them, or the op decides
+abbrev pub listedPlaces : List ℕ
+listedPlaces = 3 ∷ 3 ∷ 2 ∷ 7 ∷ 4 ∷ 3 ∷ 3 ∷ 3 ∷ 6 ∷ 2 ∷ 2 ∷ 4 ∷ 3 ∷ 7 ∷ 4 ∷ 2 ∷ 3 ∷ 7 ∷ 1 ∷ 3 ∷ 2 ∷ 7 ∷ 1 ∷ 0 ∷ []

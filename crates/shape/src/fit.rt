@@ -1,10 +1,11 @@
 ghost use mathlib.Core.Path.{_≡_};
 ghost use mathlib.Core.List.{[], _∷_};
-ghost use mathlib.Core.Bool.{_&&_};
-ghost use lib.Dec.{ltb, eqb};
+ghost use mathlib.Core.Bool.{cond};
+ghost use Prim.Native.Nat.{_<_};
+ghost use lib.Dec.{leb};
 ghost use lib.ListN.{drop, getD};
 ghost use Rattle.format.specs.Kinds.{zeros, fields, allFit, instructionPlaces, instructionOps, armPlaces, spaceNumber, fit as fitsPlace, right as rightRecord};
-ghost use Rattle.shape.specs.Parts.{plain as plainRecord};
+ghost use Rattle.shape.specs.Parts.{plain as plainRecord, listedPlaces};
 use format::Record;
 
 // How many ops each kind of instruction has.
@@ -35,6 +36,34 @@ const OPS: [u32; 24] = [
     1,
 ];
 
+// How many places each kind of instruction lists; 7 where not every number fits them, or the op decides.
+const LISTED: [u32; 24] = [
+    3,
+    3,
+    2,
+    7,
+    4,
+    3,
+    3,
+    3,
+    6,
+    2,
+    2,
+    4,
+    3,
+    7,
+    4,
+    2,
+    3,
+    7,
+    1,
+    3,
+    2,
+    7,
+    1,
+    0,
+];
+
 fn wide(x: u32) -> u64
     ensures { λ r. ⌜ r ≡ x ⌝ }
 {
@@ -47,19 +76,25 @@ fn all_zero(a: u32, b: u32, c: u32, d: u32, e: u32, f: u32) -> bool
     wide(a) + (wide(b) + (wide(c) + (wide(d) + (wide(e) + wide(f))))) == 0
 }
 
+// A field where it is not among the first `used`, else 0.
+fn beyond(used: u32, place: u32, field: u32) -> u32
+    ensures { λ p. ⌜ p ≡ cond (leb used place) field 0 ⌝ }
+{
+    if used <= place { field } else { 0 }
+}
+
 // The fields after the first `used` are zero.
 fn blank(used: u32, r: Record) -> bool
     ensures { λ z. ⌜ z ≡ zeros (drop used (fields r)) ⌝ }
 {
-    match used {
-        0 => all_zero(r.p1, r.p2, r.p3, r.p4, r.p5, r.p6),
-        1 => all_zero(0, r.p2, r.p3, r.p4, r.p5, r.p6),
-        2 => all_zero(0, 0, r.p3, r.p4, r.p5, r.p6),
-        3 => all_zero(0, 0, 0, r.p4, r.p5, r.p6),
-        4 => all_zero(0, 0, 0, 0, r.p5, r.p6),
-        5 => all_zero(0, 0, 0, 0, 0, r.p6),
-        _ => true,
-    }
+    all_zero(
+        beyond(used, 0, r.p1),
+        beyond(used, 1, r.p2),
+        beyond(used, 2, r.p3),
+        beyond(used, 3, r.p4),
+        beyond(used, 4, r.p5),
+        beyond(used, 5, r.p6),
+    )
 }
 
 // The number of an AddrOf's space fits the space.
@@ -76,37 +111,30 @@ fn space_fits(op: u32, number: u32) -> bool
     }
 }
 
-// The fields of an instruction fit the places that its kind lists.
-fn instruction_fits(r: Record) -> bool
+fn special_fits(used: u32, r: Record) -> bool
+    requires { ⌜ used ≡ getD listedPlaces (r .kind) 0 ⌝ }
     ensures { λ z. ⌜ z ≡ allFit (getD (instructionPlaces (r .op)) (r .kind) []) (fields r) ⌝ }
 {
     let kind = r.kind;
     match kind {
-        0 => blank(3, r),
-        1 => blank(3, r),
-        2 => blank(2, r),
         3 => space_fits(r.op, r.p2) && blank(3, r),
-        4 => blank(4, r),
-        5 => blank(3, r),
-        6 => blank(3, r),
-        7 => blank(3, r),
-        8 => blank(6, r),
-        9 => blank(2, r),
-        10 => blank(2, r),
-        11 => blank(4, r),
-        12 => blank(3, r),
         13 => r.p3 < 256 && blank(3, r),
-        14 => blank(4, r),
-        15 => blank(2, r),
-        16 => blank(3, r),
         17 => if r.op == 0 { blank(3, r) } else { blank(4, r) },
-        18 => blank(1, r),
-        19 => blank(3, r),
-        20 => blank(2, r),
         21 => if r.op == 0 { blank(0, r) } else { blank(1, r) },
-        22 => blank(1, r),
-        _ => blank(0, r),
+        _ => blank(used, r),
     }
+}
+
+// The fields of an instruction fit the places that its kind lists.
+fn instruction_fits(r: Record) -> bool
+    requires { ⌜ r .kind < 24 ⌝ }
+    ensures { λ z. ⌜ z ≡ allFit (getD (instructionPlaces (r .op)) (r .kind) []) (fields r) ⌝ }
+{
+    let used = LISTED[r.kind as usize];
+    if used < 7 {
+        return blank(used, r);
+    }
+    special_fits(used, r)
 }
 
 fn instruction(r: Record) -> bool

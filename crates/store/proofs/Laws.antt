@@ -1,12 +1,12 @@
 -- Laws of records in bytes: what is written is read back, the others stay, and writing what was read changes nothing.
-use Prim.Native.Nat.{ℕ, zero, suc, _+_, _-_, _*_, _/_, _%_, _≤_, _<_, _^_}
+use Prim.Native.Nat.{ℕ, zero, suc, _+_, _-_, _*_, _/_, _≤_, _<_, _^_}
 use native.Mathlib.Omega.{arith}
 use mathlib.Core.Path.{_≡_, refl, sym, ap, subst, _∙_}
 use mathlib.Core.Bool.{Bool, true, false}
 use mathlib.Core.List.{List, [], _∷_, _++_, append-assoc}
 use mathlib.Core.Logic.{_⊎_, inl, inr}
 use lib.ListN.{length, getD, take, drop, set, length-append, length-drop, length-set, take-append-drop}
-use lib.Seq.{sets, sets-eq, length-sets, drop-cons, drop-at, drop-append-le, drop-append-add, drop-drop, length-take-le, getD-set-same, getD-set-other, ext-getD, getD-drop}
+use lib.Seq.{sets, sets-eq, length-sets, drop-cons, drop-append-le, drop-append-add, drop-drop, length-take-le, getD-set-same, getD-set-other, ext-getD, getD-drop}
 use lib.Dec.{ltb, eqb}
 use borrow.Author.Tests.{lt-ltb, le-ltb, ltb-true, ltb-false, eqb-true, eqb-false}
 use Rattle.format.specs.declared.Record.{Record}

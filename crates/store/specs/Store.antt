@@ -6,6 +6,7 @@ use lib.Dec.{ltb}
 use lib.ListN.{length, getD, take, drop}
 use Rattle.format.specs.declared.Record.{Record}
 
+-- a number's low byte
 abbrev pub byteOf : ℕ → ℕ
 byteOf x = x % 256
 

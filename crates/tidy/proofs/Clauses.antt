@@ -4,7 +4,7 @@ use mathlib.Core.Path.{_≡_, refl}
 use mathlib.Core.List.{List, [], _∷_, map}
 use mathlib.Core.Option.{none}
 use lib.ListN.{replicate}
-use Rattle.codec.specs.Codec.{regOf, blockOf, listOf}
+use Rattle.codec.specs.Codec.{regOf, blockOf, regsOf as listOf}
 use Rattle.inst.specs.declared.Inst.{Inst}
 use Rattle.inst.specs.declared.Inst.the-variants as i
 use Rattle.inst.specs.declared.OptReg.the-variants as o

@@ -1,0 +1,108 @@
+ghost use mathlib.Core.Path.{_≡_};
+ghost use Rattle.items.specs.Items.{rowOf, registerOf, registerRecord, blockOf, blockRecord, bodyOf, bodyRecord, operandOf, operandRecord, armOf, armRecord};
+use format::Record;
+use inst::Arm;
+use inst::Block;
+use inst::BlockId;
+use inst::Reg;
+use inst::RegTy;
+
+fn row(class: u32, kind: u32, p1: u32, p2: u32, p3: u32, p4: u32, p5: u32, p6: u32) -> Record
+    ensures { λ r. ⌜ r ≡ rowOf class kind p1 p2 p3 p4 p5 p6 ⌝ }
+{
+    Record {
+        class,
+        kind,
+        op: 0,
+        zero: 0,
+        stmt: 0,
+        p1,
+        p2,
+        p3,
+        p4,
+        p5,
+        p6,
+    }
+}
+
+pub fn register_of(r: Record) -> RegTy
+    ensures { λ x. ⌜ x ≡ registerOf r ⌝ }
+{
+    ops::reg_ty_of(r.kind)
+}
+
+pub fn record_of_register(x: RegTy) -> Record
+    ensures { λ r. ⌜ r ≡ registerRecord x ⌝ }
+{
+    row(1, ops::reg_ty_num(x), 0, 0, 0, 0, 0, 0)
+}
+
+pub fn block_of(r: Record) -> Block
+    ensures { λ x. ⌜ x ≡ blockOf r ⌝ }
+{
+    Block {
+        start: r.p1,
+        end: r.p2,
+    }
+}
+
+pub fn record_of_block(x: Block) -> Record
+    ensures { λ r. ⌜ r ≡ blockRecord x ⌝ }
+{
+    row(2, 0, x.start, x.end, 0, 0, 0, 0)
+}
+
+pub fn body_of(r: Record) -> BlockId
+    ensures { λ x. ⌜ x ≡ bodyOf r ⌝ }
+{
+    BlockId(r.p1)
+}
+
+pub fn record_of_body(x: BlockId) -> Record
+    ensures { λ r. ⌜ r ≡ bodyRecord x ⌝ }
+{
+    row(3, 0, x.0, 0, 0, 0, 0, 0)
+}
+
+pub fn operand_of(r: Record) -> Reg
+    ensures { λ x. ⌜ x ≡ operandOf r ⌝ }
+{
+    Reg(r.p1)
+}
+
+pub fn record_of_operand(x: Reg) -> Record
+    ensures { λ r. ⌜ r ≡ operandRecord x ⌝ }
+{
+    row(5, 0, x.0, 0, 0, 0, 0, 0)
+}
+
+pub fn arm_of(r: Record) -> Arm
+    ensures { λ x. ⌜ x ≡ armOf r ⌝ }
+{
+    let low = codec::word_of(r.p2, r.p3);
+    let high = codec::word_of(r.p4, r.p5);
+    Arm {
+        table: r.p1,
+        low,
+        high,
+        to: BlockId(r.p6),
+        default: r.kind == 1,
+    }
+}
+
+pub fn record_of_arm(x: Arm) -> Record
+    ensures { λ r. ⌜ r ≡ armRecord x ⌝ }
+{
+    let low = x.low;
+    let high = x.high;
+    let to = x.to;
+    let p2 = codec::low_of(low);
+    let p3 = codec::high_of(low);
+    let p4 = codec::low_of(high);
+    let p5 = codec::high_of(high);
+    if x.default {
+        row(6, 1, x.table, p2, p3, p4, p5, to.0)
+    } else {
+        row(6, 0, x.table, p2, p3, p4, p5, to.0)
+    }
+}

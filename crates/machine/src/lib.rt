@@ -1,0 +1,1 @@
+// Definitions alone: document 01's machine, and demand 3 about two of its runs.

@@ -1,0 +1,108 @@
+-- Document 01, "Emit".
+use Prim.Native.Nat.{ℕ, zero, suc, _+_}
+use mathlib.Core.List.{List, [], _∷_, _++_, map}
+use mathlib.Core.Bool.{Bool, true, false, _&&_, _||_, not, cond}
+use lib.Dec.{eqb, leb}
+use lib.ListN.{length, getD, set, replicate}
+use Rattle.inst.specs.declared.Code.{Code}
+use Rattle.inst.specs.declared.StmtId.{StmtId}
+use Rattle.inst.specs.declared.Inst.the-variants as i
+use Rattle.codec.specs.Codec.{blockOf}
+use Rattle.roles.specs.Roles.{defsOf}
+use Rattle.procedure.specs.Procedure.{Table}
+use Rattle.steps.specs.Lists.{anyOf}
+use Rattle.steps.specs.Ends.{End, br, condBr, case, other, endOf}
+use Rattle.steps.specs.Facts.{Facts, Fixed, word, real, address, varying, fixedOf}
+
+abbrev pub noTable : Table
+noTable = record { arms = []; default = 0 }
+
+abbrev pub armTargets : Table → List ℕ
+armTargets t = map (λ a. a .target) (t .arms) ++ (t .default ∷ [])
+
+-- "over Br, CondBr and arms"
+abbrev pub leads : List Table → End → List ℕ
+leads tables (br l) = l ∷ []
+leads tables (condBr c t f) = t ∷ f ∷ []
+leads tables (case n) = armTargets (getD tables n noTable)
+leads tables other = []
+
+-- where the end of each block leads
+abbrev pub edgesOf : List Table → List (List Code) → List (List ℕ)
+edgesOf tables P = map (λ c. leads tables (endOf c)) P
+
+unfoldable pub total : List (List ℕ) → ℕ
+total [] = 0
+total (x ∷ xs) = length x + total xs
+
+-- the blocks still to be entered, after one whose mark was there already or not
+abbrev pub pushed : Bool → List ℕ → List ℕ → List ℕ
+pushed true more stack = stack
+pushed false more stack = more ++ stack
+
+-- the walk, over the blocks still to be entered and the marks
+unfoldable pub walk : ℕ → List (List ℕ) → List ℕ → List Bool → List Bool
+walk zero edges stack marks = marks
+walk (suc k) edges [] marks = marks
+walk (suc k) edges (b ∷ stack) marks = walk k edges (pushed (getD marks b true) (getD edges b []) stack) (set marks b true)
+
+-- "one mark for each of 160 blocks, all clear at the start": a block is entered once for each edge at most, and at the start
+abbrev pub walkAll : List (List ℕ) → List Bool
+walkAll edges = walk (suc (total edges)) edges (0 ∷ []) (replicate (length edges) false)
+
+-- "From block 0 over Br, CondBr and arms"
+unfoldable pub reached : List Table → List (List Code) → List Bool
+reached tables P = walkAll (edgesOf tables P)
+
+abbrev pub isJump : End → Bool
+isJump (br l) = true
+isJump (condBr c t f) = true
+isJump (case n) = false
+isJump other = false
+
+abbrev pub isLast : List (List Code) → Bool
+isLast [] = true
+isLast (c ∷ cs) = false
+
+-- "An unreached block stays if last, or one instruction and neither Br nor CondBr."
+unfoldable pub stays : Bool → List (List Code) → List Code → Bool
+stays mark after c = mark || isLast after || leb (length c) 1 && not (isJump (endOf c))
+
+abbrev pub firstStmt : List Code → StmtId
+firstStmt [] = record { 0 = 0 }
+firstStmt (x ∷ c) = x .stmt
+
+-- "Others become a Br to the next block with their first statement"
+abbrev pub emptied : ℕ → List Code → List Code
+emptied b c = record { inst = i.Br (blockOf (suc b)); stmt = firstStmt c } ∷ []
+
+-- the blocks from block b on, with their marks
+unfoldable pub emptyFrom : ℕ → List Bool → List (List Code) → List (List Code)
+emptyFrom b marks [] = []
+emptyFrom b [] (c ∷ cs) = c ∷ cs
+emptyFrom b (m ∷ ms) (c ∷ cs) = cond (stays m cs c) c (emptied b c) ∷ emptyFrom (suc b) ms cs
+
+abbrev pub isFixed : Fixed → Bool
+isFixed (word v) = true
+isFixed real = true
+isFixed (address up) = true
+isFixed varying = false
+
+-- "their singly written Const, ConstF and AddrOf"
+abbrev pub isRescued : Facts → Code → Bool
+isRescued f x = isFixed (fixedOf (x .inst)) && anyOf (λ d. eqb (f .defs d) 1) (defsOf (x .inst))
+
+unfoldable pub rescuedOf : Facts → List Code → List Code
+rescuedOf f [] = []
+rescuedOf f (x ∷ c) = cond (isRescued f x) (x ∷ rescuedOf f c) (rescuedOf f c)
+
+-- "in order": of the blocks that become a Br
+unfoldable pub rescues : Facts → List Bool → List (List Code) → List Code
+rescues f marks [] = []
+rescues f [] (c ∷ cs) = []
+rescues f (m ∷ ms) (c ∷ cs) = cond (stays m cs c) [] (rescuedOf f c) ++ rescues f ms cs
+
+-- "move, in order, to the front of block 0"
+abbrev pub ontoFront : List Code → List (List Code) → List (List Code)
+ontoFront k [] = []
+ontoFront k (c ∷ cs) = (k ++ c) ∷ cs

@@ -1,0 +1,1 @@
+// Definitions alone: document 01's steps and its Shorten.

@@ -1,0 +1,199 @@
+//! Document 01's machine, and demand 3 tried on two runs.
+
+use crate::generate::Rng;
+use crate::procedure::Procedure;
+use crate::record::{Place, Record, kind, places};
+
+#[derive(Clone, PartialEq, Eq, Debug)]
+pub struct Act {
+    pub kind: u8,
+    pub op: u8,
+    pub plain: Vec<u32>,
+    pub read: Vec<u64>,
+    pub statement: u32,
+}
+
+#[derive(Clone, Copy, PartialEq, Eq, Debug)]
+pub enum End {
+    Ret(Option<u64>, u32),
+    Unreachable(u32, u32),
+    /// The outside ended the run on its last act.
+    Outside,
+}
+
+/// The outside: a seeded rule of the earlier acts and this one.
+#[derive(Clone, Copy)]
+pub struct Outside {
+    pub seed: u64,
+    /// Ends the run on one act in this many.
+    pub patience: u64,
+}
+
+impl Outside {
+    /// The words for `n` written registers, or the end.
+    fn answer(self, history: u64, n: usize) -> Option<Vec<u64>> {
+        let mut g = Rng::new(self.seed ^ history);
+        if g.draw().is_multiple_of(self.patience) {
+            return None;
+        }
+        Some((0..n).map(|_| word(&mut g)).collect())
+    }
+}
+
+/// A word, often a small one.
+pub fn word(g: &mut Rng) -> u64 {
+    if g.chance(80) { g.below(3) as u64 } else { g.pick(&[7, u64::MAX, 1 << 63, 1 << 32]) }
+}
+
+pub struct Run<'a> {
+    f: &'a Procedure,
+    outside: Outside,
+    pub registers: Vec<u64>,
+    block: usize,
+    place: usize,
+    /// A digest of the acts so far.
+    history: u64,
+    pub acts: Vec<Act>,
+    pub entries: usize,
+    pub end: Option<End>,
+}
+
+impl<'a> Run<'a> {
+    pub fn new(f: &'a Procedure, outside: Outside, registers: Vec<u64>) -> Run<'a> {
+        Run { f, outside, registers, block: 0, place: 0, history: 0, acts: Vec::new(), entries: 1, end: None }
+    }
+
+    fn go(&mut self, to: u32) {
+        self.block = to as usize;
+        self.place = 0;
+        self.entries += usize::from(to == 0);
+    }
+
+    /// Carries out one instruction; nothing after the end.
+    pub fn step(&mut self) {
+        if self.end.is_some() {
+            return;
+        }
+        let i = self.f.block(self.block)[self.place];
+        self.place += 1;
+        let get = |k: usize| self.registers[i.p[k - 1] as usize];
+        let truth = |k: usize| get(k) != 0;
+        let value = match i.kind {
+            kind::BR => return self.go(i.p[0]),
+            kind::COND_BR => return self.go(if truth(1) { i.p[1] } else { i.p[2] }),
+            kind::CASE => return self.go(self.chosen(i.p[1], get(1) as i64)),
+            kind::RET => return self.end = Some(End::Ret((i.op == 1).then(|| get(1)), i.statement)),
+            kind::UNREACHABLE => return self.end = Some(End::Unreachable(i.p[0], i.statement)),
+            kind::CONST | kind::CONST_F | kind::ADDR_OF => fixed(&i),
+            kind::MOVE => get(2),
+            kind::SELECT => get(if truth(2) { 3 } else { 4 }),
+            kind::CMP => u64::from(compares(i.op, get(2) as i64, get(3) as i64)),
+            kind::BOOL => u64::from(match i.op {
+                0 => truth(2) && truth(3),
+                1 => truth(2) || truth(3),
+                2 => truth(2) != truth(3),
+                _ => !truth(2),
+            }),
+            _ => return self.act(&i),
+        };
+        self.registers[i.p[0] as usize] = value;
+    }
+
+    /// The first arm that holds `v`, else the default.
+    fn chosen(&self, table: u32, v: i64) -> u32 {
+        let t = &self.f.tables[table as usize];
+        t.arms.iter().find(|a| a.0 <= v && v <= a.1).map_or(t.default, |a| a.2)
+    }
+
+    fn act(&mut self, i: &Record) {
+        let all = places(i.kind, i.op).unwrap();
+        let plain = (0..6).filter(|&k| matches!(all[k], Place::Plain | Place::Byte)).map(|k| i.p[k]).collect();
+        let read = self.f.read(i).map(|r| self.registers[r as usize]).collect();
+        let act = Act { kind: i.kind, op: i.op, plain, read, statement: i.statement };
+        self.history = digest(self.history, &act);
+        self.acts.push(act);
+        let written: Vec<u32> = self.f.written(i).collect();
+        match self.outside.answer(self.history, written.len()) {
+            Some(words) => written.iter().zip(words).for_each(|(&r, w)| self.registers[r as usize] = w),
+            None => self.end = Some(End::Outside),
+        }
+    }
+}
+
+fn digest(history: u64, a: &Act) -> u64 {
+    let mut g = Rng::new(history);
+    let words = [u64::from(a.kind), u64::from(a.op), u64::from(a.statement), a.read.len() as u64];
+    for w in words.into_iter().chain(a.plain.iter().map(|&p| u64::from(p))).chain(a.read.iter().copied()) {
+        g = Rng::new(g.draw() ^ w);
+    }
+    g.draw()
+}
+
+fn compares(op: u8, a: i64, b: i64) -> bool {
+    match op {
+        0 => a == b,
+        1 => a != b,
+        2 => a < b,
+        3 => a <= b,
+        4 => a > b,
+        _ => a >= b,
+    }
+}
+
+/// What Const, ConstF or AddrOf writes.
+fn fixed(i: &Record) -> u64 {
+    match i.kind {
+        kind::ADDR_OF => Rng::new(u64::from(i.op) << 40 ^ i.wide(2)).draw(),
+        _ => i.wide(2),
+    }
+}
+
+/// Starting registers: any words, and the original's single constants loaded.
+pub fn start(original: &Procedure, g: &mut Rng) -> Vec<u64> {
+    let mut words: Vec<u64> = original.registers.iter().map(|_| word(g)).collect();
+    let writes = original.writes();
+    for i in &original.code {
+        if matches!(i.kind, kind::CONST | kind::CONST_F | kind::ADDR_OF) && writes[i.p[0] as usize] == 1 {
+            words[i.p[0] as usize] = fixed(i);
+        }
+    }
+    words
+}
+
+/// Demand 3 for one start and one outside, up to `n` instructions of the original: within `n`
+/// plus the rescued constants for each of its entries into block 0 the shortened run has done
+/// the same acts and ended alike; and it does nothing else.
+pub fn demand_3(original: &Procedure, shortened: &Procedure, rescued: u32, seed: u64, n: usize) -> Result<(), String> {
+    let mut g = Rng::new(seed);
+    let outside = Outside { seed: g.draw(), patience: g.pick(&[8, 40, 1000]) };
+    let words = start(original, &mut g);
+    let mut longer = words.clone();
+    longer.resize_with(shortened.registers.len(), || word(&mut g));
+    let mut sent = Run::new(original, outside, words);
+    let mut short = Run::new(shortened, outside, longer);
+    let mut used = 0;
+    for done in 0..=n {
+        let bound = done + rescued as usize * sent.entries;
+        while used < bound && short.end.is_none() {
+            short.step();
+            used += 1;
+        }
+        if !short.acts.starts_with(&sent.acts) {
+            return Err(format!("after {done} instructions the acts aren't a first part"));
+        }
+        if sent.end.is_some() && (short.end != sent.end || short.acts != sent.acts) {
+            return Err(format!("after {done} instructions the ends differ"));
+        }
+        sent.step();
+    }
+    for _ in 0..64 * n {
+        sent.step();
+    }
+    if !sent.acts.starts_with(&short.acts) {
+        return Err("the shortened run does an act of its own".into());
+    }
+    if short.end.is_some() && (sent.end != short.end || sent.acts != short.acts) {
+        return Err("the shortened run ends by itself".into());
+    }
+    Ok(())
+}
