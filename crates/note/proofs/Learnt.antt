@@ -48,16 +48,16 @@ module _ (f : Facts) (k : Known) where
   unfolding learn
   learn-const {v = v} e g h = held-eq (h ∙ ap (λ (m : ℕ). k .values ++ ((m, v) ∷ [])) g) refl ∙ sym (ap (learn f k) e)
 
-  pub learn-move : {x : Inst} {d s : Reg} {n m : ℕ} {z : Known} → x ≡ i.Move d s → n ≡ d .0 → m ≡ s .0 → z ≡ moved f n m k → z ≡ learn f k x
+  pub learn-move : {x : Inst} {d s : Reg} {z : Known} → x ≡ i.Move d s → z ≡ moved f (d .0) (s .0) k → z ≡ learn f k x
   unfolding learn
-  learn-move e g h p = p ∙ rw (g, h) (sym (ap (learn f k) e))
+  learn-move e p = p ∙ sym (ap (learn f k) e)
 
-  pub learn-bool : {x : Inst} {op : BoolOp} {d p q : Reg} {n m o : ℕ} {l : List (ℕ × ℕ)} → x ≡ i.Bool op d p q → n ≡ d .0 → m ≡ p .0 → o ≡ q .0 → l ≡ k .values ++ newEntry n (boolOf op (valueOf f k m) (valueOf f k o)) → _≡_ {A = Known} (record { values = l; copies = k .copies }) (learn f k x)
+  pub learn-bool : {x : Inst} {op : BoolOp} {d p q : Reg} {l : List (ℕ × ℕ)} → x ≡ i.Bool op d p q → l ≡ k .values ++ newEntry (d .0) (boolOf op (valueOf f k (p .0)) (valueOf f k (q .0))) → _≡_ {A = Known} (record { values = l; copies = k .copies }) (learn f k x)
   unfolding learn
-  learn-bool {op = op} {n = n} {m = m} {o = o} e g h j p =
-      held-eq p refl
-      ∙ sym (value-if n (boolOf op (valueOf f k m) (valueOf f k o)) k)
-      ∙ rw (g, h, j) (sym (ap (learn f k) e))
+  learn-bool {op = op} {d = d} {p = p} {q = q} e h =
+      held-eq h refl
+      ∙ sym (value-if (d .0) (boolOf op (valueOf f k (p .0)) (valueOf f k (q .0))) k)
+      ∙ sym (ap (learn f k) e)
 
   quiet-learn : (x : Inst) → cond (quiet (kindOf x)) k (learn f k x) ≡ learn f k x
   unfolding learn

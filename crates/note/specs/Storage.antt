@@ -3,7 +3,7 @@ use Prim.Native.Nat.{ℕ, _+_, _≤_, _<_}
 use mathlib.Core.List.{List, [], _∷_}
 use mathlib.Core.Option.{Option, none, some}
 use mathlib.Core.Bool.{Bool, false, _&&_, _||_, cond}
-use lib.Dec.{eqb, ltb}
+use lib.Dec.{eqb, ltb, leb}
 use lib.ListN.{length, getD}
 use Rattle.counts.specs.Tables.{tabled}
 use Rattle.steps.specs.Facts.{Facts}
@@ -87,6 +87,10 @@ pub record OneMore (z h : Held) : Type 0 where
 -- the same as a test
 abbrev pub roomy : Held → List ℕ → List ℕ → List ℕ → List ℕ → Bool
 roomy h kr kv cr cs = ltb (h .known) (length kr) && (ltb (h .known) (length kv) && (ltb (h .copy) (length cr) && ltb (h .copy) (length cs)))
+
+-- places for n entries of each
+abbrev pub enough : ℕ → List ℕ → List ℕ → List ℕ → List ℕ → Bool
+enough n kr kv cr cs = leb n (length kr) && (leb n (length kv) && (leb n (length cr) && leb n (length cs)))
 
 -- what is known, or none where there was no room
 abbrev pub notedIn : Noted → List ℕ → List ℕ → List ℕ → List ℕ → Option Known

@@ -21,26 +21,11 @@ push-requires c κs = search needs
 enum-known-i-2 : tie.Need-enum-known-i-2
 enum-known-i-2 c = search needs
 
-wide-requires-2 : tie.Need-wide-requires-2
-wide-requires-2 c κs = search needs
-
-wide-requires-3 : tie.Need-wide-requires-3
-wide-requires-3 c κs = search needs
-
 learn-move-requires : tie.Need-learn-move-requires
 learn-move-requires c κs = search needs
 
 enum-known-i-3 : tie.Need-enum-known-i-3
 enum-known-i-3 c = search needs
-
-wide-requires-4 : tie.Need-wide-requires-4
-wide-requires-4 c κs = search needs
-
-wide-requires-5 : tie.Need-wide-requires-5
-wide-requires-5 c κs = search needs
-
-wide-requires-6 : tie.Need-wide-requires-6
-wide-requires-6 c κs = search needs
 
 learn-bool-requires : tie.Need-learn-bool-requires
 learn-bool-requires c κs = search needs
@@ -71,9 +56,9 @@ same-length-6 c = search needs
 
 returns-2 : tie.Need-returns-2
 returns-2 c =
-    let a = c .before .before .before .before .before .before .before .before .before .before .before .before .before .before .before .before .before .before .before .before .before .before .before .before .before .args in
+    let a = c .before .before .before .before .before .before .before .before .before .before .before .before .before .before .before .before .before .before .before .before .before .before .before .args in
     let m = c .before .before .before .before .before .before .before .before .learn-move .ensures in
-    (learn-move (factsIn (now (a .tys)) (now (a .flags)) (now (a .words))) (heldIn (a .h) (now (a .kr)) (now (a .kv)) (now (a .cr)) (now (a .cs))) (c .before .before .before .before .before .before .before .before .before .before .before .before .before .before .before .before .i2 .given .1) (c .before .before .before .before .before .before .before .before .before .before .before .before .before .before .wide2 .ensures) (c .before .before .before .before .before .before .before .before .before .before .before .before .before .wide3 .ensures) (m .0), m .1)
+    (learn-move (factsIn (now (a .tys)) (now (a .flags)) (now (a .words))) (heldIn (a .h) (now (a .kr)) (now (a .kv)) (now (a .cr)) (now (a .cs))) (c .before .before .before .before .before .before .before .before .before .before .before .before .before .before .i2 .given .1) (m .0), m .1)
 
 same-length-7 : tie.Need-same-length-7
 same-length-7 c = search needs
@@ -83,9 +68,9 @@ same-length-8 c = search needs
 
 returns-3 : tie.Need-returns-3
 returns-3 c =
-    let a = c .before .before .before .before .before .before .before .before .before .before .before .before .before .before .before .before .before .before .before .before .args in
+    let a = c .before .before .before .before .before .before .before .before .before .before .before .before .before .before .before .before .before .args in
     let p = c .before .before .before .before .learn-bool .ensures in
-    (learn-bool (factsIn (now (a .tys)) (now (a .flags)) (now (a .words))) (heldIn (a .h) (now (a .kr)) (now (a .kv)) (now (a .cr)) (now (a .cs))) (c .before .before .before .before .before .before .before .before .before .before .before .i3 .given .1) (c .before .before .before .before .before .before .before .before .before .wide4 .ensures) (c .before .before .before .before .before .before .before .before .wide5 .ensures) (c .before .before .before .before .before .before .before .wide6 .ensures) (p .0), record { known-le = p .1; copy-le = omega arith })
+    (learn-bool (factsIn (now (a .tys)) (now (a .flags)) (now (a .words))) (heldIn (a .h) (now (a .kr)) (now (a .kv)) (now (a .cr)) (now (a .cs))) (c .before .before .before .before .before .before .before .before .i3 .given .1) (p .0), record { known-le = p .1; copy-le = omega arith })
 
 returns-4 : tie.Need-returns-4
 returns-4 c =
@@ -100,13 +85,8 @@ learn-spec =
     wide-requires
     push-requires
     enum-known-i-2
-    wide-requires-2
-    wide-requires-3
     learn-move-requires
     enum-known-i-3
-    wide-requires-4
-    wide-requires-5
-    wide-requires-6
     learn-bool-requires
     same-length
     same-length-2
