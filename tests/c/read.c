@@ -1,15 +1,9 @@
 /* Tries halivomue_read from C. Usage: read <accepted sample> <refused sample> <number> <record> */
 
+#include "files.h"
 #include "halivomue.h"
 
-#include <stdio.h>
-#include <stdlib.h>
 #include <string.h>
-
-enum { ROOM = 70000 };
-
-static int passed;
-static int failed;
 
 static void expect(const char *what, const uint8_t *bytes, size_t length,
                    uint32_t number, uint32_t record)
@@ -24,20 +18,6 @@ static void expect(const char *what, const uint8_t *bytes, size_t length,
     printf("%s: answer %lu %lu, due %lu %lu\n", what,
            (unsigned long)reading.number, (unsigned long)reading.record,
            (unsigned long)number, (unsigned long)record);
-}
-
-static size_t load(const char *path, uint8_t *room)
-{
-    FILE *file = fopen(path, "rb");
-    size_t length;
-
-    if (file == NULL) {
-        fprintf(stderr, "%s can't be opened\n", path);
-        exit(EXIT_FAILURE);
-    }
-    length = fread(room, 1, ROOM, file);
-    fclose(file);
-    return length;
 }
 
 /* The file at every remainder of its address by 8. */

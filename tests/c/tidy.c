@@ -1,15 +1,9 @@
 /* Tries halivomue_tidy from C. Usage: tidy <tidy sample> <untidy sample> <register> <refused sample> */
 
+#include "files.h"
 #include "halivomue.h"
 
-#include <stdio.h>
-#include <stdlib.h>
 #include <string.h>
-
-enum { ROOM = 70000 };
-
-static int passed;
-static int failed;
 
 static void expect(const char *what, const uint8_t *bytes, size_t length,
                    uint32_t number, uint32_t record, uint32_t tidy, uint32_t reg)
@@ -27,20 +21,6 @@ static void expect(const char *what, const uint8_t *bytes, size_t length,
            (unsigned long)answer.tidy, (unsigned long)answer.reg,
            (unsigned long)number, (unsigned long)record,
            (unsigned long)tidy, (unsigned long)reg);
-}
-
-static size_t load(const char *path, uint8_t *room)
-{
-    FILE *file = fopen(path, "rb");
-    size_t length;
-
-    if (file == NULL) {
-        fprintf(stderr, "%s can't be opened\n", path);
-        exit(EXIT_FAILURE);
-    }
-    length = fread(room, 1, ROOM, file);
-    fclose(file);
-    return length;
 }
 
 /* The file at every remainder of its address by 8. */

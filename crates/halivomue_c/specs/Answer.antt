@@ -2,8 +2,14 @@
 use mathlib.Core.List.{List}
 use Prim.Native.Nat.{ℕ}
 use Rattle.read.specs.Reading.{reading}
+use Rattle.tidy.specs.Tidy.{tidiness}
 use Rattle.halivomue_c.specs.declared.HalivomueReading.{HalivomueReading}
+use Rattle.halivomue_c.specs.declared.HalivomueTidiness.{HalivomueTidiness}
 
 -- Read's number and record
 abbrev pub readAnswer : List ℕ → HalivomueReading
 readAnswer b = record { number = reading b .number; place = reading b .place }
+
+-- Tidy's number and record, 1 for a tidy file, and the lowest offending register
+abbrev pub tidyAnswer : List ℕ → HalivomueTidiness
+tidyAnswer b = record { number = tidiness b .number; place = tidiness b .place; tidy = tidiness b .tidy; reg = tidiness b .reg }

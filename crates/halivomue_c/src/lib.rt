@@ -1,5 +1,5 @@
 ghost use mathlib.Core.Path.{_≡_};
-ghost use Rattle.halivomue_c.specs.Answer.{readAnswer};
+ghost use Rattle.halivomue_c.specs.Answer.{readAnswer, tidyAnswer};
 
 // struct halivomue_reading of include/halivomue.h: `place` is its member `record`.
 #[repr(C)]
@@ -16,5 +16,27 @@ pub extern "C" fn halivomue_read(bytes: &[u8]) -> HalivomueReading
     HalivomueReading {
         number: r.number,
         place: r.place,
+    }
+}
+
+// struct halivomue_tidiness of include/halivomue.h: `place` is its member `record`.
+#[repr(C)]
+pub struct HalivomueTidiness {
+    pub number: u32,
+    pub place: u32,
+    pub tidy: u32,
+    pub reg: u32,
+}
+
+#[no_mangle]
+pub extern "C" fn halivomue_tidy(bytes: &[u8]) -> HalivomueTidiness
+    ensures { λ r. ⌜ r ≡ tidyAnswer (now (bytes .entry)) ⌝ }
+{
+    let t = tidy::tidy(bytes);
+    HalivomueTidiness {
+        number: t.number,
+        place: t.place,
+        tidy: t.tidy,
+        reg: t.reg,
     }
 }

@@ -1,4 +1,6 @@
--- Demand 3: "one claim about the two whole runs, as sent and as shortened".
+-- Demand 3, "one claim about the two whole runs, as sent and as shortened": the shortened form's whole run does the original's
+-- acts, in order, with their values and statements, within the original's instruction count plus the rescued constants for each
+-- entry into block 0; it does no other act; it ends if and only if the original does, and alike.
 use Prim.Native.Nat.{ℕ, _+_, _*_, _≤_, _<_}
 use mathlib.Core.Path.{_≡_}
 use lib.ListN.{length}
@@ -6,8 +8,8 @@ use Rattle.procedure.specs.Procedure.{Procedure}
 use Rattle.machine.specs.Machine.{Regs, Address, Outside, Shown, shown, start, run, entered, intoZero}
 use Rattle.machine.specs.Single.{Loaded}
 
--- "Both runs start with [the single constants] already loaded. The original's other registers start with any words,
--- the same in both; new numbers start with anything."
+-- "Both runs start with registers singly written by Const, ConstF or AddrOf in the original already loaded: these are its single
+-- constants. The original's other registers start with any words, the same in both; new numbers start with anything."
 pub record Starts (address : Address) (p : Procedure) (g g′ : Regs) : Type 0 where
   pub loaded : Loaded address p g
   pub loaded′ : Loaded address p g′
@@ -24,9 +26,9 @@ module _ (outside : Outside) (address : Address) (p : Procedure) (block : ℕ) (
 
 -- Two whole runs, each by what it shows after its first instructions.
 pub record Alike (bound : ℕ → ℕ) (original shortened : ℕ → Shown) : Type 0 where
-  -- "does the original's acts, in order, with their values and statements, within [bound]", and ends if the original does, and alike
+  -- it does the original's acts, in order, with their values and statements, within the bound, and ends if the original does, and alike
   pub there : (N : ℕ) → (M : ℕ) × (M ≤ bound N) × (shortened M ≡ original N)
-  -- "it does no other act", and ends only if the original does, and alike
+  -- it does no other act, and ends only if the original does, and alike
   pub back : (M : ℕ) → (N : ℕ) × (shortened M ≡ original N)
 
 -- The runs of p and q from one block. The bound is made of the original's instructions and its entries into block 0.
@@ -36,6 +38,6 @@ AlikeFrom block bound p q =
     (outside : Outside) (address : Address) (g g′ : Regs) → Starts address p g g′
     → Alike (λ N. bound N (entries outside address p block g N)) (shows outside address p block g) (shows outside address q block g′)
 
--- "within the original's instruction count plus the rescued constants for each entry into block 0"
+-- within the original's instruction count plus the rescued constants for each entry into block 0
 abbrev pub Demand3 : Procedure → Procedure → ℕ → Type 0
 Demand3 p q rescued = AlikeFrom 0 (λ N entries. N + rescued * entries) p q

@@ -1,7 +1,6 @@
 -- Document 01, "Machine": a run of a procedure.
 use Prim.Native.Nat.{ℕ, zero, suc, _+_}
-use mathlib.Core.Path.{_≡_}
-use mathlib.Core.Bool.{Bool, true, false, cond}
+use mathlib.Core.Bool.{Bool, cond}
 use mathlib.Core.List.{List, [], _∷_, _++_, map}
 use mathlib.Core.Option.{Option, none, some}
 use lib.Dec.{eqb}
@@ -37,12 +36,12 @@ pub data End : Type 0 where
   stopped : Act → End
   ranOut : End
 
--- what an instruction does with the values that it reads: it writes, goes to a block, ends, or is an act
+-- what an instruction does with the values that it reads: it writes, goes to a block, ends, or asks the outside
 pub data Effect : Type 0 where
   writes : List ℕ → Effect
   goes : ℕ → Effect
   ends : End → Effect
-  acts : Act → Effect
+  asks : Act → Effect
 
 abbrev pub tableAt : List Table → ℕ → Table
 tableAt ts n = getD ts n (record { arms = []; default = 0 })
@@ -67,17 +66,17 @@ module _ (address : Address) (tables : List Table) (statement : ℕ) (kinds valu
   effect (i.Cmp op d x y) = writes (compares (kind 0) (kind 1) op (value 0) (value 1) ∷ [])
   effect (i.Bool op d x y) = writes (tests op (value 0) (value 1) ∷ [])
   -- "Others are acts"
-  effect (i.Bin op d x y) = acts (actOf (i.Bin op d x y) statement values)
-  effect (i.BinRange op d x y l h w) = acts (actOf (i.BinRange op d x y l h w) statement values)
-  effect (i.Load d a w) = acts (actOf (i.Load d a w) statement values)
-  effect (i.Store a s w) = acts (actOf (i.Store a s w) statement values)
-  effect (i.Check k v l h w) = acts (actOf (i.Check k v l h w) statement values)
-  effect (i.MakeDope a p) = acts (actOf (i.MakeDope a p) statement values)
-  effect (i.DopeLen d p n) = acts (actOf (i.DopeLen d p n) statement values)
-  effect (i.BoundsLen d l r e) = acts (actOf (i.BoundsLen d l r e) statement values)
-  effect (i.Alloc d s) = acts (actOf (i.Alloc d s) statement values)
-  effect (i.TakeBounds l r e) = acts (actOf (i.TakeBounds l r e) statement values)
-  effect (i.CallNative n a d) = acts (actOf (i.CallNative n a d) statement values)
+  effect (i.Bin op d x y) = asks (actOf (i.Bin op d x y) statement values)
+  effect (i.BinRange op d x y l h w) = asks (actOf (i.BinRange op d x y l h w) statement values)
+  effect (i.Load d a w) = asks (actOf (i.Load d a w) statement values)
+  effect (i.Store a s w) = asks (actOf (i.Store a s w) statement values)
+  effect (i.Check k v l h w) = asks (actOf (i.Check k v l h w) statement values)
+  effect (i.MakeDope a p) = asks (actOf (i.MakeDope a p) statement values)
+  effect (i.DopeLen d p n) = asks (actOf (i.DopeLen d p n) statement values)
+  effect (i.BoundsLen d l r e) = asks (actOf (i.BoundsLen d l r e) statement values)
+  effect (i.Alloc d s) = asks (actOf (i.Alloc d s) statement values)
+  effect (i.TakeBounds l r e) = asks (actOf (i.TakeBounds l r e) statement values)
+  effect (i.CallNative n a d) = asks (actOf (i.CallNative n a d) statement values)
   -- "Br only goes to its target"
   effect (i.Br t) = goes (t .0)
   effect (i.CondBr c t f) = goes (choose (value 0) (t .0) (f .0))
@@ -86,7 +85,7 @@ module _ (address : Address) (tables : List Table) (statement : ℕ) (kinds valu
   -- "Ret and Unreachable end, with value or number, and statement"
   effect (i.Ret v) = ends (returned (firstOf values) statement)
   effect (i.Unreachable w) = ends (unreachable w statement)
-  effect i.Stmt = acts (actOf i.Stmt statement values)
+  effect i.Stmt = asks (actOf i.Stmt statement values)
 
 abbrev pub upd : ℕ → ℕ → Regs → Regs
 upd r v g = λ x. cond (eqb x r) v (g x)
@@ -130,7 +129,7 @@ module _ (outside : Outside) (address : Address) (p : Procedure) where
   after (writes vs) rs cs g h = at cs (stores rs vs g) h
   after (goes b) rs cs g h = enter b g h
   after (ends e) rs cs g h = done h e
-  after (acts a) rs cs g h = answered (outside h a) a rs cs g h
+  after (asks a) rs cs g h = answered (outside h a) a rs cs g h
 
   -- "Each instruction carried out counts one, and after the end nothing more is done."
   abbrev pub step : State → State
@@ -148,7 +147,7 @@ module _ (outside : Outside) (address : Address) (p : Procedure) where
   entryOf (writes vs) = 0
   entryOf (goes b) = intoZero b
   entryOf (ends e) = 0
-  entryOf (acts a) = 0
+  entryOf (asks a) = 0
 
   abbrev pub entry : State → ℕ
   entry (at [] g h) = 0

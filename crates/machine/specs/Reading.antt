@@ -1,4 +1,4 @@
--- Demand 3 in the paper's words, clause by clause, from the two directions of Alike.
+-- Demand 3's sentence clause by clause, from the two directions of Alike.
 use Prim.Native.Nat.{ℕ, zero, suc, _+_, _-_, _≤_}
 use mathlib.Core.Path.{_≡_, refl, sym, ap, subst, _∙_}
 use mathlib.Core.List.{List, [], _∷_, _++_, append-assoc, append-nil}
@@ -8,7 +8,7 @@ use native.Mathlib.Nat.{zero-add, suc-add}
 use Rattle.inst.specs.declared.Code.{Code}
 use Rattle.procedure.specs.Procedure.{Procedure}
 use Rattle.machine.specs.Act.{Act}
-use Rattle.machine.specs.Machine.{Regs, Address, Outside, End, Effect, writes, goes, ends, acts, State, at, done, Shown, shown, start, effectOf, answered, after, step, run}
+use Rattle.machine.specs.Machine.{Regs, Address, Outside, End, Effect, writes, goes, ends, asks, State, at, done, Shown, shown, start, effectOf, answered, after, step, run}
 use Rattle.machine.specs.Demand.{Alike, shows}
 
 pub record Prefix (xs ys : List Act) : Type 0 where
@@ -25,15 +25,14 @@ prefix-trans {xs} a b =
       joins = sym (append-assoc xs (a .rest) (b .rest)) ∙ ap (λ l. l ++ b .rest) (a .joins) ∙ b .joins;
     }
 
--- the demand's sentence
 pub record Reads (bound : ℕ → ℕ) (original shortened : ℕ → Shown) : Type 0 where
-  -- "does the original's acts, in order, with their values and statements, within [bound]"
+  -- it does the original's acts, in order, with their values and statements, within the bound
   pub does : (N : ℕ) → Prefix (original N .acts) (shortened (bound N) .acts)
-  -- "it does no other act"
+  -- it does no other act
   pub no-other : (M : ℕ) → (N : ℕ) × Prefix (shortened M .acts) (original N .acts)
-  -- "it ends if .. the original does, and alike", after the same acts
+  -- it ends if the original does, within the bound, and alike
   pub ends-if : (N : ℕ) (e : End) → original N .end ≡ some e → shortened (bound N) ≡ original N
-  -- "and only if"
+  -- and only if the original does, and alike
   pub ends-only-if : (M : ℕ) (e : End) → shortened M .end ≡ some e → (N : ℕ) × (original N ≡ shortened M)
 
 module _ (outside : Outside) (address : Address) (p : Procedure) where
@@ -46,7 +45,7 @@ module _ (outside : Outside) (address : Address) (p : Procedure) where
   after-grows (writes vs) rs cs g h = prefix-refl h
   after-grows (goes b) rs cs g h = prefix-refl h
   after-grows (ends e) rs cs g h = prefix-refl h
-  after-grows (acts a) rs cs g h = answered-grows (outside h a) a rs cs g h
+  after-grows (asks a) rs cs g h = answered-grows (outside h a) a rs cs g h
 
   step-grows : (s : State) → Prefix (shown s .acts) (shown (step outside address p s) .acts)
   step-grows (at [] g h) = prefix-refl h

@@ -104,7 +104,7 @@ unfoldable pub ownUses : List Code → ℕ → ℕ
 ownUses [] r = 0
 ownUses (x ∷ c) r = times r (usesOf (x .inst)) + ownUses c r
 
--- the number that a register is read through: "the first" entry of `local`
+-- the number that a register is read through: that of its first entry in `local`
 abbrev pub readThrough : List (ℕ × ℕ) → ℕ → ℕ
 readThrough local r = valueOr r (found r local)
 

@@ -8,6 +8,7 @@ pub mod EqualArms
 pub mod Gate
 pub mod Copy
 pub mod Thread
+pub mod Edits
 pub mod Emit
 pub mod Run
 pub mod Write

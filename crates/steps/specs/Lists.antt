@@ -2,7 +2,7 @@
 use Prim.Native.Nat.{ℕ, _+_}
 use mathlib.Core.List.{List, [], _∷_, _++_}
 use mathlib.Core.Option.{Option, none, some}
-use mathlib.Core.Bool.{Bool, false, _||_, not, cond}
+use mathlib.Core.Bool.{Bool, true, false, _||_, cond}
 use lib.Dec.{eqb}
 
 -- some element passes a test
@@ -35,7 +35,7 @@ valueOr d (some v) = v
 -- `is_some()`, `Some(n) == o`
 abbrev pub present : Option ℕ → Bool
 present none = false
-present (some v) = not false
+present (some v) = true
 
 abbrev pub holds : Option ℕ → ℕ → Bool
 holds none n = false

@@ -1,7 +1,7 @@
 -- Document 01, "Steps", and its counts: the `run` part.
 use Prim.Native.Nat.{ℕ}
 use mathlib.Core.List.{List, [], _++_}
-use mathlib.Core.Bool.{Bool, true, false, _&&_, _||_}
+use mathlib.Core.Bool.{Bool, true, false, _&&_}
 use lib.Dec.{ltb}
 use lib.ListN.{length}
 use Rattle.inst.specs.declared.Code.{Code}

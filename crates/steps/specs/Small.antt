@@ -14,13 +14,19 @@ use Rattle.roles.specs.Roles.{defsOf, usesOf}
 use Rattle.steps.specs.Lists.{anyOf}
 use Rattle.steps.specs.Ends.{End, br, condBr, case, other, endOf}
 
--- `dupable`: Move, Const, ConstF, Cmp, Bool, Select
-abbrev pub dupable : Inst → Bool
-dupable x = anyOf (eqb (kindOf x)) (2 ∷ 0 ∷ 1 ∷ 5 ∷ 6 ∷ 4 ∷ [])
+-- `dupable`: Const, ConstF, Move; Select, Cmp, Bool
+abbrev pub dupableKind : ℕ → Bool
+dupableKind k = leb k 2 || leb 4 k && leb k 6
 
--- `small`: Br, CondBr, Ret
+abbrev pub dupable : Inst → Bool
+dupable x = dupableKind (kindOf x)
+
+-- `small`: the last is a Br, CondBr or Ret
+abbrev pub smallEndKind : ℕ → Bool
+smallEndKind k = eqb k 18 || eqb k 19 || eqb k 21
+
 abbrev pub smallEnd : Inst → Bool
-smallEnd x = anyOf (eqb (kindOf x)) (18 ∷ 19 ∷ 21 ∷ [])
+smallEnd x = smallEndKind (kindOf x)
 
 unfoldable pub copyable : List Code → Bool
 copyable [] = false

@@ -13,6 +13,7 @@ use Rattle.layout.specs.Classes.{ofClass, before}
 use Rattle.read.specs.Structure.{tiles, numbers, tables}
 use Rattle.read.specs.Reading.{unless, readTables, readBlocks, readRecords, reading}
 use Rattle.codec.specs.Codec.{instOf, instRecord}
+use Rattle.items.specs.Items.{rowOf}
 use Rattle.procedure.specs.Procedure.{tablesFrom, procedureOf}
 use Rattle.steps.specs.Lists.{anyOf, times, found}
 use Rattle.steps.specs.Ends.{viewOf, endOf, front, withEnd}
@@ -26,16 +27,16 @@ use Rattle.steps.specs.Copy.{exchanged, howOf, ownUses, copyFrom, kindsG
 use Rattle.steps.specs.Thread.{armOf, hopCondBr, stops, hopBr, hop, hops, threadFrom}
 use Rattle.steps.specs.Emit.{total, walk, reached, stays, emptyFrom, rescuedOf, rescues}
 use Rattle.steps.specs.Run.{emit, run}
-use Rattle.steps.specs.Write.{blockRecords, tablesRecords, recordsFor, bytesOf, row}
+use Rattle.steps.specs.Write.{blockRecords, tableRecords, recordsFor, bytesOf}
 use Rattle.steps.specs.Shorten.{Answer, refusal, shorten, shortenWithin}
 
 -- "registers (number, type)"
 abbrev reg : ℕ → Record
-reg type = row 1 type 0 0 0 0 0 0
+reg type = rowOf 1 type 0 0 0 0 0 0
 
 -- "blocks (number, start, end)"
 abbrev block : ℕ → ℕ → Record
-block start end = row 2 0 start end 0 0 0 0
+block start end = rowOf 2 0 start end 0 0 0 0
 
 -- "code (place, kind, op, statement, p1..p6)", p4 to p6 being zero here
 abbrev code : ℕ → ℕ → ℕ → ℕ → ℕ → ℕ → Record
@@ -251,5 +252,5 @@ abbrev pub table : List Row
 table = P1 ∷ P2 ∷ P3 ∷ P4 ∷ P5 ∷ P6 ∷ P7 ∷ P8 ∷ []
 
 pub proved : map (λ r. shorten (r .sent) 65536) table ≡ map (λ r. r .answer) table
-unfolding bytesOf wordBytes tagBytes recordsOf firstRecords right namesExist passed ofClass before tiles numbers tables unless readTables readBlocks readRecords reading instOf instRecord tablesFrom procedureOf anyOf times found viewOf endOf front withEnd copyable small stepBy stepBlock latch readsKonst writesIn useCount fixedOf constIn constOf konstOf factsOf valuesWithout copiesWithout forgetAll learn notes follow joinArms joinFrom backEdgeFrom copied mayThreadFrom exchanged howOf ownUses copyFrom kindsGiven armOf hopCondBr stops hopBr hop hops threadFrom total walk reached stays emptyFrom rescuedOf rescues emit run blockRecords tablesRecords recordsFor shortenWithin
+unfolding bytesOf wordBytes tagBytes recordsOf firstRecords right namesExist passed ofClass before tiles numbers tables unless readTables readBlocks readRecords reading instOf instRecord tablesFrom procedureOf anyOf times found viewOf endOf front withEnd copyable small stepBy stepBlock latch readsKonst writesIn useCount fixedOf constIn constOf konstOf factsOf valuesWithout copiesWithout forgetAll learn notes follow joinArms joinFrom backEdgeFrom copied mayThreadFrom exchanged howOf ownUses copyFrom kindsGiven armOf hopCondBr stops hopBr hop hops threadFrom total walk reached stays emptyFrom rescuedOf rescues emit run blockRecords tableRecords recordsFor shortenWithin
 proved = refl

@@ -1,12 +1,11 @@
 -- Document 01, "Thread": "Blocks ascending, 6 hops each; targets are read in their current form; the hop loop over one block is left from inside."
 use Prim.Native.Nat.{ℕ, zero, suc, _+_}
-use mathlib.Core.List.{List, [], _∷_, _++_}
+use mathlib.Core.List.{List, [], _++_}
 use mathlib.Core.Option.{Option, none, some}
 use mathlib.Core.Bool.{Bool, true, false, _&&_, _||_, not, cond}
 use lib.Dec.{eqb, ltb}
 use lib.ListN.{length, getD, set}
 use Rattle.inst.specs.declared.Code.{Code}
-use Rattle.inst.specs.declared.Inst.{Inst}
 use Rattle.inst.specs.declared.Inst.the-variants as i
 use Rattle.codec.specs.Codec.{regOf, blockOf}
 use Rattle.steps.specs.Lists.{present, holds}
@@ -121,5 +120,8 @@ unfoldable pub threadFrom : Facts → ℕ → ℕ → Work → Work
 threadFrom f zero a w = w
 threadFrom f (suc n) a w = threadFrom f n (suc a) (hops f 6 a w)
 
+abbrev pub unthreaded : List (List Code) → Work
+unthreaded P = record { blocks = P; kinds = []; grown = 0; edited = false }
+
 abbrev pub thread : Facts → List (List Code) → Work
-thread f P = threadFrom f (length P) 0 (record { blocks = P; kinds = []; grown = 0; edited = false })
+thread f P = threadFrom f (length P) 0 (unthreaded P)

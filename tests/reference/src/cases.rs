@@ -343,7 +343,7 @@ fn ring(n: u32) -> Draft {
     Draft { registers: vec![0; 2], blocks, operands, ..Draft::default() }.with_statements(10)
 }
 
-/// Points that the Rust decides; see NOTES.md.
+/// Points that the Rust decides; see docs/DIFFERENCES.md.
 fn decided() -> Vec<(&'static str, Draft)> {
     let draft = |registers: &[u8], blocks| Draft { registers: registers.to_vec(), blocks, ..Draft::default() };
     let long = || vec![stmt(), stmt(), stmt(), stmt()];

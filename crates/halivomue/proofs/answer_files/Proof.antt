@@ -4,10 +4,10 @@ use Rattle.halivomue.proofs.answer_files.Statement.{statement}
 use Rattle.halivomue.proofs.answer_files.Tie as tie
 
 abbrev Inv-loop : tie.InvT-loop
-Inv-loop i₀ i = i ≤ 1000000
+Inv-loop command i₀ i = i ≤ 1000000
 
 abbrev μ-loop : tie.MeasureT-loop
-μ-loop i₀ i = 1000001 - i
+μ-loop command i₀ i = 1000001 - i
 
 loop-holds : tie.Need-loop-holds Inv-loop μ-loop
 loop-holds c = search needs

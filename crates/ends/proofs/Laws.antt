@@ -1,0 +1,80 @@
+-- Laws of some code's instructions and of how it ends.
+use Prim.Native.Nat.{ℕ, zero, suc, _+_, _-_, _/_, _≤_, _<_}
+use native.Mathlib.Omega.{arith}
+use mathlib.Core.Path.{_≡_, refl, sym, ap, _∙_}
+use mathlib.Core.Bool.{Bool, true, false, _||_, true≢false}
+use mathlib.Core.List.{List, [], _∷_, map}
+use lib.Dec.{eqb}
+use lib.ListN.{length, getD, length-map, List·getD-map}
+use Rattle.format.specs.Record.{recordsOf, recordAt, blank}
+use Rattle.format.proofs.Laws.{length-records}
+use Rattle.inst.specs.declared.Code.{Code}
+use Rattle.inst.specs.declared.Inst.{Inst}
+use Rattle.inst.specs.declared.Inst.the-variants as i
+use Rattle.inst.specs.Inst.{kindOf}
+use Rattle.codec.specs.Codec.{codeOf}
+use Rattle.procedure.specs.Procedure.{codesOf}
+use Rattle.steps.specs.Ends.{End, other, viewOf, endOf, loneOf}
+use Rattle.ends.specs.Shown.{codeAt}
+
+-- there is one instruction for each record
+pub length-codes : (b : List ℕ) → length (codesOf b) ≡ length b / 32
+length-codes b = length-map (recordsOf b) codeOf ∙ length-records b
+
+pub code-at : (b : List ℕ) (k : ℕ) → codeAt (codesOf b) k ≡ codeOf (recordAt b k)
+code-at b k = List·getD-map codeOf (recordsOf b) k blank
+
+-- Br, CondBr and Case
+abbrev pub branchKind : ℕ → Bool
+branchKind k = eqb k 18 || (eqb k 19 || eqb k 20)
+
+pub other-view : (x : Inst) → branchKind (kindOf x) ≡ false → viewOf x ≡ other
+unfolding viewOf
+other-view (i.Const d v) q = refl
+other-view (i.ConstF d v) q = refl
+other-view (i.Move d s) q = refl
+other-view (i.AddrOf d s f) q = refl
+other-view (i.Select d c x y) q = refl
+other-view (i.Cmp op d x y) q = refl
+other-view (i.Bool op d x y) q = refl
+other-view (i.Bin op d x y) q = refl
+other-view (i.BinRange op d x y l h w) q = refl
+other-view (i.Load d a w) q = refl
+other-view (i.Store a s w) q = refl
+other-view (i.Check c v l h w) q = refl
+other-view (i.MakeDope a p) q = refl
+other-view (i.DopeLen d p n) q = refl
+other-view (i.BoundsLen d l r e) q = refl
+other-view (i.Alloc d s) q = refl
+other-view (i.TakeBounds l r e) q = refl
+other-view (i.CallNative n a d) q = refl
+other-view (i.Br t) q = absurd (true≢false q)
+other-view (i.CondBr c t f) q = absurd (true≢false q)
+other-view (i.Case v t) q = absurd (true≢false q)
+other-view (i.Ret v) q = refl
+other-view (i.Unreachable w) q = refl
+other-view i.Stmt q = refl
+
+-- the end is the view of the last instruction
+pub end-last : (c : List Code) (n : ℕ) → length c ≡ suc n → endOf c ≡ viewOf (codeAt c n .inst)
+unfolding endOf
+end-last [] n e = absurd (omega arith)
+end-last (x ∷ []) zero e = refl
+end-last (x ∷ []) (suc n) e = absurd (omega arith)
+end-last (x ∷ (y ∷ c)) zero e = absurd (omega arith)
+end-last (x ∷ (y ∷ c)) (suc n) e = end-last (y ∷ c) n (omega arith)
+
+pub end-none : (c : List Code) → length c ≡ 0 → endOf c ≡ other
+unfolding endOf
+end-none [] e = refl
+end-none (x ∷ c) e = absurd (omega arith)
+
+pub lone-one : (c : List Code) → length c ≡ 1 → loneOf c ≡ viewOf (codeAt c 0 .inst)
+lone-one [] e = absurd (omega arith)
+lone-one (x ∷ []) e = refl
+lone-one (x ∷ (y ∷ c)) e = absurd (omega arith)
+
+pub lone-none : (c : List Code) → (length c ≡ 1 → ⊥) → loneOf c ≡ other
+lone-none [] e = refl
+lone-none (x ∷ []) e = absurd (e refl)
+lone-none (x ∷ (y ∷ c)) e = refl

@@ -1,0 +1,20 @@
+use mathlib.Core.Path.{sym, ap, _∙_}
+use Rattle.ends.proofs.Laws.{code-at}
+use denote.Ref.{now}
+use Rattle.inst.specs.declared.Code.{Code}
+use Rattle.codec.specs.Codec.{instOf}
+use borrow.Author.Needs.{needs}
+use Rattle.ends.proofs.inst_at.Statement.{statement}
+use Rattle.ends.proofs.inst_at.Tie as tie
+
+record-at-requires : tie.Need-record-at-requires
+record-at-requires c κs = search needs
+
+inst-of-requires : tie.Need-inst-of-requires
+inst-of-requires c κs = search needs
+
+returns : tie.Need-returns
+returns c = c .inst-of .ensures ∙ ap instOf (c .before .record-at .ensures) ∙ sym (ap (λ (x : Code). x .inst) (code-at (now (c .before .before .before .args .code)) (c .before .before .before .args .k)))
+
+pub inst-at-spec : {M : Type 1} → statement M
+inst-at-spec = tie.close (tie.spec record-at-requires inst-of-requires returns)

@@ -1,0 +1,54 @@
+ghost use mathlib.Core.Path.{_≡_};
+ghost use Rattle.procedure.specs.Procedure.{codesOf};
+ghost use Rattle.steps.specs.Ends as ends;
+ghost use Rattle.ends.specs.Shown.{shown, codeAt};
+use inst::BlockId;
+use inst::Inst;
+use inst::Reg;
+
+// How a block ends, as the branch steps look at it.
+pub enum End {
+    Br(BlockId),
+    CondBr(Reg, BlockId, BlockId),
+    Case(u32),
+    Other,
+}
+
+// Instruction k of some code; past the end that of a blank record.
+pub fn inst_at(code: &[u8], k: usize) -> Inst
+    ensures { λ r. ⌜ r ≡ codeAt (codesOf (now (code .entry))) k .inst ⌝ }
+{
+    codec::inst_of(format::record_at(code, k))
+}
+
+pub fn view_of(i: Inst) -> End
+    ensures { λ r. ⌜ r ≡ shown (ends.viewOf i) ⌝ }
+{
+    match i {
+        Inst::Br { to } => End::Br(to),
+        Inst::CondBr { c, t, f } => End::CondBr(c, t, f),
+        Inst::Case { v: _, table } => End::Case(table),
+        _ => End::Other,
+    }
+}
+
+// The end of a block.
+pub fn end_of(code: &[u8]) -> End
+    ensures { λ r. ⌜ r ≡ shown (ends.endOf (codesOf (now (code .entry)))) ⌝ }
+{
+    let n = code.len() / 32;
+    if n == 0 {
+        return End::Other;
+    }
+    view_of(inst_at(code, n - 1))
+}
+
+// The end of a block that holds nothing else.
+pub fn lone_of(code: &[u8]) -> End
+    ensures { λ r. ⌜ r ≡ shown (ends.loneOf (codesOf (now (code .entry)))) ⌝ }
+{
+    if code.len() / 32 == 1 {
+        return view_of(inst_at(code, 0));
+    }
+    End::Other
+}

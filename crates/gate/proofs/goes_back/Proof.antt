@@ -1,0 +1,59 @@
+use mathlib.Core.Path.{refl, sym, ap, _∙_}
+use borrow.Author.Tests.{le-leb, lt-leb}
+use Rattle.gate.specs.Blocks.{goesBack}
+use borrow.Author.Needs.{needs}
+use Rattle.gate.proofs.goes_back.Statement.{statement}
+use Rattle.gate.proofs.goes_back.Tie as tie
+
+enum-known-e : tie.Need-enum-known-e
+enum-known-e c = search needs
+
+cast-result : tie.Need-cast-result
+cast-result c = search needs
+
+enum-known-e-2 : tie.Need-enum-known-e-2
+enum-known-e-2 c = search needs
+
+cast-if1 : tie.Need-cast-if1
+cast-if1 c = search needs
+
+cast-result-2 : tie.Need-cast-result-2
+cast-result-2 c = search needs
+
+enum-told : tie.Need-enum-told
+enum-told c = search needs
+
+enum-told-2 : tie.Need-enum-told-2
+enum-told-2 c = search needs
+
+returns : tie.Need-returns
+returns c = sym (ap (goesBack (c .before .before .before .before .args .b)) (c .before .before .e .given .1))
+
+returns-2 : tie.Need-returns-2
+returns-2 c = rw (le-leb _ _ (c .if1 .taken)) refl ∙ sym (ap (goesBack (c .before .before .before .before .before .args .b)) (c .before .before .before .e2 .given .1))
+
+returns-3 : tie.Need-returns-3
+returns-3 c = rw (lt-leb _ _ (c .before .if1 .left)) refl ∙ sym (ap (goesBack (c .before .before .before .before .before .before .args .b)) (c .before .before .before .before .e2 .given .1))
+
+returns-4 : tie.Need-returns-4
+returns-4 c = search needs
+
+returns-5 : tie.Need-returns-5
+returns-5 c = search needs
+
+pub goes-back-spec : {M : Type 1} → statement M
+goes-back-spec =
+    tie.close
+    (tie.spec
+    enum-known-e
+    cast-result
+    enum-known-e-2
+    cast-if1
+    cast-result-2
+    enum-told
+    enum-told-2
+    returns
+    returns-2
+    returns-3
+    returns-4
+    returns-5)

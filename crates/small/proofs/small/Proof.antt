@@ -1,0 +1,92 @@
+use Prim.Native.Nat.{_+_, _-_, _/_, _≤_}
+use mathlib.Core.Path.{_≡_, refl, ap, _∙_}
+use native.Mathlib.Omega.{arith}
+use borrow.Author.Needs.{needs}
+use borrow.Author.Tests.{not-true, not-false}
+use denote.Ref.{now}
+use lib.ListN.{length, drop}
+use Rattle.procedure.specs.Procedure.{codesOf}
+use Rattle.steps.specs.Small.{dupable, smallEnd, copyable}
+use Rattle.ends.proofs.Laws.{length-codes}
+use Rattle.layout.proofs.Walks.{told}
+use Rattle.small.proofs.Laws.{too-long, empty-code, short-code, copyable-pass, copyable-stop, copyable-last}
+use Rattle.small.proofs.small.Statement.{statement}
+use Rattle.small.proofs.small.Tie as tie
+
+abbrev Inv-loop : tie.InvT-loop
+Inv-loop code n k₀ k = (k + 1 ≤ n) × (n ≡ length code / 32) × (copyable (drop k (codesOf code)) ≡ copyable (codesOf code))
+
+abbrev μ-loop : tie.MeasureT-loop
+μ-loop code n k₀ k = n - k
+
+returns : tie.Need-returns Inv-loop μ-loop
+returns c = let b = now (c .before .before .args .code) in
+    let n = length-codes b in
+    too-long (codesOf b) (rw n (c .if1 .taken))
+
+returns-2 : tie.Need-returns-2 Inv-loop μ-loop
+returns-2 c = let b = now (c .before .before .before .args .code) in
+    let n = length-codes b in
+    empty-code (codesOf b) (n ∙ c .if2 .taken)
+
+loop-holds : tie.Need-loop-holds Inv-loop μ-loop
+loop-holds c = (omega arith, refl, refl)
+
+add-loop : tie.Need-add-loop Inv-loop μ-loop
+add-loop c = search needs
+
+inst-at-requires : tie.Need-inst-at-requires Inv-loop μ-loop
+inst-at-requires c κs = search needs
+
+dupable-requires : tie.Need-dupable-requires Inv-loop μ-loop
+dupable-requires c κs = search needs
+
+returns-3 : tie.Need-returns-3 Inv-loop μ-loop
+returns-3 c = let b = now (c .before .before .before .before .before .before .before .before .args .code) in
+    let n = length-codes b in
+    let l = c .before .before .before .before in
+    short-code (codesOf b) (rw n (c .before .before .before .before .before .before .if1 .left)) (copyable-stop (codesOf b) (l .loop .k) (rw n (c .before .before .before .loop-test .taken)) (told dupable (c .before .before .inst-at .ensures) (c .before .dupable .ensures) (not-true _ (c .if3 .taken))) ∙ l .loop .inv .2)
+
+add-k : tie.Need-add-k Inv-loop μ-loop
+add-k c = search needs
+
+loop-less : tie.Need-loop-less Inv-loop μ-loop
+loop-less c = search needs
+
+loop-again : tie.Need-loop-again Inv-loop μ-loop
+loop-again c = let b = now (c .before .before .before .before .before .before .before .before .args .code) in
+    let n = length-codes b in
+    let l = c .before .before .before .before in
+    (omega arith, l .loop .inv .1, copyable-pass (codesOf b) (l .loop .k) (rw n (c .before .before .before .loop-test .taken)) (told dupable (c .before .before .inst-at .ensures) (c .before .dupable .ensures) (not-false _ (c .if3 .left))) ∙ l .loop .inv .2)
+
+inst-at-requires-2 : tie.Need-inst-at-requires-2 Inv-loop μ-loop
+inst-at-requires-2 c κs = search needs
+
+small-end-requires : tie.Need-small-end-requires Inv-loop μ-loop
+small-end-requires c κs = search needs
+
+returns-4 : tie.Need-returns-4 Inv-loop μ-loop
+returns-4 c = let b = now (c .before .before .before .before .before .before .before .args .code) in
+    let n = length-codes b in
+    let l = c .before .before .before in
+    short-code (codesOf b) (rw n (c .before .before .before .before .before .if1 .left)) (c .small-end .ensures ∙ ap smallEnd (c .before .inst-at2 .ensures) ∙ copyable-last (codesOf b) (l .loop .k) (rw n (omega arith)) ∙ l .loop .inv .2)
+
+pub small-spec : {M : Type 1} → statement M
+small-spec =
+    tie.close
+    (tie.spec
+    Inv-loop
+    μ-loop
+    returns
+    returns-2
+    loop-holds
+    add-loop
+    inst-at-requires
+    dupable-requires
+    returns-3
+    add-k
+    loop-less
+    loop-again
+    inst-at-requires-2
+    small-end-requires
+    returns-4)

@@ -1,0 +1,224 @@
+ghost use mathlib.Core.Path.{_≡_};
+ghost use mathlib.Core.List.{_++_};
+ghost use mathlib.Core.Bool.{_&&_, _||_};
+ghost use Prim.Native.Nat.{ℕ, suc};
+ghost use lib.Dec.{eqb, leb};
+ghost use lib.ListN.{length};
+ghost use Rattle.roles.specs.Roles.{defsOf, usesOf};
+ghost use Rattle.procedure.specs.Procedure.{codesOf};
+ghost use Rattle.steps.specs.Lists.{anyOf};
+ghost use Rattle.steps.specs.Ends.{endOf};
+ghost use Rattle.steps.specs.Small as steps;
+ghost use Rattle.ends.specs.Shown.{shown};
+ghost use Rattle.small.specs.Flags.{flag, testsInto, jumpsBack, isBr, stepShape};
+use ends::End;
+use inst::Inst;
+use inst::IntOp;
+
+// Cheap instructions without effects: what a copied block may hold besides its end.
+pub fn dupable(i: Inst) -> bool
+    ensures { λ z. ⌜ z ≡ steps.dupable i ⌝ }
+{
+    match i {
+        Inst::Move { .. }
+        | Inst::Const { .. }
+        | Inst::ConstF { .. }
+        | Inst::Cmp { .. }
+        | Inst::Bool { .. }
+        | Inst::Select { .. } => true,
+        _ => false,
+    }
+}
+
+fn small_end(i: Inst) -> bool
+    ensures { λ z. ⌜ z ≡ steps.smallEnd i ⌝ }
+{
+    match i {
+        Inst::Br { .. } | Inst::CondBr { .. } | Inst::Ret { .. } => true,
+        _ => false,
+    }
+}
+
+// At most four instructions: dupable ones, then a Br, CondBr or Ret.
+pub fn small(code: &[u8]) -> bool
+    ensures { λ z. ⌜ z ≡ steps.small (codesOf (now (code .entry))) ⌝ }
+{
+    let n = code.len() / 32;
+    if 4 < n {
+        return false;
+    }
+    if n == 0 {
+        return false;
+    }
+    let mut k = 0;
+    while k + 1 < n {
+        if !dupable(ends::inst_at(code, k)) {
+            return false;
+        }
+        k += 1;
+    }
+    small_end(ends::inst_at(code, k))
+}
+
+fn add_or_sub(op: IntOp) -> bool
+    ensures { λ z. ⌜ z ≡ steps.addOrSub op ⌝ }
+{
+    match op {
+        IntOp::Add => true,
+        IntOp::Sub => true,
+        IntOp::Mul => false,
+        IntOp::Div => false,
+        IntOp::Rem => false,
+        IntOp::Mod => false,
+        IntOp::Pow => false,
+    }
+}
+
+// A Bin, or where wide a BinRange, that adds or subtracts.
+fn step_by(wide: bool, i: Inst) -> bool
+    ensures { λ z. ⌜ z ≡ steps.stepBy wide i ⌝ }
+{
+    match i {
+        Inst::Bin {
+            op,
+            dst: _,
+            a: _,
+            b: _,
+        } => add_or_sub(op),
+        Inst::BinRange {
+            op,
+            dst: _,
+            a: _,
+            b: _,
+            lo: _,
+            hi: _,
+            what: _,
+        } => wide && add_or_sub(op),
+        _ => false,
+    }
+}
+
+fn any_step(wide: bool, code: &[u8]) -> bool
+    ensures { λ z. ⌜ z ≡ anyOf (λ x. steps.stepBy wide (x .inst)) (codesOf (now (code .entry))) ⌝ }
+{
+    let n = code.len() / 32;
+    let mut k = 0;
+    while k < n {
+        if step_by(wide, ends::inst_at(code, k)) {
+            return true;
+        }
+        k += 1;
+    }
+    false
+}
+
+// A CondBr with an arm to block l.
+fn tests_into(l: u64, e: End) -> bool
+    ensures { λ z. ⌜ z ≡ testsInto l e ⌝ }
+{
+    match e {
+        End::Br(_) => false,
+        End::CondBr(_, t, f) => t.0 as u64 == l || f.0 as u64 == l,
+        End::Case(_) => false,
+        End::Other => false,
+    }
+}
+
+// A Br to block l or before.
+fn jumps_back(l: u64, e: End) -> bool
+    ensures { λ z. ⌜ z ≡ jumpsBack l e ⌝ }
+{
+    match e {
+        End::Br(to) => to.0 as u64 <= l,
+        End::CondBr(_, _, _) => false,
+        End::Case(_) => false,
+        End::Other => false,
+    }
+}
+
+fn is_br(e: End) -> bool
+    ensures { λ z. ⌜ z ≡ isBr e ⌝ }
+{
+    match e {
+        End::Br(_) => true,
+        End::CondBr(_, _, _) => false,
+        End::Case(_) => false,
+        End::Other => false,
+    }
+}
+
+fn two_to_br(n: usize, e: End) -> bool
+    ensures { λ z. ⌜ z ≡ (eqb n 2 && isBr e) ⌝ }
+{
+    n == 2 && is_br(e)
+}
+
+// The length and the end of a step block.
+fn step_shape(wide: bool, l: u64, code: &[u8]) -> bool
+    ensures { λ z. ⌜ z ≡ stepShape wide l (codesOf (now (code .entry))) ⌝ }
+{
+    let n = code.len() / 32;
+    let e = ends::end_of(code);
+    if two_to_br(n, e) {
+        return true;
+    }
+    if !wide {
+        return false;
+    }
+    if n > 4 {
+        return false;
+    }
+    jumps_back(l, e)
+}
+
+// A loop test of block l, followed by its step block; `next` is empty where there is no next block.
+pub fn latch(code: &[u8], next: &[u8], l: u32, wide: bool) -> bool
+    ensures { λ z. ⌜ z ≡ steps.latch (codesOf (now (code .entry))) (codesOf (now (next .entry))) l wide ⌝ }
+{
+    let block = l as u64;
+    if !tests_into(block + 1, ends::end_of(code)) {
+        return false;
+    }
+    if !step_shape(wide, block, next) {
+        return false;
+    }
+    any_step(wide, next)
+}
+
+fn flag_at(konst: &[bool], r: usize) -> bool
+    ensures { λ z. ⌜ z ≡ flag (now (konst .entry)) r ⌝ }
+{
+    if r < konst.len() { konst[r] } else { false }
+}
+
+// The instruction reads or writes a register whose flag is set.
+fn names_konst(i: Inst, konst: &[bool]) -> bool
+    ensures { λ z. ⌜ z ≡ anyOf (flag (now (konst .entry))) (defsOf i ++ usesOf i) ⌝ }
+{
+    let roles = roles::roles_of(i);
+    let reg = roles.reg;
+    let n = roles.n;
+    let mut k = 0;
+    while k < n {
+        if flag_at(konst, reg[k] as usize) {
+            return true;
+        }
+        k += 1;
+    }
+    false
+}
+
+// The code reads or writes a register whose flag is set.
+pub fn reads_konst(code: &[u8], konst: &[bool]) -> bool
+    ensures { λ z. ⌜ z ≡ steps.readsKonst (flag (now (konst .entry))) (codesOf (now (code .entry))) ⌝ }
+{
+    let n = code.len() / 32;
+    let mut k = 0;
+    while k < n {
+        if names_konst(ends::inst_at(code, k), konst) {
+            return true;
+        }
+        k += 1;
+    }
+    false
+}

@@ -1,0 +1,143 @@
+-- What a file that Read accepts is, for the steps of Tidy.
+use Prim.Native.Nat.{ℕ, _+_, _*_, _-_, _%_, _≤_, _<_}
+use native.Mathlib.Omega.{arith}
+use mathlib.Core.Path.{_≡_, refl, sym, ap, subst, _∙_}
+use mathlib.Core.Bool.{Bool, true, false, _||_, not, cond}
+use mathlib.Core.List.{List, [], map}
+use mathlib.Core.Logic.{_⊎_, inl, inr}
+use borrow.Author.Tests.{ltb-false, eq-eqb, ne-eqb}
+use lib.Dec.{eqb, ltb}
+use lib.ListN.{length, getD, replicate, length-map, length-replicate, getD-replicate}
+use Rattle.format.specs.declared.Record.{Record}
+use Rattle.format.specs.Record.{recordsOf}
+use Rattle.format.proofs.Laws.{length-records}
+use Rattle.layout.specs.declared.Layout.{Layout}
+use Rattle.layout.specs.Classes.{ofClass, ordered, layoutOf}
+use Rattle.layout.proofs.Walks.{cases, walk-le}
+use Rattle.read.specs.declared.Reading.{Reading}
+use Rattle.read.specs.Structure.{tiles, nextBlock, tiled, codeOf as recordsOfBlock}
+use Rattle.read.specs.Reading.{unless, answer, reading, readRecords, readBlocks, beyond, beyondLimit, wrongLength}
+use Rattle.read.specs.Parts.{part, InCode, LaidOut}
+use Rattle.read.proofs.Laid.{sizes, class-part, laid-of, end-is, in-tiles}
+use Rattle.codec.specs.Codec.{codeOf}
+use Rattle.procedure.specs.Procedure.{procedureOf}
+use Rattle.lead.specs.Lead.{arcs}
+use Rattle.inst.specs.declared.Code.{Code}
+use Rattle.tidy.specs.declared.Tidiness.{Tidiness}
+use Rattle.tidy.specs.Tidy.{placedFrom, placed, written, reads, writers, targetsOf, lastOf, offenders, verdict, told, tidiness}
+use Rattle.tidy.specs.Work.{noted, judgedAll, Pair, TargetsIn, blockRecords, blockCode, codeRecords, blocksIn, operandsIn, Fit}
+use Rattle.tidy.proofs.Tables.{blocks-length}
+use Rattle.tidy.proofs.Answers.{tally, tally-at, arcs-same, answer-is}
+
+-- the procedure of the file, part by part
+module _ {rs : List Record} {l : Layout} (h : LaidOut rs l) where
+  blocks-are : blockRecords rs l ≡ ofClass 2 rs
+  blocks-are = let z = sizes h in class-part h 2 {y = l .bodies - l .blocks} (h .blocks) (omega arith)
+
+  code-is : codeRecords rs l ≡ ofClass 4 rs
+  code-is = let z = sizes h in class-part h 4 {y = l .operands - l .code} (h .code) (omega arith)
+
+  pub the-blocks : procedureOf rs .blocks ≡ blocksIn rs l
+  unfolding procedureOf
+  the-blocks = sym (ap (λ (c : List Record). map (λ b. map codeOf (recordsOfBlock c b)) (blockRecords rs l)) code-is ∙ ap (map (λ b. map codeOf (recordsOfBlock (ofClass 4 rs) b))) blocks-are)
+
+  pub the-operands : procedureOf rs .operands ≡ operandsIn rs l
+  unfolding procedureOf
+  the-operands = let z = sizes h in ap (map (λ r. r .p1)) (sym (class-part h 5 {y = l .arms - l .operands} (h .operands) (omega arith)))
+
+  pub the-registers : length (procedureOf rs .registers) ≡ l .blocks
+  unfolding procedureOf
+  the-registers = length-map (ofClass 1 rs) (λ r. r .kind) ∙ sym (sizes h .registers)
+
+-- the conditions, taken off one by one
+passed : (number first k n : ℕ) (o : Reading) → 0 < number → unless number first k n o .number ≡ 0 → (n ≤ k) × (o .number ≡ 0)
+unfolding unless
+passed number first k n o h e = by (cases (ltb k n))
+  where
+    by : (ltb k n ≡ true) ⊎ (ltb k n ≡ false) → (n ≤ k) × (o .number ≡ 0)
+    by (inl t) = absurd (let i : number ≡ 0 = sym (rw t) ∙ e in omega arith)
+    by (inr t) = (ltb-false k n t, sym (rw t) ∙ e)
+
+held : (b : Bool) (number place : ℕ) (o : Reading) → 0 < number → cond b (answer number place) o .number ≡ 0 → (b ≡ false) × (o .number ≡ 0)
+held true number place o h e = absurd (omega arith)
+held false number place o h e = (refl, e)
+
+or-first : (a b : Bool) → (a || b) ≡ false → a ≡ false
+or-first true b e = absurd (mathlib.Core.Bool.true≢false e)
+or-first false b e = refl
+
+or-second : (a b : Bool) → (a || b) ≡ false → b ≡ false
+or-second true b e = absurd (mathlib.Core.Bool.true≢false e)
+or-second false b e = e
+
+within : (a b c d e f : ℕ) → beyond a b c d e f ≡ false → (a ≤ 756) × (b ≤ 160)
+within a b c d e f h = (ltb-false 756 a (or-first (ltb 756 a) _ h), ltb-false 160 b (or-first (ltb 160 b) _ (or-second (ltb 756 a) _ h)))
+
+pub accepted : (b : List ℕ) (l : Layout) → reading b .number ≡ 0 → l ≡ layoutOf (recordsOf b) → LaidOut (recordsOf b) l × Fit (recordsOf b) l
+unfolding reading readRecords readBlocks
+accepted b l e i =
+    let rs = recordsOf b in
+    let one = held (wrongLength b) 1 0 (readRecords rs) (omega arith) e in
+    let short = ltb-false 65536 (length b) (or-second (not (eqb (length b % 32) 0)) _ (one .0)) in
+    let two = passed 2 0 (ordered rs) (length rs) (cond (beyondLimit rs) (answer 3 0) (readBlocks rs)) (omega arith) (one .1) in
+    let three = held (beyondLimit rs) 3 0 (readBlocks rs) (omega arith) (two .1) in
+    let h : LaidOut rs l = laid-of rs i (let f = end-is rs i in let g = two .0 in omega arith) in
+    (h, fits b l short (two .0) three h)
+  where
+    fits : (b : List ℕ) (l : Layout) → length b ≤ 65536 → length (recordsOf b) ≤ ordered (recordsOf b) → (beyondLimit (recordsOf b) ≡ false) × (readBlocks (recordsOf b) .number ≡ 0) → LaidOut (recordsOf b) l → Fit (recordsOf b) l
+    fits b l short all three h =
+        let rs = recordsOf b in
+        let z = sizes h in
+        let n = length-records b in
+        let w = within (length (ofClass 1 rs)) (length (ofClass 2 rs)) (length (ofClass 3 rs)) (length (ofClass 4 rs)) (length (ofClass 5 rs)) (length (ofClass 6 rs)) (three .0) in
+        let c : l .operands - l .code ≡ length (ofClass 4 rs) = omega arith in
+        let four = passed 4 _ (tiled (length (ofClass 4 rs)) (ofClass 2 rs)) (length (ofClass 2 rs)) _ (omega arith) (three .1) in
+        let m = walk-le (tiles (length (ofClass 4 rs))) nextBlock (0, length (ofClass 2 rs)) (ofClass 2 rs) in
+        record {
+          few = omega arith;
+          registers = omega arith;
+          blocks = omega arith;
+          bodies = omega arith;
+          code = omega arith;
+          operands = omega arith;
+          arms = omega arith;
+          inCode = subst (λ (k : ℕ). InCode k (blockRecords rs l)) (sym c) (subst (InCode (length (ofClass 4 rs))) (sym (blocks-are h)) (in-tiles (length (ofClass 4 rs)) (0, length (ofClass 2 rs)) (ofClass 2 rs) (let f = four .0 in omega arith)));
+        }
+
+-- the steps over a file that fits
+module _ {rs : List Record} {l : Layout} (h : LaidOut rs l) (f : Fit rs l) (n : ℕ) (size : n ≡ 756) (ts : List ℕ) {ws : List ℕ} (e : ws ≡ noted (replicate n 0) (written (placedFrom 0 (blocksIn rs l)))) (t : TargetsIn rs l ts) where
+  few-blocks : length (procedureOf rs .blocks) ≤ 160
+  few-blocks = let i = ap length (the-blocks h) ∙ length-map (blockRecords rs l) (blockCode rs l) ∙ blocks-length f in omega arith
+
+  table-is : (r : ℕ) → r < length (procedureOf rs .registers) → getD ws r 0 ≡ tally 0 (writers r (written (placed (procedureOf rs))))
+  table-is r i =
+      let k : r < n = let g = the-registers h in omega arith in
+      ap (λ (w : List ℕ). getD w r 0) e
+      ∙ tally-at (written (placedFrom 0 (blocksIn rs l))) (replicate n 0) r (rw (length-replicate {A = ℕ} n 0) k)
+      ∙ ap (λ (m : ℕ). tally m (writers r (written (placedFrom 0 (blocksIn rs l))))) (getD-replicate {A = ℕ} n r 0 0 k)
+      ∙ ap (λ (bs : List (List Code)). tally 0 (writers r (written (placedFrom 0 bs)))) (sym (the-blocks h))
+
+  targets-are : (a : ℕ) → a < 160 → Pair (targetsOf (lastOf (getD (procedureOf rs .blocks) a []))) (getD ts (2 * a) 0) (getD ts (2 * a + 1) 0)
+  targets-are a i = subst (λ (bs : List (List Code)). Pair (targetsOf (lastOf (getD bs a []))) (getD ts (2 * a) 0) (getD ts (2 * a + 1) 0)) (sym (the-blocks h)) (t a i)
+
+  pub judge-is : {s : Tidiness} → s ≡ judgedAll (arcs ts) (l .blocks) ws (told 0 0 1 0) (reads (operandsIn rs l) (placedFrom 0 (blocksIn rs l))) → s ≡ verdict (offenders (procedureOf rs))
+  judge-is i =
+      let p = procedureOf rs in
+      i
+      ∙ ap (λ (m : ℕ). judgedAll (arcs ts) m ws (told 0 0 1 0) (reads (operandsIn rs l) (placedFrom 0 (blocksIn rs l)))) (sym (the-registers h))
+      ∙ ap (λ (ops : List ℕ). judgedAll (arcs ts) (length (p .registers)) ws (told 0 0 1 0) (reads ops (placedFrom 0 (blocksIn rs l)))) (sym (the-operands h))
+      ∙ ap (λ (bs : List (List Code)). judgedAll (arcs ts) (length (p .registers)) ws (told 0 0 1 0) (reads (p .operands) (placedFrom 0 bs))) (sym (the-blocks h))
+      ∙ answer-is p (arcs ts) ws few-blocks (arcs-same p ts targets-are) table-is
+
+-- the answer by Read's number
+module _ (b : List ℕ) {r : Reading} (e : r ≡ reading b) where
+  pub refused-is : (r .number ≡ 0 → ⊥) → told (r .number) (r .place) 0 0 ≡ tidiness b
+  unfolding tidiness
+  refused-is h = ap (λ (x : Reading). told (x .number) (x .place) 0 0) e ∙ sym (rw (ne-eqb (reading b .number) 0 (λ i. h (ap (λ (x : Reading). x .number) e ∙ i))))
+
+  pub number-is : r .number ≡ 0 → reading b .number ≡ 0
+  number-is h = ap (λ (x : Reading). x .number) (sym e) ∙ h
+
+  pub accepted-is : r .number ≡ 0 → {t : Tidiness} → t ≡ verdict (offenders (procedureOf (recordsOf b))) → t ≡ tidiness b
+  unfolding tidiness
+  accepted-is h i = i ∙ sym (rw (eq-eqb (reading b .number) 0 (number-is h)))

@@ -1,0 +1,9 @@
+pub mod Accepted
+pub mod Answers
+pub mod Arcs
+pub mod Clauses
+pub mod Fields
+pub mod Judging
+pub mod Rows
+pub mod Tables
+pub mod Verdicts

@@ -1,0 +1,67 @@
+use Rattle.read.proofs.Laws.{part-length}
+use Prim.Native.Nat.{_-_, _≤_}
+use mathlib.Core.Path.{_≡_, refl, ap, _∙_}
+use mathlib.Core.List.{map}
+use native.Mathlib.Omega.{arith}
+use borrow.Author.Needs.{needs}
+use denote.Ref.{now}
+use lib.ListN.{length, drop}
+use Rattle.format.specs.Record.{recordsOf}
+use Rattle.format.proofs.Laws.{length-records}
+use Rattle.read.specs.Parts.{part}
+use Rattle.codec.specs.Codec.{codeOf}
+use Rattle.tidy.specs.Tidy.{written, placedIn}
+use Rattle.tidy.specs.Work.{noted}
+use Rattle.tidy.proofs.Tables.{noted-next, noted-none, length-noted}
+use Rattle.tidy.proofs.writers.note_block.Statement.{statement}
+use Rattle.tidy.proofs.writers.note_block.Tie as tie
+
+abbrev Inv-loop : tie.InvT-loop
+Inv-loop b first count block ws₀ k₀ ws k = (k ≤ count) × (length ws ≡ length ws₀) × (noted ws (written (placedIn block k (drop k (map codeOf (part first count (recordsOf b)))))) ≡ noted ws₀ (written (placedIn block 0 (map codeOf (part first count (recordsOf b))))))
+
+abbrev μ-loop : tie.MeasureT-loop
+μ-loop b first count block ws₀ k₀ ws k = count - k
+
+loop-holds : tie.Need-loop-holds Inv-loop μ-loop
+loop-holds c = (omega arith, refl, refl)
+
+add-note-inst : tie.Need-add-note-inst Inv-loop μ-loop
+add-note-inst c = omega (arith, length-records (now (c .before .before .before .before .args .b)))
+
+cast-note-inst : tie.Need-cast-note-inst Inv-loop μ-loop
+cast-note-inst c = search needs
+
+note-inst-requires : tie.Need-note-inst-requires Inv-loop μ-loop
+note-inst-requires c κs = search needs
+
+add-k : tie.Need-add-k Inv-loop μ-loop
+add-k c = search needs
+
+loop-less : tie.Need-loop-less Inv-loop μ-loop
+loop-less c = search needs
+
+loop-again : tie.Need-loop-again Inv-loop μ-loop
+loop-again c = let l = c .before .before .before .before .before in let a = l .before .before .before .args in let rs = recordsOf (now (a .b)) in let e = c .before .before .note-inst .ensures in
+    (omega arith, ap length e ∙ length-noted _ (l .loop .ws) ∙ l .loop .inv .1, noted-next (l .loop .ws) rs (a .first) (a .count) (omega arith) (a .block) (l .loop .k) (omega arith) e ∙ l .loop .inv .2)
+
+same-length : tie.Need-same-length Inv-loop μ-loop
+same-length c = omega arith
+
+returns : tie.Need-returns Inv-loop μ-loop
+returns c = let l = c .before in let a = l .before .before .before .args in let rs = recordsOf (now (a .b)) in noted-none (l .loop .ws) (part (a .first) (a .count) rs) (a .block) (l .loop .k) (rw (part-length rs (a .first) (a .count) (omega arith)) (c .loop-test .left)) ∙ l .loop .inv .2
+
+pub note-block-spec : {M : Type 1} → statement M
+note-block-spec =
+    tie.close
+    (tie.spec
+    Inv-loop
+    μ-loop
+    loop-holds
+    add-note-inst
+    cast-note-inst
+    note-inst-requires
+    add-k
+    loop-less
+    loop-again
+    same-length
+    returns)

@@ -1,0 +1,55 @@
+ghost use mathlib.Core.Path.{_≡_};
+ghost use Rattle.format.specs.Record.{recordsOf};
+ghost use Rattle.read.specs.Parts.{LaidOut};
+ghost use Rattle.procedure.specs.Procedure.{procedureOf};
+ghost use Rattle.tidy.specs.Tidy.{offenders, verdict, tidiness};
+ghost use Rattle.tidy.specs.Work.{Fit};
+use layout::Layout;
+
+mod reads;
+mod targets;
+mod writers;
+
+// The answer of Tidy: Read's number and place; then 1 where the file is tidy, or 0 and the lowest offending register.
+pub struct Tidiness {
+    pub number: u32,
+    pub place: u32,
+    pub tidy: u32,
+    pub reg: u32,
+}
+
+fn judge(b: &[u8], l: Layout) -> Tidiness
+    requires { ⌜ LaidOut (recordsOf (now b)) l × Fit (recordsOf (now b)) l ⌝ }
+    ensures { λ r. ⌜ r ≡ verdict (offenders (procedureOf (recordsOf (now (b .entry))))) ⌝ }
+{
+    let mut ws = [0u32; 756];
+    writers::note_blocks(b, l, &mut ws);
+    let mut targets = [160u32; 800];
+    targets::note_targets(b, l, &mut targets);
+    lead::thread(&mut targets);
+    let mut rows = [false; 25600];
+    let s = Tidiness {
+        number: 0,
+        place: 0,
+        tidy: 1,
+        reg: 0,
+    };
+    reads::read_blocks(b, l, &ws, &targets, &mut rows, s)
+}
+
+// Asks of a file whether it is tidy.
+pub fn tidy(b: &[u8]) -> Tidiness
+    ensures { λ r. ⌜ r ≡ tidiness (now (b .entry)) ⌝ }
+{
+    let r = read::read(b);
+    if r.number != 0 {
+        return Tidiness {
+            number: r.number,
+            place: r.place,
+            tidy: 0,
+            reg: 0,
+        };
+    }
+    let l = layout::layout_of(b);
+    judge(b, l)
+}
