@@ -37,7 +37,7 @@ pub record Due (g : List ℕ) (todo : List ℕ) (a : ℕ) : Type 0 where
   pub listed : isIn block todo ≡ true
   pub target : isIn block (arcs g a) ≡ true
 
--- On the way along the chain of b, at x: what is marked is to be, and each block that should be marked has a target on the list, or an arc ahead
+-- On the way along the chain of b, at x: what is marked leads to t, and each block that should be marked has a target on the list, or an arc ahead
 pub record Walk (g : List ℕ) (t b x : ℕ) (m : List Bool) (todo : List ℕ) : Type 0 where
   pub size : length m ≡ 160
   pub room : length todo + unmarked m ≤ 160
@@ -70,7 +70,7 @@ pub record Steps (g : List ℕ) (b x : ℕ) (m : List Bool) (l : List ℕ) (n : 
   pub low : last ≤ 160
   pub steps : Step g b x last m l n m′ l′ n′
 
--- the targets are as they were, and no arc is on a chain yet
+-- no arc is on a chain yet
 abbrev pub Links : List ℕ → Type 0
 Links g = (i : ℕ) → 320 ≤ i → i < 800 → getD g i 0 ≡ 160
 

@@ -3,7 +3,7 @@ use Prim.Native.Nat.{ℕ, suc, _+_, _*_, _-_, _/_, _%_, _≤_, _<_, min}
 use native.Mathlib.Omega.{arith}
 use mathlib.Core.Path.{_≡_, refl, sym, ap, subst, _∙_}
 use mathlib.Core.Bool.{Bool, true, false, _&&_, _||_, not, cond}
-use mathlib.Core.List.{List, [], _∷_, _++_}
+use mathlib.Core.List.{List, [], _∷_, _++_, cons≢nil}
 use mathlib.Core.Logic.{_⊎_, inl, inr, ⊎-elim, _↔_}
 use borrow.Author.Tests.{le-ltb, ne-eqb, eqb-true, eqb-false, ltb-true}
 use lib.Dec.{eqb, ltb}
@@ -18,7 +18,7 @@ use Rattle.lead.specs.Lead.{arcs, anyMarked, isNew, leading}
 use Rattle.lead.proofs.Laws.{leading-same}
 use Rattle.lead.proofs.Paths.{leading-is}
 use Rattle.tidy.specs.declared.Tidiness.{Tidiness}
-use Rattle.tidy.specs.Tidy.{Placed, Field, placedIn, placedFrom, placed, fieldsAt, written, reads, writers, targetsOf, lastOf, targetsAt, LeadsTo, leads, wrong, wrongFor, onlyOne, offends, regsOf, offenders, told, lowest, verdict}
+use Rattle.tidy.specs.Tidy.{Placed, Field, placedIn, placedFrom, placed, fieldsAt, written, reads, writers, targetsOf, lastOf, targetsAt, LeadsTo, leads, wrong, wrongFor, onlyOne, offends, regsOf, offenders, Tidy, told, lowest, verdict}
 use Rattle.tidy.specs.Work.{pack, note, noted, judged, offence, lower, lowered, step, judgedAll, Pair}
 use Rattle.tidy.proofs.Fields.{kind-most}
 use Rattle.tidy.proofs.Tables.{length-note}
@@ -174,3 +174,22 @@ module _ (p : Procedure) (next : ℕ → List ℕ) (ws : List ℕ) (few : length
 
   pub answer-is : judgedAll next (length (p .registers)) ws (told 0 0 1 0) (reads (p .operands) (placed p)) ≡ verdict (offenders p)
   answer-is = judged-regs (reads (p .operands) (placed p)) (told 0 0 1 0) ∙ lowered-verdict (offenders p)
+
+-- a field is one of some
+abbrev pub Among : Field → List Field → Type 0
+Among f [] = ⊥
+Among f (g ∷ gs) = (f ≡ g) ⊎ Among f gs
+
+none-found : (q : Field → Bool) (fs : List Field) → regsOf q fs ≡ [] → (f : Field) → Among f fs → q f ≡ false
+unfolding regsOf
+none-found q [] e f a = absurd a
+none-found q (g ∷ gs) e f a = by (none-found q gs) (cases (q g)) a
+  where
+    by : (regsOf q gs ≡ [] → (f : Field) → Among f gs → q f ≡ false) → (q g ≡ true) ⊎ (q g ≡ false) → (f ≡ g) ⊎ Among f gs → q f ≡ false
+    by more (inl t) a = absurd (cons≢nil (sym (ap (λ (b : Bool). cond b (g .reg ∷ regsOf q gs) (regsOf q gs)) t) ∙ e))
+    by more (inr t) (inl i) = ap q i ∙ t
+    by more (inr t) (inr i) = more (sym (ap (λ (b : Bool). cond b (g .reg ∷ regsOf q gs) (regsOf q gs)) t) ∙ e) f i
+
+-- no read of a tidy procedure offends
+pub tidy-reads : (p : Procedure) → Tidy p → (f : Field) → Among f (reads (p .operands) (placed p)) → offends p f ≡ false
+tidy-reads p e = none-found (offends p) (reads (p .operands) (placed p)) e

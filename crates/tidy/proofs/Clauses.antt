@@ -9,9 +9,10 @@ use Rattle.inst.specs.declared.Inst.{Inst}
 use Rattle.inst.specs.declared.Inst.the-variants as i
 use Rattle.inst.specs.declared.OptReg.the-variants as o
 use Rattle.inst.specs.declared.AddrSpace.the-variants as s
+use Rattle.read.proofs.Table.{P7}
 use Rattle.procedure.specs.Procedure.{Procedure}
 use Rattle.lead.specs.Lead.{isNew, visited, swept, found, closed, clear, leading}
-use Rattle.tidy.specs.Tidy.{placedIn, placedFrom, written, reads, writers, offends, regsOf, offenders}
+use Rattle.tidy.specs.Tidy.{placedIn, placedFrom, written, reads, writers, offends, regsOf, offenders, told, tidiness}
 
 -- a procedure of ten registers, with the operand 5
 blocks : List (List Inst) → Procedure
@@ -73,3 +74,8 @@ address-far = refl
 address-apart : offenders (blocks ((move 3 4 ∷ ret 3 ∷ []) ∷ (address 4 ∷ br 0 ∷ []) ∷ [])) ≡ []
 unfolding blocks move address br ret placedIn placedFrom written reads writers offends regsOf isNew visited swept found closed clear leading
 address-apart = refl
+
+-- a refusal of Read
+empty : tidiness [] ≡ told 3 0 0 0
+unfolding tidiness
+empty = rw P7
