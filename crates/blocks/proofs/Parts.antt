@@ -1,9 +1,9 @@
 -- The records of a part of some bytes are a part of the records; so a block's bytes hold the block's records.
-use Prim.Native.Nat.{ℕ, zero, suc, _+_, _*_, _-_, _/_, _≤_, _<_, min}
+use Prim.Native.Nat.{ℕ, _+_, _*_, _-_, _/_, _≤_, _<_, min}
 use native.Mathlib.Nat.{add-zero}
 use native.Mathlib.Omega.{arith}
-use mathlib.Core.Path.{_≡_, refl, sym, ap, _∙_}
-use mathlib.Core.List.{List, [], _∷_, map}
+use mathlib.Core.Path.{_≡_, sym, ap, _∙_}
+use mathlib.Core.List.{List, [], map}
 use mathlib.Core.Logic.{_⊎_, inl, inr}
 use lib.Dec.{lit<}
 use lib.ListN.{length, getD, take, drop, length-drop, length-map, drop-of-length-le, List·getD-map}
@@ -13,7 +13,6 @@ use Rattle.format.specs.Record.{wordAt, recordIn, recordsOf, recordAt, blank}
 use Rattle.format.proofs.Laws.{length-records, record-at}
 use Rattle.store.proofs.Laws.{order}
 use Rattle.read.specs.Structure.{codeOf as recordsOfBlock}
-use Rattle.inst.specs.declared.Code.{Code}
 use Rattle.codec.specs.Codec.{codeOf}
 use Rattle.procedure.specs.Procedure.{codesOf}
 use Rattle.blocks.specs.Blocks.{blockRecordsIn, blocksOf, endIn, startIn, bytesOfBlock, blockBytes}
