@@ -7,7 +7,7 @@ use mathlib.Core.List.{List, [], _∷_, map}
 use mathlib.Core.Logic.{_⊎_, inl, inr}
 use borrow.Author.Tests.{eqb-true, ltb-true, leb-true}
 use lib.Dec.{eqb, ltb, leb}
-use lib.ListN.{length, getD, take, drop, set, length-drop}
+use lib.ListN.{length, getD, take, drop, set, length-drop, List·getD-map}
 use lib.Seq.{drop-set-lt, drop-set-add, take-set-le, take-set-lt, getD-take, getD-drop, length-take-le, set-getD}
 use Rattle.format.specs.declared.Record.{Record}
 use Rattle.format.specs.Record.{recordsOf, recordAt, blank}
@@ -19,13 +19,13 @@ use Rattle.store.specs.Store.{Bytes}
 use Rattle.store.proofs.Laws.{order, put-records, fits-at}
 use Rattle.read.specs.Structure.{State, tiles, nextBlock, codeOf as recordsOfBlock}
 use Rattle.inst.specs.declared.Inst.{Inst}
-use Rattle.codec.specs.Codec.{codeOf, inRange}
+use Rattle.codec.specs.Codec.{codeOf, recordOf, inRange}
 use Rattle.codec.proofs.Laws.{written-fits}
 use Rattle.ends.specs.Ends.{withInst, withEnd}
-use Rattle.blocks.specs.Blocks.{blockRecordsIn, blocksOf}
+use Rattle.blocks.specs.Blocks.{blockRecordsIn, blocksOf, Canonical}
 use Rattle.blocks.specs.Rewrite.{rewritten, endRewritten, lastBy, Holds, Apart, Tiled}
 use Rattle.blocks.proofs.Parts.{records-at, codes-at}
-use Rattle.blocks.proofs.Rewrites.{end-rewritten, end-kept, last-set, last-codes, map-set}
+use Rattle.blocks.proofs.Rewrites.{end-rewritten, end-kept, last-set, last-codes, last-records, map-set}
 
 -- one element after the other, each block starts at or after the end of the one before, holds code, and ends within n
 abbrev Row : ℕ → ℕ → List Record → Type 0
@@ -196,3 +196,13 @@ module _
         ap (map (map codeOf)) end-records
         ∙ map-set (map codeOf) P k (lastBy (λ (r : Record). rewritten r i) (getD P k []))
         ∙ ap (set (blocksOf code table) k) (last-codes i h (getD P k []) ∙ ap (withEnd i) (sym (codes-at code table k)))
+
+    -- what was canonical stays so
+    pub end-canonical : Canonical code table → Canonical (endRewritten code (recordAt table k) i) table
+    end-canonical c =
+        let P = blocksOf code table in
+        end-records
+        ∙ ap (λ (R : List (List Record)). set R k (lastBy (λ (r : Record). rewritten r i) (getD R k []))) c
+        ∙ ap (λ (b : List Record). set (map (map recordOf) P) k (lastBy (λ (r : Record). rewritten r i) b)) (List·getD-map (map recordOf) P k [])
+        ∙ ap (set (map (map recordOf) P) k) (last-records i (getD P k []))
+        ∙ sym (ap (map (map recordOf)) end-codes ∙ map-set (map recordOf) P k (withEnd i (getD P k [])))

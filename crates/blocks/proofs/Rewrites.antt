@@ -40,7 +40,7 @@ front-take (x ∷ (y ∷ c)) =
     let e : length (x ∷ y ∷ c) - 1 ≡ suc (length (y ∷ c) - 1) = omega arith in
     ap (λ (n : ℕ). take n (x ∷ y ∷ c)) e ∙ ap (λ (l : List Code). x ∷ l) (front-take (y ∷ c))
 
-map-take : {A B : Type 0} (f : A → B) (n : ℕ) (l : List A) → map f (take n l) ≡ take n (map f l)
+pub map-take : {A B : Type 0} (f : A → B) (n : ℕ) (l : List A) → map f (take n l) ≡ take n (map f l)
 map-take f zero l = refl
 map-take f (suc n) [] = refl
 map-take f (suc n) (x ∷ l) = ap (λ (r : List _). f x ∷ r) (map-take f n l)
@@ -72,12 +72,15 @@ module _ (i : Inst) (h : inRange i ≡ true) where
   pub rewritten-code : (r : Record) → codeOf (rewritten r i) ≡ withInst i (codeOf r)
   rewritten-code r = ap (λ (x : Inst). withInst x (codeOf r)) (inst-back i (r .stmt) h)
 
-  -- it is the record of that instruction
-  pub rewritten-again : (r : Record) → recordOf (codeOf (rewritten r i)) ≡ rewritten r i
-  rewritten-again r = ap recordOf (rewritten-code r)
-
   pub last-codes : (rs : List Record) → map codeOf (lastBy (λ r. rewritten r i) rs) ≡ withEnd i (map codeOf rs)
   unfolding lastBy withEnd
   last-codes [] = refl
   last-codes (r ∷ []) = ap (λ (x : Code). x ∷ []) (rewritten-code r)
   last-codes (r ∷ (q ∷ rs)) = ap (λ (l : List Code). codeOf r ∷ l) (last-codes (q ∷ rs))
+
+-- the record of an instruction rewritten is the record of the rewritten instruction
+pub last-records : (i : Inst) (c : List Code) → lastBy (λ r. rewritten r i) (map recordOf c) ≡ map recordOf (withEnd i c)
+unfolding lastBy withEnd
+last-records i [] = refl
+last-records i (x ∷ []) = refl
+last-records i (x ∷ (y ∷ c)) = ap (λ (l : List Record). recordOf x ∷ l) (last-records i (y ∷ c))

@@ -1,11 +1,12 @@
 -- Document 01, "Class 2, block": "Each block's records are a part of the code slice from start to end", over the bytes of code and block table.
 use Prim.Native.Nat.{ℕ, _*_, _-_, _/_, min}
+use mathlib.Core.Path.{_≡_}
 use mathlib.Core.List.{List, map}
 use lib.ListN.{length, take, drop}
 use Rattle.format.specs.declared.Record.{Record}
 use Rattle.format.specs.Record.{recordsOf, recordAt}
 use Rattle.inst.specs.declared.Code.{Code}
-use Rattle.codec.specs.Codec.{codeOf}
+use Rattle.codec.specs.Codec.{codeOf, recordOf}
 use Rattle.read.specs.Structure.{codeOf as recordsOfBlock}
 
 -- the records of each block of a table
@@ -15,6 +16,10 @@ blockRecordsIn code table = map (recordsOfBlock (recordsOf code)) (recordsOf tab
 -- the instructions of each
 abbrev pub blocksOf : List ℕ → List ℕ → List (List Code)
 blocksOf code table = map (map codeOf) (blockRecordsIn code table)
+
+-- the blocks hold the records that their instructions are written as
+abbrev pub Canonical : List ℕ → List ℕ → Type 0
+Canonical code table = blockRecordsIn code table ≡ map (map recordOf) (blocksOf code table)
 
 -- "p1 start, p2 end (exclusive)", kept within a code of n records
 abbrev pub endIn : ℕ → Record → ℕ
