@@ -1,17 +1,19 @@
-use mathlib.Core.Bool.{Bool, true, false, cond}
 use mathlib.Core.Path.{_≡_, sym, ap, _∙_}
-use mathlib.Core.Bool.{Bool, false, cond}
+use mathlib.Core.Bool.{Bool, true, false}
 use mathlib.Core.List.{List}
+use Prim.Native.Nat.{ℕ}
 use borrow.Author.Tests.{eq-eqb, ne-eqb}
 use denote.Ref.{now}
 use lib.Dec.{eqb}
-use Rattle.inst.specs.declared.Code.{Code}
-use Rattle.steps.specs.Ends.{endOf}
+use Rattle.format.specs.Record.{recordAt}
+use Rattle.inst.specs.declared.BlockId.{BlockId}
+use Rattle.inst.specs.declared.Inst.the-variants as i
+use Rattle.ends.specs.declared.End.{End}
+use Rattle.blocks.specs.Blocks.{blocksOf}
+use Rattle.blocks.specs.Rewrite.{endRewritten}
 use Rattle.steps.specs.EqualArms.{reachedFrom}
-use Rattle.ends.specs.Shown.{shown}
-use Rattle.gate.specs.Blocks.{blocksOf}
-use Rattle.arms.specs.Joined.{withBr}
-use Rattle.arms.proofs.Laws.{joinsBy, joins-by, joinedBy, joined-by}
+use Rattle.arms.specs.Joined.{joined, joinIf, joinEnd}
+use Rattle.arms.proofs.Laws.{by-end}
 use borrow.Author.Needs.{needs}
 use Rattle.arms.proofs.join_arms.Statement.{statement}
 use Rattle.arms.proofs.join_arms.Tie as tie
@@ -38,18 +40,23 @@ same-length : tie.Need-same-length
 same-length c = search needs
 
 returns : tie.Need-returns
-returns c = let a = c .before .before .before .before .before .before .before .before .before .before .before .before .before .args in
-    let p = blocksOf (now (a .code)) (now (a .blocks)) in
-    let x = c .before .before .before .before .before .before .before .before .end-of .ensures ∙ ap (λ (m : List Code). shown (endOf m)) (c .before .before .before .before .before .before .before .before .before .block .ensures) in
-    let u = c .before .follow2 .ensures in
-    let v = c .before .before .before .follow .ensures in
-    let t′ = c .before .before .before .before .before .before .e .given .0 .1 .0 .0 in
-    let f′ = c .before .before .before .before .before .before .e .given .0 .1 .1 .0 .0 in
-    let n : eqb (reachedFrom p t′) (reachedFrom p f′) ≡ false = ne-eqb (reachedFrom p t′) (reachedFrom p f′) (λ i. c .if1 .taken (v ∙ i ∙ sym u)) in
-    (sym n ∙ sym (ap (joinsBy p (a .k)) (c .before .before .before .before .before .before .e .given .1)) ∙ joins-by p (a .k) x, λ t h. sym (ap (λ (b : Bool). cond b (withBr p (a .k) (reachedFrom p t′)) p) n) ∙ sym (ap (joinedBy p (a .k)) (c .before .before .before .before .before .before .e .given .1)) ∙ joined-by p (a .k) x)
+returns c =
+    let a = c .before .before .before .before .before .before .before .before .before .before .before .before .before .before .before .args in
+    let table = now (a .table) in
+    let s = joined (now (a .code)) (a .edited) in
+    let x = by-end table (a .k) s (c .before .before .before .before .before .before .before .before .before .before .before .block .ensures) (c .before .before .before .before .before .before .before .before .before .before .end-of .ensures) in
+    let p = blocksOf (s .code) table in
+    let e = c .before .before .before .before .before .before .before .before .e .given in
+    let to = reachedFrom p (e .0 .1 .0 .0) in
+    let other = reachedFrom p (e .0 .1 .1 .0 .0) in
+    let u = c .before .before .before .before .before .follow .ensures in
+    let v = c .before .before .before .follow2 .ensures in
+    let w = ap (λ (y : End). joinEnd table y (a .k) s) (e .1) in
+    let n : eqb to other ≡ false = ne-eqb to other (λ q. c .if1 .taken (ap (λ (b : BlockId). b .0) u ∙ q ∙ sym (ap (λ (b : BlockId). b .0) v))) in
+    sym (w ∙ ap (λ (t : Bool). joinIf table t (a .k) to s) n) ∙ x
 
-write-br-requires : tie.Need-write-br-requires
-write-br-requires c κs = search needs
+rewrite-end-requires : tie.Need-rewrite-end-requires
+rewrite-end-requires c κs = search needs
 
 enum-told-2 : tie.Need-enum-told-2
 enum-told-2 c = search needs
@@ -61,42 +68,54 @@ same-length-2 : tie.Need-same-length-2
 same-length-2 c = search needs
 
 returns-2 : tie.Need-returns-2
-returns-2 c = let a = c .before .before .before .before .before .before .before .args in
-    let p = blocksOf (now (a .code)) (now (a .blocks)) in
-    let x = c .before .before .end-of .ensures ∙ ap (λ (m : List Code). shown (endOf m)) (c .before .before .before .block .ensures) in
-    (sym (ap (joinsBy p (a .k)) (c .enum-told .given .1)) ∙ joins-by p (a .k) x, λ t h. sym (ap (joinedBy p (a .k)) (c .enum-told .given .1)) ∙ joined-by p (a .k) x)
+returns-2 c =
+    let a = c .before .before .before .before .before .before .before .args in
+    let table = now (a .table) in
+    let s = joined (now (a .code)) (a .edited) in
+    let x = by-end table (a .k) s (c .before .before .before .block .ensures) (c .before .before .end-of .ensures) in
+    sym (ap (λ (y : End). joinEnd table y (a .k) s) (c .enum-told .given .1)) ∙ x
 
 same-length-3 : tie.Need-same-length-3
 same-length-3 c = search needs
 
 returns-3 : tie.Need-returns-3
-returns-3 c = let a = c .before .before .before .before .before .before .before .before .before .before .before .before .before .before .before .before .before .args in
-    let p = blocksOf (now (a .code)) (now (a .blocks)) in
-    let x = c .before .before .before .before .before .before .before .before .before .before .before .before .end-of .ensures ∙ ap (λ (m : List Code). shown (endOf m)) (c .before .before .before .before .before .before .before .before .before .before .before .before .before .block .ensures) in
-    let u = c .before .before .before .before .before .follow2 .ensures in
-    let v = c .before .before .before .before .before .before .before .follow .ensures in
-    let t′ = c .before .before .before .before .before .before .before .before .before .before .e .given .0 .1 .0 .0 in
-    let f′ = c .before .before .before .before .before .before .before .before .before .before .e .given .0 .1 .1 .0 .0 in
-    let y : eqb (reachedFrom p t′) (reachedFrom p f′) ≡ true = eq-eqb (reachedFrom p t′) (reachedFrom p f′) (sym v ∙ c .before .before .before .before .if1 .left ∙ u) in
-    (sym y ∙ sym (ap (joinsBy p (a .k)) (c .before .before .before .before .before .before .before .before .before .before .e .given .1)) ∙ joins-by p (a .k) x, λ t h. (c .before .before .write-br .ensures t h) ∙ ap (withBr p (a .k)) v ∙ sym (ap (λ (b : Bool). cond b (withBr p (a .k) (reachedFrom p t′)) p) y) ∙ sym (ap (joinedBy p (a .k)) (c .before .before .before .before .before .before .before .before .before .before .e .given .1)) ∙ joined-by p (a .k) x)
+returns-3 c =
+    let a = c .before .before .before .before .before .before .before .before .before .before .before .before .before .before .before .before .before .before .before .args in
+    let table = now (a .table) in
+    let s = joined (now (a .code)) (a .edited) in
+    let x = by-end table (a .k) s (c .before .before .before .before .before .before .before .before .before .before .before .before .before .before .before .block .ensures) (c .before .before .before .before .before .before .before .before .before .before .before .before .before .before .end-of .ensures) in
+    let p = blocksOf (s .code) table in
+    let e = c .before .before .before .before .before .before .before .before .before .before .before .before .e .given in
+    let to = reachedFrom p (e .0 .1 .0 .0) in
+    let other = reachedFrom p (e .0 .1 .1 .0 .0) in
+    let u = c .before .before .before .before .before .before .before .before .before .follow .ensures in
+    let v = c .before .before .before .before .before .before .before .follow2 .ensures in
+    let w = ap (λ (y : End). joinEnd table y (a .k) s) (e .1) in
+    let y : eqb to other ≡ true = eq-eqb to other (sym (ap (λ (b : BlockId). b .0) u) ∙ c .before .before .before .before .if1 .left ∙ ap (λ (b : BlockId). b .0) v) in
+    let put = c .before .before .rewrite-end .ensures ∙ ap (λ (b : BlockId). endRewritten (s .code) (recordAt table (a .k)) (i.Br b)) u in
+    ap (λ (b : List ℕ). joined b true) put ∙ sym (w ∙ ap (λ (t : Bool). joinIf table t (a .k) to s) y) ∙ x
 
 same-length-4 : tie.Need-same-length-4
 same-length-4 c = search needs
 
 returns-4 : tie.Need-returns-4
-returns-4 c = let a = c .before .before .before .before .before .before .before .args in
-    let p = blocksOf (now (a .code)) (now (a .blocks)) in
-    let x = c .before .before .end-of .ensures ∙ ap (λ (m : List Code). shown (endOf m)) (c .before .before .before .block .ensures) in
-    (sym (ap (joinsBy p (a .k)) (c .enum-told2 .given .1)) ∙ joins-by p (a .k) x, λ t h. sym (ap (joinedBy p (a .k)) (c .enum-told2 .given .1)) ∙ joined-by p (a .k) x)
+returns-4 c =
+    let a = c .before .before .before .before .before .before .before .args in
+    let table = now (a .table) in
+    let s = joined (now (a .code)) (a .edited) in
+    let x = by-end table (a .k) s (c .before .before .before .block .ensures) (c .before .before .end-of .ensures) in
+    sym (ap (λ (y : End). joinEnd table y (a .k) s) (c .enum-told2 .given .1)) ∙ x
 
 same-length-5 : tie.Need-same-length-5
 same-length-5 c = search needs
 
 returns-5 : tie.Need-returns-5
-returns-5 c = let a = c .before .before .before .before .before .before .before .args in
-    let p = blocksOf (now (a .code)) (now (a .blocks)) in
-    let x = c .before .before .end-of .ensures ∙ ap (λ (m : List Code). shown (endOf m)) (c .before .before .before .block .ensures) in
-    (sym (ap (joinsBy p (a .k)) (c .enum-told3 .given .1)) ∙ joins-by p (a .k) x, λ t h. sym (ap (joinedBy p (a .k)) (c .enum-told3 .given .1)) ∙ joined-by p (a .k) x)
+returns-5 c =
+    let a = c .before .before .before .before .before .before .before .args in
+    let table = now (a .table) in
+    let s = joined (now (a .code)) (a .edited) in
+    let x = by-end table (a .k) s (c .before .before .before .block .ensures) (c .before .before .end-of .ensures) in
+    sym (ap (λ (y : End). joinEnd table y (a .k) s) (c .enum-told3 .given .1)) ∙ x
 
 pub join-arms-spec : {M : Type 1} → statement M
 join-arms-spec =
@@ -110,7 +129,7 @@ join-arms-spec =
     follow-requires-2
     same-length
     returns
-    write-br-requires
+    rewrite-end-requires
     enum-told-2
     enum-told-3
     same-length-2
