@@ -17,7 +17,7 @@ use Rattle.inst.specs.declared.Inst.the-variants as i
 use Rattle.ops.proofs.Laws.{below}
 use Rattle.store.specs.Store.{Bytes, Fits, putOf}
 use Rattle.store.proofs.Laws.{order, fits-at, put-same, put-back}
-use Rattle.codec.specs.Codec.{instOf, codeOf, instRecord, recordOf, withStmt, rowOf, inRange, InRange}
+use Rattle.codec.specs.Codec.{instOf, codeOf, instRecord, recordOf, withStmt, withInst, rewrittenRecord, rowOf, inRange, InRange}
 use Rattle.codec.proofs.Table.{inst-past}
 use Rattle.codec.proofs.Read.{first, second, inst-back, inst-right, inst-words}
 use Rattle.codec.proofs.Write.{kept}
@@ -49,17 +49,14 @@ row-same r e z = ap (λ (c : ℕ). of c 0) (sym e) ∙ ap (of (r .class)) (sym z
     of : ℕ → ℕ → Record
     of c n = record { class = c; kind = r .kind; op = r .op; zero = n; stmt = r .stmt; p1 = r .p1; p2 = r .p2; p3 = r .p3; p4 = r .p4; p5 = r .p5; p6 = r .p6 }
 
--- what was read from a right record writes the same record; of its bounds only those of p2 and p3 count
-pub write-back-words : (r : Record) → right r ≡ true → r .class ≡ 4 → r .p2 < 2 ^ 32 → r .p3 < 2 ^ 32 → recordOf (codeOf r) ≡ r
+-- what was read from a right record writes the same record
+pub write-back : (r : Record) → right r ≡ true → r .class ≡ 4 → Fits r → recordOf (codeOf r) ≡ r
 unfolding instOf
-write-back-words r h e w2 w3 =
+write-back r h e f =
     let l = listed r h e in
     ap (λ (x : Record). withStmt x (r .stmt))
-    (kept (r .kind) (l .kind) (r .op) (r .p1) (r .p2) (r .p3) (r .p4) (r .p5) (r .p6) (l .op) w2 w3 (l .places))
+    (kept (r .kind) (l .kind) (r .op) (r .p1) (r .p2) (r .p3) (r .p4) (r .p5) (r .p6) (l .op) (f .p2) (f .p3) (l .places))
     ∙ row-same r e (l .zero)
-
-pub write-back : (r : Record) → right r ≡ true → r .class ≡ 4 → Fits r → recordOf (codeOf r) ≡ r
-write-back r h e f = write-back-words r h e (f .p2) (f .p3)
 
 -- what was written reads back as the same value
 pub read-back : (c : Code) → InRange c → codeOf (recordOf c) ≡ c
@@ -68,6 +65,13 @@ read-back c h = ap (λ (x : Inst). record { inst = x; stmt = c .stmt }) (inst-ba
 -- what is written is right
 pub written-right : (c : Code) → InRange c → right (recordOf c) ≡ true
 written-right c h = inst-right (c .inst) (c .stmt .0) (h .inst)
+
+-- a rewritten record is right, and is read as the other instruction with all else of what the record held
+pub rewritten-right : (r : Record) (x : Inst) → inRange x ≡ true → right (rewrittenRecord r x) ≡ true
+rewritten-right r x h = inst-right x (r .stmt) h
+
+pub rewritten-code : (r : Record) (x : Inst) → inRange x ≡ true → codeOf (rewrittenRecord r x) ≡ withInst x (codeOf r)
+rewritten-code r x h = ap (λ (y : Inst). withInst y (codeOf r)) (inst-back x (r .stmt) h)
 
 pub written-class : (x : Inst) → instRecord x .class ≡ 4
 unfolding instRecord
