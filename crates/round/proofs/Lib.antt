@@ -1,3 +1,5 @@
 pub mod Lists
 pub mod Bytes
 pub mod Sections
+pub mod Blocks
+pub mod Ends
