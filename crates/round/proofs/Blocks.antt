@@ -35,7 +35,7 @@ pub record Tile (n due left : ℕ) (r : Record) : Type 0 where
   pub within : r .p2 ≤ n
   pub last : left ≡ 1 → r .p2 ≡ n
 
-last-of : (left : ℕ) (x : Bool) → (not (eqb left 1) || x) ≡ true → left ≡ 1 → x ≡ true
+pub last-of : (left : ℕ) (x : Bool) → (not (eqb left 1) || x) ≡ true → left ≡ 1 → x ≡ true
 last-of left x e h = sym (rw (eq-eqb left 1 h)) ∙ e
 
 pub tile : (n due left : ℕ) (r : Record) → tiles n (due, left) r ≡ true → Tile n due left r
@@ -110,7 +110,7 @@ unfolding blockRecords
 length-blocks due [] = refl
 length-blocks due (c ∷ cs) = ap suc (length-blocks (due + length c) cs)
 
-to-last : (left : ℕ) (x : Bool) → (left ≡ 1 → x ≡ true) → (not (eqb left 1) || x) ≡ true
+pub to-last : (left : ℕ) (x : Bool) → (left ≡ 1 → x ≡ true) → (not (eqb left 1) || x) ≡ true
 to-last left x h = by (cases (eqb left 1))
   where
     by : (eqb left 1 ≡ true) ⊎ (eqb left 1 ≡ false) → (not (eqb left 1) || x) ≡ true

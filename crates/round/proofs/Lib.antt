@@ -3,3 +3,4 @@ pub mod Bytes
 pub mod Sections
 pub mod Blocks
 pub mod Ends
+pub mod Tables
