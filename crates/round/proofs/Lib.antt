@@ -4,3 +4,4 @@ pub mod Sections
 pub mod Blocks
 pub mod Ends
 pub mod Tables
+pub mod Accepted
