@@ -5,3 +5,6 @@ pub mod Blocks
 pub mod Ends
 pub mod Tables
 pub mod Accepted
+pub mod FromRecords
+pub mod ToRecords
+pub mod Laws
