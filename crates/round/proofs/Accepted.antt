@@ -1,7 +1,7 @@
 -- The seven conditions of Read, as facts of a file's records.
-use Prim.Native.Nat.{ℕ, zero, suc, _+_, _%_, _≤_, _<_}
+use Prim.Native.Nat.{ℕ, _%_, _≤_, _<_}
 use native.Mathlib.Omega.{arith}
-use mathlib.Core.Path.{_≡_, refl, sym, ap, subst, _∙_}
+use mathlib.Core.Path.{_≡_, refl, sym, _∙_}
 use mathlib.Core.Bool.{Bool, true, false, _||_, not, cond, true≢false}
 use mathlib.Core.List.{List}
 use mathlib.Core.Logic.{_⊎_, inl, inr}
@@ -11,7 +11,6 @@ use lib.ListN.{length}
 use Rattle.format.specs.declared.Record.{Record}
 use Rattle.format.specs.Record.{recordsOf}
 use Rattle.shape.specs.Exist.{namesExist}
-use Rattle.layout.specs.Walk.{walk, lead}
 use Rattle.layout.specs.Classes.{ofClass, ordered, before, inOrder}
 use Rattle.layout.proofs.Walks.{cases, walk-le, lead-le}
 use Rattle.read.specs.declared.Reading.{Reading}
@@ -23,6 +22,10 @@ use Rattle.round.proofs.Lists.{lead-all, all-lead}
 use Rattle.round.proofs.Sections.{InOrder}
 use Rattle.round.proofs.Blocks.{Tiled}
 use Rattle.round.proofs.Tables.{Numbered}
+
+-- how many records a class has
+abbrev pub sized : ℕ → List Record → ℕ
+sized c rs = length (ofClass c rs)
 
 -- condition 3, of the number of records of each class
 pub record Within (a b c d e f : ℕ) : Type 0 where
@@ -37,7 +40,7 @@ pub record Within (a b c d e f : ℕ) : Type 0 where
 -- conditions 2 to 7
 pub record Accepted (rs : List Record) : Type 0 where
   pub order : InOrder 1 rs
-  pub within : Within (length (ofClass 1 rs)) (length (ofClass 2 rs)) (length (ofClass 3 rs)) (length (ofClass 4 rs)) (length (ofClass 5 rs)) (length (ofClass 6 rs))
+  pub within : Within (sized 1 rs) (sized 2 rs) (sized 3 rs) (sized 4 rs) (sized 5 rs) (sized 6 rs)
   pub tile : Tiled (length (ofClass 4 rs)) 0 (ofClass 2 rs)
   pub end : All (λ r. endsWell (recordsOfBlock (ofClass 4 rs) r) ≡ true) (ofClass 2 rs)
   pub number : Numbered 0 (ofClass 6 rs)
@@ -73,7 +76,8 @@ module _ (a b c d e f : ℕ) where
   of-within : Within a b c d e f → beyond a b c d e f ≡ false
   of-within w =
       let s = w .some-block in
-      rw (le-ltb 756 a (w .registers), le-ltb 160 b (w .blocks), ne-eqb b 0 (λ i. omega arith), le-ltb 1 c (w .bodies), le-ltb 756 d (w .code), le-ltb 128 e (w .operands), le-ltb 128 f (w .arms))
+      rw (le-ltb 756 a (w .registers), le-ltb 160 b (w .blocks), ne-eqb b 0 (λ i. omega arith), le-ltb 1 c (w .bodies))
+      (rw (le-ltb 756 d (w .code), le-ltb 128 e (w .operands), le-ltb 128 f (w .arms)))
 
 -- a condition that an accepted file passed
 passed : (number first k n : ℕ) (o : Reading) → 0 < number → unless number first k n o .number ≡ 0 → (n ≤ k) × (o .number ≡ 0)

@@ -1,30 +1,28 @@
 -- Blocks that tile the code, and the code of each.
-use Prim.Native.Nat.{ℕ, zero, suc, _+_, _-_, _≤_, _<_}
+use Prim.Native.Nat.{ℕ, suc, _+_, _-_, _≤_, _<_}
 use native.Mathlib.Omega.{arith}
 use mathlib.Core.Path.{_≡_, refl, sym, ap, subst, _∙_}
-use mathlib.Core.Bool.{Bool, true, false, _&&_, _||_, not, cond}
+use mathlib.Core.Bool.{Bool, true, false, _||_, not}
 use mathlib.Core.List.{List, [], _∷_, _++_, map, append-nil}
 use mathlib.Core.Logic.{_⊎_, inl, inr}
-use borrow.Author.Tests.{ltb-true, leb-true, eqb-true, lt-ltb, le-leb, eq-eqb, ne-eqb, eqb-false}
+use borrow.Author.Tests.{ltb-true, leb-true, eqb-true, lt-ltb, le-leb, eq-eqb}
 use lib.Dec.{eqb, ltb, leb}
-use lib.ListN.{length, take, drop, length-append, length-map, length-take, length-drop, take-append-drop}
+use lib.ListN.{length, take, drop, length-append, length-map, length-drop, take-append-drop}
 use lib.Seq.{take-all, take-at, drop-at, drop-drop, length-take-le}
 use Rattle.format.specs.declared.Record.{Record}
-use Rattle.format.specs.Kinds.{right}
-use Rattle.layout.specs.Walk.{walk, lead}
+use Rattle.layout.specs.Walk.{walk}
 use Rattle.layout.specs.Spans.{rightOf}
 use Rattle.layout.proofs.Walks.{cases, walk-pass, walk-head, walk-tail}
 use Rattle.layout.proofs.Order.{and-first, and-second}
-use Rattle.read.specs.Structure.{State, tiles, nextBlock, tiled, terminator, endsWell, codeOf as recordsOfBlock}
+use Rattle.read.specs.Structure.{tiles, nextBlock, codeOf as recordsOfBlock}
 use Rattle.inst.specs.declared.Code.{Code}
-use Rattle.inst.specs.declared.Block.{Block}
 use Rattle.codec.specs.Codec.{codeOf, recordOf, InRange}
 use Rattle.codec.proofs.Laws.{read-back}
-use Rattle.items.specs.Items.{blockRecord, blockOf}
+use Rattle.items.specs.Items.{blockRecord}
 use Rattle.items.proofs.Laws.{block-write-back}
 use Rattle.steps.specs.Lists.{joined}
 use Rattle.steps.specs.Write.{blockRecords}
-use Rattle.round.specs.WellFormed.{All, Ends}
+use Rattle.round.specs.WellFormed.{All}
 use Rattle.round.proofs.Lists.{map-back}
 use Rattle.round.proofs.Sections.{class-is, is-right}
 
@@ -69,7 +67,8 @@ module _ (code : List Record) where
   part-size due left r t = length-take-le (r .p2 - r .p1) (drop (r .p1) code) (let e = length-drop (r .p1) code in omega arith)
 
   -- blocks are written as they were read
-  pub blocks-back : (due : ℕ) (bs : List Record) → Tiled (length code) due bs → All (λ r. rightOf 2 r ≡ true) bs → blockRecords due (map (λ b. map codeOf (recordsOfBlock code b)) bs) ≡ bs
+  pub blocks-back : (due : ℕ) (bs : List Record) → Tiled (length code) due bs → All (λ r. rightOf 2 r ≡ true) bs →
+      blockRecords due (map (λ b. map codeOf (recordsOfBlock code b)) bs) ≡ bs
   unfolding blockRecords
   blocks-back due [] h c = refl
   blocks-back due (r ∷ bs) h c =
@@ -131,7 +130,8 @@ blocks-tile n due [] h e = refl
 blocks-tile n due (c ∷ cs) h e =
     let bs = blockRecords (due + length c) cs in
     let m = length-append c (joined cs) in
-    let last : suc (length bs) ≡ 1 → eqb (due + length c) n ≡ true = λ i. eq-eqb (due + length c) n (let z = none-joined cs (let k = length-blocks (due + length c) cs in omega arith) in omega arith) in
+    let last : suc (length bs) ≡ 1 → eqb (due + length c) n ≡ true = λ i. eq-eqb (due + length c) n
+    (let z = none-joined cs (let k = length-blocks (due + length c) cs in omega arith) in omega arith) in
     let r = blockRecord (record { start = due; end = due + length c }) in
     let ok : tiles n (due, suc (length bs)) r ≡ true = tile-ok n due (suc (length bs)) r refl (let i = h .0 in omega arith) (omega arith) last in
     let k : suc (length bs) - 1 ≡ length bs = omega arith in
@@ -158,14 +158,16 @@ module _ (code : List Record) (due : ℕ) (c : List Code) (cs : List (List Code)
 
 module _ (code : List Record) where
   -- blocks are read as they were written
-  pub parts-back : (due : ℕ) (cs : List (List Code)) → drop due code ≡ map recordOf (joined cs) → All (All InRange) cs → map (λ b. map codeOf (recordsOfBlock code b)) (blockRecords due cs) ≡ cs
+  pub parts-back : (due : ℕ) (cs : List (List Code)) → drop due code ≡ map recordOf (joined cs) → All (All InRange) cs →
+      map (λ b. map codeOf (recordsOfBlock code b)) (blockRecords due cs) ≡ cs
   unfolding blockRecords
   parts-back due [] e h = refl
   parts-back due (c ∷ cs) e h =
       rw (part-is code due c cs e, map-back {P = InRange} recordOf codeOf read-back c (h .0), parts-back (due + length c) cs (rest-is code due c cs e) (h .1))
 
   -- what holds of the records of each block's code
-  pub all-parts : (P : List Record → Type 0) (due : ℕ) (cs : List (List Code)) → drop due code ≡ map recordOf (joined cs) → All (λ c. P (map recordOf c)) cs → All (λ r. P (recordsOfBlock code r)) (blockRecords due cs)
+  pub all-parts : (P : List Record → Type 0) (due : ℕ) (cs : List (List Code)) → drop due code ≡ map recordOf (joined cs) →
+      All (λ c. P (map recordOf c)) cs → All (λ r. P (recordsOfBlock code r)) (blockRecords due cs)
   unfolding blockRecords
   all-parts P due [] e h = tt
   all-parts P due (c ∷ cs) e h = (subst P (sym (part-is code due c cs e)) (h .0), all-parts P (due + length c) cs (rest-is code due c cs e) (h .1))

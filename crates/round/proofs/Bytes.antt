@@ -4,11 +4,11 @@ use native.Mathlib.Omega.{arith}
 use mathlib.Core.Path.{_≡_, refl, sym, ap, _∙_}
 use mathlib.Core.List.{List, [], _∷_, _++_}
 use borrow.Author.Tests.{lt-ltb}
-use lib.ListN.{length, getD, take, drop, length-append, length-drop}
+use lib.ListN.{length, drop, length-append, length-drop}
 use lib.Seq.{drop-at, getD-drop}
 use Rattle.format.specs.declared.Record.{Record}
-use Rattle.format.specs.Record.{recordIn, recordAt, firstRecords, recordsOf, blank}
-use Rattle.format.proofs.Laws.{record-at, length-records}
+use Rattle.format.specs.Record.{recordIn, firstRecords, recordsOf, blank}
+use Rattle.format.proofs.Laws.{record-at}
 use Rattle.store.specs.Store.{recordBytes, putOf, Bytes, Fits}
 use Rattle.store.proofs.Laws.{length-bytes, written-read, fits-at, put-back}
 use Rattle.steps.specs.Write.{bytesOf}

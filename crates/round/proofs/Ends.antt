@@ -1,14 +1,14 @@
 -- Each block ends in its only terminator: of records and of instructions.
-use Prim.Native.Nat.{ℕ, zero, suc, _+_, _≤_, _<_}
+use Prim.Native.Nat.{ℕ, suc, _+_}
 use native.Mathlib.Omega.{arith}
-use mathlib.Core.Path.{_≡_, refl, sym, ap, subst, _∙_}
-use mathlib.Core.Bool.{Bool, true, false, _&&_, not}
+use mathlib.Core.Path.{_≡_, refl, sym, ap, _∙_}
+use mathlib.Core.Bool.{Bool, true, false, not}
 use mathlib.Core.List.{List, [], _∷_, map}
 use mathlib.Core.Logic.{_⊎_, inl, inr}
 use borrow.Author.Tests.{eqb-true, eq-eqb}
 use lib.ListN.{length, length-map}
 use Rattle.format.specs.declared.Record.{Record}
-use Rattle.layout.specs.Walk.{walk, lead}
+use Rattle.layout.specs.Walk.{lead}
 use Rattle.layout.proofs.Walks.{cases, walk-pass, walk-stop}
 use Rattle.read.specs.Structure.{terminator, endsWell}
 use Rattle.inst.specs.Inst.{kindOf, terminatorKind, terminatorOf}

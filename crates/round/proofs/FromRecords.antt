@@ -1,35 +1,33 @@
 -- The procedure of an accepted file's records: it writes the same records, and is well formed.
-use Prim.Native.Nat.{ℕ, zero, suc, _+_, _-_, _≤_, _<_}
+use Prim.Native.Nat.{ℕ, zero, suc, _-_, _≤_, _<_}
 use native.Mathlib.Omega.{arith}
 use mathlib.Core.Path.{_≡_, refl, sym, ap, subst, _∙_}
-use mathlib.Core.Bool.{Bool, true, false, _&&_}
+use mathlib.Core.Bool.{true}
 use mathlib.Core.List.{List, [], _∷_, _++_, map, append-nil}
-use mathlib.Core.Option.{Option, none, some}
 use borrow.Author.Tests.{ltb-true}
 use lib.Dec.{ltb}
-use lib.ListN.{length, take, drop, length-map}
+use lib.ListN.{length, drop, length-map}
 use Rattle.format.specs.declared.Record.{Record}
-use Rattle.format.specs.Kinds.{right, places, fields, kindCount, armPlaces}
+use Rattle.format.specs.Kinds.{right, fields, kindCount, armPlaces}
 use Rattle.shape.specs.declared.exist.Counts.{Counts}
 use Rattle.shape.specs.Exist.{namesExist}
-use Rattle.layout.specs.Classes.{ofClass, ordered}
+use Rattle.layout.specs.Classes.{ofClass}
 use Rattle.layout.specs.Spans.{rightOf}
-use Rattle.layout.proofs.Order.{and-first, and-second}
+use Rattle.layout.proofs.Order.{and-first}
 use Rattle.read.specs.Structure.{endsWell, tables, codeOf as recordsOfBlock}
 use Rattle.read.specs.Reading.{countsOf}
 use Rattle.store.specs.Store.{Fits}
-use Rattle.inst.specs.declared.Code.{Code}
 use Rattle.ops.specs.Ops.{regTyOf}
-use Rattle.codec.specs.Codec.{codeOf, recordOf, regOf, InRange}
+use Rattle.codec.specs.Codec.{codeOf, recordOf, regOf}
 use Rattle.codec.proofs.Laws.{write-back, read-range}
 use Rattle.items.specs.Items.{registerRecord, operandRecord}
 use Rattle.items.proofs.Laws.{register-write-back, body-write-back, operand-write-back}
-use Rattle.procedure.specs.Procedure.{Procedure, procedureOf, firstOf, tablesFrom}
+use Rattle.procedure.specs.Procedure.{procedureOf, firstOf}
 use Rattle.steps.specs.Lists.{joined}
 use Rattle.steps.specs.Write.{blockRecords, bodyRecords, tableRecords, recordsFor}
 use Rattle.round.specs.WellFormed.{All, Sound, BlockIn, BodyIn, TableIn, armCount, countsIn, WellFormed}
 use Rattle.round.proofs.Lists.{all-turn, all-both, all-map, all-take, all-drop, map-back}
-use Rattle.round.proofs.Sections.{class-is, is-right, right-of, classes, classes-joined, all-right, all-of, all-class}
+use Rattle.round.proofs.Sections.{class-is, is-right, right-of, classes-joined, all-right, all-of, all-class}
 use Rattle.round.proofs.Blocks.{blocks-back, code-back, joined-map, Tiled}
 use Rattle.round.proofs.Ends.{Back, read-ends}
 use Rattle.round.proofs.Tables.{tables-back, length-tables, length-arms, tables-in}
@@ -76,7 +74,9 @@ module _ (rs : List Record) (a : Accepted rs) (f : All Fits rs) where
   Right c = All (λ r. rightOf c r ≡ true) (ofClass c rs)
 
   of-class : (c : ℕ) → Right c
-  of-class c = all-turn (λ r h. right-of c r (h .0) (h .1)) (ofClass c rs) (all-both (λ r. r .class ≡ c) (λ r. right r ≡ true) (ofClass c rs) (all-class c rs) (all-of (λ r. right r ≡ true) c rs (all-right 1 rs (a .order))))
+  of-class c =
+      all-turn (λ r h. right-of c r (h .0) (h .1)) (ofClass c rs)
+      (all-both (λ r. r .class ≡ c) (λ r. right r ≡ true) (ofClass c rs) (all-class c rs) (all-of (λ r. right r ≡ true) c rs (all-right 1 rs (a .order))))
 
   fit-class : (c : ℕ) → All Fits (ofClass c rs)
   fit-class c = all-of Fits c rs f
@@ -91,7 +91,8 @@ module _ (rs : List Record) (a : Accepted rs) (f : All Fits rs) where
   B = ofClass 2 rs
 
   codes-back : All Back C
-  codes-back = all-turn (λ r h. write-back r (is-right 4 r (h .0)) (class-is 4 r (h .0)) (h .1)) C (all-both (λ r. rightOf 4 r ≡ true) Fits C (of-class 4) (fit-class 4))
+  codes-back =
+      all-turn (λ r h. write-back r (is-right 4 r (h .0)) (class-is 4 r (h .0)) (h .1)) C (all-both (λ r. rightOf 4 r ≡ true) Fits C (of-class 4) (fit-class 4))
 
   -- the code of all blocks is the file's
   parts-joined : (bs : List Record) → 1 ≤ length bs → Tiled (length C) 0 bs → joined (map (λ b. map codeOf (recordsOfBlock C b)) bs) ≡ map codeOf C
@@ -107,7 +108,9 @@ module _ (rs : List Record) (a : Accepted rs) (f : All Fits rs) where
 
   registers-same : map (λ k. registerRecord (regTyOf k)) (procedureOf rs .registers) ≡ ofClass 1 rs
   unfolding procedureOf
-  registers-same = map-back {P = λ r. rightOf 1 r ≡ true} (λ r. r .kind) (λ k. registerRecord (regTyOf k)) (λ r h. register-write-back r (is-right 1 r h) (class-is 1 r h)) (ofClass 1 rs) (of-class 1)
+  registers-same =
+      map-back {P = λ r. rightOf 1 r ≡ true} (λ r. r .kind) (λ k. registerRecord (regTyOf k))
+      (λ r h. register-write-back r (is-right 1 r h) (class-is 1 r h)) (ofClass 1 rs) (of-class 1)
 
   blocks-same : blockRecords 0 (procedureOf rs .blocks) ≡ B
   unfolding procedureOf
@@ -122,7 +125,9 @@ module _ (rs : List Record) (a : Accepted rs) (f : All Fits rs) where
 
   operands-same : map (λ r. operandRecord (regOf r)) (procedureOf rs .operands) ≡ ofClass 5 rs
   unfolding procedureOf
-  operands-same = map-back {P = λ r. rightOf 5 r ≡ true} (λ r. r .p1) (λ r. operandRecord (regOf r)) (λ r h. operand-write-back r (is-right 5 r h) (class-is 5 r h)) (ofClass 5 rs) (of-class 5)
+  operands-same =
+      map-back {P = λ r. rightOf 5 r ≡ true} (λ r. r .p1) (λ r. operandRecord (regOf r))
+      (λ r h. operand-write-back r (is-right 5 r h) (class-is 5 r h)) (ofClass 5 rs) (of-class 5)
 
   tables-same : tableRecords 0 (procedureOf rs .tables) ≡ ofClass 6 rs
   unfolding procedureOf
@@ -139,7 +144,8 @@ module _ (rs : List Record) (a : Accepted rs) (f : All Fits rs) where
   counts-same : countsIn (procedureOf rs) ≡ countsOf rs
   unfolding procedureOf
   counts-same =
-      rw (length-map (ofClass 1 rs) (λ r. r .kind), length-map B (λ b. map codeOf (recordsOfBlock C b)), length-tables [] (ofClass 6 rs), length-map (ofClass 5 rs) (λ r. r .p1))
+      rw (length-map (ofClass 1 rs) (λ r. r .kind), length-map B (λ b. map codeOf (recordsOfBlock C b)))
+      (rw (length-tables [] (ofClass 6 rs), length-map (ofClass 5 rs) (λ r. r .p1)))
 
   sound : All (λ r. Sound (countsOf rs) (codeOf r)) C
   sound =
@@ -154,7 +160,8 @@ module _ (rs : List Record) (a : Accepted rs) (f : All Fits rs) where
   block-in : (r : Record) → endsWell (recordsOfBlock C r) ≡ true → BlockIn (countsOf rs) (map codeOf (recordsOfBlock C r))
   block-in r e = record {
     ends = read-ends (recordsOfBlock C r) (part-of Back r codes-back) e;
-    each = all-map (λ r. Sound (countsOf rs) (codeOf r)) (Sound (countsOf rs)) codeOf (λ r h. h) (recordsOfBlock C r) (part-of (λ r. Sound (countsOf rs) (codeOf r)) r sound);
+    each = all-map (λ r. Sound (countsOf rs) (codeOf r)) (Sound (countsOf rs)) codeOf (λ r h. h) (recordsOfBlock C r)
+        (part-of (λ r. Sound (countsOf rs) (codeOf r)) r sound);
   }
 
   blocks-in : All (BlockIn (countsIn (procedureOf rs))) (procedureOf rs .blocks)
@@ -181,7 +188,8 @@ module _ (rs : List Record) (a : Accepted rs) (f : All Fits rs) where
   unfolding procedureOf
   operands-in =
       subst (λ (n : ℕ). All (λ r. r < n) (procedureOf rs .operands)) (sym n-registers)
-      (all-map (λ r. (r .class ≡ 5) × (namesExist (countsOf rs) r ≡ true)) (λ r. r < length (ofClass 1 rs)) (λ r. r .p1) (λ r h. operand-names (countsOf rs) r (h .0) (h .1)) (ofClass 5 rs)
+      (all-map (λ r. (r .class ≡ 5) × (namesExist (countsOf rs) r ≡ true)) (λ r. r < length (ofClass 1 rs)) (λ r. r .p1)
+      (λ r h. operand-names (countsOf rs) r (h .0) (h .1)) (ofClass 5 rs)
       (all-both (λ r. r .class ≡ 5) (λ r. namesExist (countsOf rs) r ≡ true) (ofClass 5 rs) (all-class 5 rs) (named-class 5)))
 
   arms-in : All (TableIn (length (procedureOf rs .blocks))) (procedureOf rs .tables)
@@ -189,7 +197,8 @@ module _ (rs : List Record) (a : Accepted rs) (f : All Fits rs) where
   arms-in =
       subst (λ (n : ℕ). All (TableIn n) (procedureOf rs .tables)) (sym n-blocks)
       (tables-in (length B) [] (ofClass 6 rs) (fit-class 6)
-      (all-turn (λ r h. arm-names (countsOf rs) r (h .0) (h .1)) (ofClass 6 rs) (all-both (λ r. rightOf 6 r ≡ true) (λ r. namesExist (countsOf rs) r ≡ true) (ofClass 6 rs) (of-class 6) (named-class 6)))
+      (all-turn (λ r h. arm-names (countsOf rs) r (h .0) (h .1)) (ofClass 6 rs)
+      (all-both (λ r. rightOf 6 r ≡ true) (λ r. namesExist (countsOf rs) r ≡ true) (ofClass 6 rs) (of-class 6) (named-class 6)))
       tt)
 
   kinds-in : All (λ k. k < 5) (procedureOf rs .registers)

@@ -1,14 +1,14 @@
 -- A file in order is its six sections, the right records of each class, one after the other.
 use Prim.Native.Nat.{ℕ, zero, suc, _+_, _≤_, _<_}
-use native.Mathlib.Nat.{zero-add, add-zero, add-suc, suc-add}
+use native.Mathlib.Nat.{zero-add, add-zero}
 use native.Mathlib.Omega.{arith}
-use mathlib.Core.Path.{_≡_, refl, sym, ap, subst, _∙_}
-use mathlib.Core.Bool.{Bool, true, false, _&&_, cond}
+use mathlib.Core.Path.{_≡_, refl, sym, ap, _∙_}
+use mathlib.Core.Bool.{Bool, true, false, cond}
 use mathlib.Core.List.{List, [], _∷_, _++_, append-nil, append-assoc}
 use mathlib.Core.Logic.{_⊎_, inl, inr}
 use borrow.Author.Tests.{eqb-true, eq-eqb, ne-eqb, le-leb}
-use lib.Dec.{eqb, leb}
-use lib.ListN.{length, getD, take, drop, take-append-drop}
+use lib.Dec.{eqb}
+use lib.ListN.{length, getD, drop, take-append-drop}
 use lib.Seq.{drop-drop, drop-length}
 use Rattle.format.specs.declared.Record.{Record}
 use Rattle.format.specs.Kinds.{right}
@@ -57,7 +57,8 @@ unfolding ofClass
 of-append c [] ys = refl
 of-append c (r ∷ xs) ys = by (eqb (r .class) c) (of-append c xs ys)
   where
-    by : (b : Bool) → ofClass c (xs ++ ys) ≡ ofClass c xs ++ ofClass c ys → cond b (r ∷ ofClass c (xs ++ ys)) (ofClass c (xs ++ ys)) ≡ cond b (r ∷ ofClass c xs) (ofClass c xs) ++ ofClass c ys
+    by : (b : Bool) → ofClass c (xs ++ ys) ≡ ofClass c xs ++ ofClass c ys →
+        cond b (r ∷ ofClass c (xs ++ ys)) (ofClass c (xs ++ ys)) ≡ cond b (r ∷ ofClass c xs) (ofClass c xs) ++ ofClass c ys
     by true e = ap (λ (l : List Record). r ∷ l) e
     by false e = e
 
@@ -138,6 +139,7 @@ unfolding ofClass
 all-class c [] = tt
 all-class c (r ∷ rs) = by (cases (eqb (r .class) c)) (all-class c rs)
   where
-    by : (eqb (r .class) c ≡ true) ⊎ (eqb (r .class) c ≡ false) → All (λ r. r .class ≡ c) (ofClass c rs) → All (λ r. r .class ≡ c) (cond (eqb (r .class) c) (r ∷ ofClass c rs) (ofClass c rs))
+    by : (eqb (r .class) c ≡ true) ⊎ (eqb (r .class) c ≡ false) → All (λ r. r .class ≡ c) (ofClass c rs) →
+        All (λ r. r .class ≡ c) (cond (eqb (r .class) c) (r ∷ ofClass c rs) (ofClass c rs))
     by (inl e) i = rw e (eqb-true (r .class) c e, i)
     by (inr e) i = rw e i

@@ -2,13 +2,13 @@
 use Prim.Native.Nat.{ℕ, zero, suc, _+_, _-_, _≤_, _<_, _^_}
 use native.Mathlib.Nat.{add-zero}
 use native.Mathlib.Omega.{arith}
-use mathlib.Core.Path.{_≡_, refl, sym, ap, subst, _∙_}
-use mathlib.Core.Bool.{Bool, true, false, _&&_, _||_, not, cond, true≢false, false≢true}
+use mathlib.Core.Path.{_≡_, refl, sym, ap, _∙_}
+use mathlib.Core.Bool.{Bool, true, false, cond, true≢false, false≢true}
 use mathlib.Core.List.{List, [], _∷_, _++_, map, append-nil, append-assoc}
 use mathlib.Core.Logic.{_⊎_, inl, inr}
-use borrow.Author.Tests.{ltb-true, leb-true, eqb-true, lt-ltb, le-leb, eq-eqb, ne-eqb, eqb-false}
-use lib.Dec.{eqb, ltb, leb}
-use lib.ListN.{length, take, drop, length-append, length-map}
+use borrow.Author.Tests.{eqb-true, eq-eqb}
+use lib.Dec.{eqb, ltb}
+use lib.ListN.{length, length-append, length-map}
 use Rattle.format.specs.declared.Record.{Record}
 use Rattle.format.specs.Kinds.{right}
 use Rattle.layout.specs.Walk.{walk}
@@ -19,7 +19,7 @@ use Rattle.read.specs.Structure.{State, numbers, nextArm, isDefault, tables}
 use Rattle.store.specs.Store.{Fits}
 use Rattle.codec.specs.Codec.{wordOf, lowOf, highOf, blockOf}
 use Rattle.codec.proofs.Read.{word-join}
-use Rattle.items.specs.Items.{armOf as itemOf, armRecord, ArmInRange}
+use Rattle.items.specs.Items.{armRecord, ArmInRange}
 use Rattle.items.proofs.Laws.{arm-write-back, arm-right, arm-fits}
 use Rattle.procedure.specs.Procedure.{Arm, Table, armOf, tablesFrom}
 use Rattle.steps.specs.Write.{caseRecord, defaultRecord, tableRecords}
@@ -75,7 +75,8 @@ default-zeros r h e k =
 
 -- arms are written as they were read
 module _ (r : Record) (c : rightOf 6 r ≡ true) (f : Fits r) where
-  arm-same : {k low high : ℕ} {d : Bool} → r .p1 ≡ k → wordOf (r .p2) (r .p3) ≡ low → wordOf (r .p4) (r .p5) ≡ high → isDefault r ≡ d → armRecord (record { table = k; low = low; high = high; to = blockOf (r .p6); default = d }) ≡ r
+  arm-same : {k low high : ℕ} {d : Bool} → r .p1 ≡ k → wordOf (r .p2) (r .p3) ≡ low → wordOf (r .p4) (r .p5) ≡ high → isDefault r ≡ d →
+      armRecord (record { table = k; low = low; high = high; to = blockOf (r .p6); default = d }) ≡ r
   arm-same t a b d = rw (← t, ← a, ← b, ← d) (arm-write-back r (is-right 6 r c) (class-is 6 r c) f)
 
   case-back : {k : ℕ} → r .p1 ≡ k → isDefault r ≡ false → caseRecord k (armOf r) ≡ r
@@ -86,15 +87,19 @@ module _ (r : Record) (c : rightOf 6 r ≡ true) (f : Fits r) where
       let z = default-zeros r (is-right 6 r c) (class-is 6 r c) (eqb-true (r .kind) 1 d) in
       arm-same t (z .0) (z .1) d
 
-pub tables-back : (k : ℕ) (seen : List Arm) (rs : List Record) → Numbered k rs → All (λ r. rightOf 6 r ≡ true) rs → All Fits rs → (length rs ≡ 0 → seen ≡ []) → tableRecords k (tablesFrom seen rs) ≡ map (caseRecord k) seen ++ rs
+pub tables-back : (k : ℕ) (seen : List Arm) (rs : List Record) → Numbered k rs → All (λ r. rightOf 6 r ≡ true) rs → All Fits rs →
+    (length rs ≡ 0 → seen ≡ []) → tableRecords k (tablesFrom seen rs) ≡ map (caseRecord k) seen ++ rs
 unfolding tableRecords tablesFrom
 tables-back k seen [] h c f e = sym (rw (e refl))
 tables-back k seen (r ∷ rs) h c f e = by (cases (isDefault r)) (tables-back (suc k) [] rs) (tables-back k (seen ++ (armOf r ∷ [])) rs)
   where
     Back : ℕ → List Arm → Type 0
-    Back n xs = Numbered n rs → All (λ r. rightOf 6 r ≡ true) rs → All Fits rs → (length rs ≡ 0 → xs ≡ []) → tableRecords n (tablesFrom xs rs) ≡ map (caseRecord n) xs ++ rs
+    Back n xs =
+        Numbered n rs → All (λ r. rightOf 6 r ≡ true) rs → All Fits rs → (length rs ≡ 0 → xs ≡ []) → tableRecords n (tablesFrom xs rs) ≡ map
+        (caseRecord n) xs ++ rs
 
-    by : (isDefault r ≡ true) ⊎ (isDefault r ≡ false) → Back (suc k) [] → Back k (seen ++ (armOf r ∷ [])) → tableRecords k (tablesFrom seen (r ∷ rs)) ≡ map (caseRecord k) seen ++ (r ∷ rs)
+    by : (isDefault r ≡ true) ⊎ (isDefault r ≡ false) → Back (suc k) [] → Back k (seen ++ (armOf r ∷ [])) →
+        tableRecords k (tablesFrom seen (r ∷ rs)) ≡ map (caseRecord k) seen ++ (r ∷ rs)
     by (inl d) g _ =
         let t = first-due k r rs h in
         let n = next-due k r rs h (suc k) (rw d (omega arith)) in
@@ -115,7 +120,8 @@ unfolding tablesFrom tables
 length-tables seen [] = refl
 length-tables seen (r ∷ rs) = by (isDefault r) (length-tables [] rs) (length-tables (seen ++ (armOf r ∷ [])) rs)
   where
-    by : (d : Bool) → length (tablesFrom [] rs) ≡ tables rs → length (tablesFrom (seen ++ (armOf r ∷ [])) rs) ≡ tables rs → length (cond d (record { arms = seen; default = r .p6 } ∷ tablesFrom [] rs) (tablesFrom (seen ++ (armOf r ∷ [])) rs)) ≡ cond d 1 0 + tables rs
+    by : (d : Bool) → length (tablesFrom [] rs) ≡ tables rs → length (tablesFrom (seen ++ (armOf r ∷ [])) rs) ≡ tables rs →
+        length (cond d (record { arms = seen; default = r .p6 } ∷ tablesFrom [] rs) (tablesFrom (seen ++ (armOf r ∷ [])) rs)) ≡ cond d 1 0 + tables rs
     by true e _ = omega arith
     by false _ e = omega arith
 
@@ -141,14 +147,17 @@ pub tables-in : (n : ℕ) (seen : List Arm) (rs : List Record) → All Fits rs �
 unfolding tablesFrom
 tables-in n seen [] f h s = tt
 tables-in n seen (r ∷ rs) f h s =
-    by (isDefault r) (tables-in n [] rs (f .1) (h .1) tt) (tables-in n (seen ++ (armOf r ∷ [])) rs (f .1) (h .1) (all-append (ArmIn n) seen (armOf r ∷ []) s (arm-in n r (f .0) (h .0), tt)))
+    by (isDefault r) (tables-in n [] rs (f .1) (h .1) tt)
+    (tables-in n (seen ++ (armOf r ∷ [])) rs (f .1) (h .1) (all-append (ArmIn n) seen (armOf r ∷ []) s (arm-in n r (f .0) (h .0), tt)))
   where
-    by : (d : Bool) → All (TableIn n) (tablesFrom [] rs) → All (TableIn n) (tablesFrom (seen ++ (armOf r ∷ [])) rs) → All (TableIn n) (cond d (record { arms = seen; default = r .p6 } ∷ tablesFrom [] rs) (tablesFrom (seen ++ (armOf r ∷ [])) rs))
+    by : (d : Bool) → All (TableIn n) (tablesFrom [] rs) → All (TableIn n) (tablesFrom (seen ++ (armOf r ∷ [])) rs) →
+        All (TableIn n) (cond d (record { arms = seen; default = r .p6 } ∷ tablesFrom [] rs) (tablesFrom (seen ++ (armOf r ∷ [])) rs))
     by true i _ = (record { each = s; default = h .0 }, i)
     by false _ i = i
 
 -- arms as they are written are numbered
-pass : (k d : ℕ) (r : Record) (rs : List Record) → r .p1 ≡ k → (length rs ≡ 0 → isDefault r ≡ true) → k + cond (isDefault r) 1 0 ≡ d → Numbered d rs → Numbered k (r ∷ rs)
+pass : (k d : ℕ) (r : Record) (rs : List Record) → r .p1 ≡ k → (length rs ≡ 0 → isDefault r ≡ true) → k + cond (isDefault r) 1 0 ≡ d → Numbered d rs →
+    Numbered k (r ∷ rs)
 pass k d r rs t l e h =
     let f : suc (length rs) - 1 ≡ length rs = omega arith in
     walk-pass numbers nextArm rs (due-ok k (suc (length rs)) r t (λ i. l (omega arith)))
@@ -177,7 +186,8 @@ case-read k a =
     of : ℕ → ℕ → Arm
     of low high = record { low = low; high = high; target = a .target }
 
-table-read : (k to : ℕ) (seen xs : List Arm) (rest : List Record) → tablesFrom seen (map (caseRecord k) xs ++ (defaultRecord k to ∷ rest)) ≡ record { arms = seen ++ xs; default = to } ∷ tablesFrom [] rest
+table-read : (k to : ℕ) (seen xs : List Arm) (rest : List Record) →
+    tablesFrom seen (map (caseRecord k) xs ++ (defaultRecord k to ∷ rest)) ≡ record { arms = seen ++ xs; default = to } ∷ tablesFrom [] rest
 unfolding tablesFrom
 table-read k to seen [] rest = ap (λ (l : List Arm). record { arms = l; default = to } ∷ tablesFrom [] rest) (sym (append-nil seen))
 table-read k to seen (a ∷ xs) rest =
@@ -191,7 +201,8 @@ tables-read k [] = refl
 tables-read k (t ∷ ts) = table-read k (t .default) [] (t .arms) (tableRecords (suc k) ts) ∙ ap (λ (l : List Table). t ∷ l) (tables-read (suc k) ts)
 
 -- what holds of each arm that is written
-module _ (P : Record → Type 0) (m n : ℕ) (case : (k : ℕ) (a : Arm) → k < m → ArmIn n a → P (caseRecord k a)) (default : (k to : ℕ) → k < m → to < n → P (defaultRecord k to)) where
+module _ (P : Record → Type 0) (m n : ℕ) (case : (k : ℕ) (a : Arm) → k < m → ArmIn n a → P (caseRecord k a))
+    (default : (k to : ℕ) → k < m → to < n → P (defaultRecord k to)) where
   all-cases : (k : ℕ) → k < m → (xs : List Arm) → All (ArmIn n) xs → All P (map (caseRecord k) xs)
   all-cases k i [] h = tt
   all-cases k i (a ∷ xs) h = (case k a i (h .0), all-cases k i xs (h .1))
@@ -200,9 +211,11 @@ module _ (P : Record → Type 0) (m n : ℕ) (case : (k : ℕ) (a : Arm) → k <
   unfolding tableRecords
   all-arms k [] i h = tt
   all-arms k (t ∷ ts) i h =
-      all-append P (map (caseRecord k) (t .arms)) _ (all-cases k (omega arith) (t .arms) (h .0 .each)) (default k (t .default) (omega arith) (h .0 .default), all-arms (suc k) ts (omega arith) (h .1))
+      all-append P (map (caseRecord k) (t .arms)) _ (all-cases k (omega arith) (t .arms) (h .0 .each))
+      (default k (t .default) (omega arith) (h .0 .default), all-arms (suc k) ts (omega arith) (h .1))
 
-case-range : (k n : ℕ) (a : Arm) → k < 2 ^ 32 → n ≤ 2 ^ 32 → ArmIn n a → ArmInRange (record { table = k; low = a .low; high = a .high; to = blockOf (a .target); default = false })
+case-range : (k n : ℕ) (a : Arm) → k < 2 ^ 32 → n ≤ 2 ^ 32 → ArmIn n a →
+    ArmInRange (record { table = k; low = a .low; high = a .high; to = blockOf (a .target); default = false })
 case-range k n a h i j = record {
   table = h;
   low = j .low;

@@ -1,33 +1,32 @@
 -- The records of a well-formed procedure: Read accepts them, and they hold the same procedure.
-use Prim.Native.Nat.{ℕ, zero, suc, _+_, _≤_, _<_, _^_}
+use Prim.Native.Nat.{ℕ, _+_, _≤_, _<_, _^_}
 use native.Mathlib.Omega.{arith}
-use mathlib.Core.Path.{_≡_, refl, sym, ap, subst, _∙_}
-use mathlib.Core.Bool.{Bool, true, false, _&&_}
+use mathlib.Core.Path.{_≡_, refl, sym, ap, _∙_}
+use mathlib.Core.Bool.{true}
 use mathlib.Core.List.{List, [], _∷_, _++_, map, append-nil}
 use mathlib.Core.Option.{Option, none, some}
 use borrow.Author.Tests.{lt-ltb}
-use lib.Dec.{ltb}
-use lib.ListN.{length, getD, take, drop, length-map, length-append}
+use lib.ListN.{length, getD, length-map, length-append}
 use Rattle.format.specs.declared.Record.{Record}
 use Rattle.shape.specs.declared.exist.Counts.{Counts}
 use Rattle.shape.specs.Exist.{namesExist}
-use Rattle.layout.specs.Classes.{ofClass, ordered}
+use Rattle.layout.specs.Classes.{ofClass}
 use Rattle.layout.specs.Spans.{rightOf}
 use Rattle.read.specs.Structure.{endsWell, tables, codeOf as recordsOfBlock}
 use Rattle.read.specs.Reading.{countsOf}
 use Rattle.store.specs.Store.{Fits}
 use Rattle.inst.specs.declared.Code.{Code}
-use Rattle.ops.specs.Ops.{regTyOf, regTyNum}
+use Rattle.ops.specs.Ops.{regTyOf}
 use Rattle.ops.proofs.Laws.{reg-ty-num}
-use Rattle.codec.specs.Codec.{codeOf, recordOf, regOf, blockOf, InRange}
+use Rattle.codec.specs.Codec.{codeOf, recordOf, regOf, blockOf}
 use Rattle.codec.proofs.Laws.{written-right, written-class, written-fits}
 use Rattle.items.specs.Items.{registerRecord, blockRecord, bodyRecord, operandRecord}
 use Rattle.items.proofs.Laws.{register-right, register-fits, block-right, block-fits, body-right, body-fits, operand-right, operand-fits}
-use Rattle.procedure.specs.Procedure.{Procedure, Table, Arm, procedureOf, firstOf, tablesFrom}
+use Rattle.procedure.specs.Procedure.{Procedure, Arm, procedureOf, firstOf}
 use Rattle.steps.specs.Lists.{joined}
 use Rattle.steps.specs.Write.{blockRecords, bodyRecords, tableRecords, caseRecord, defaultRecord, recordsFor}
-use Rattle.round.specs.WellFormed.{All, Ends, Sound, BlockIn, BodyIn, ArmIn, TableIn, armCount, countsIn, WellFormed}
-use Rattle.round.proofs.Lists.{all-turn, all-map, all-each, all-append, map-back}
+use Rattle.round.specs.WellFormed.{All, Ends, Sound, BodyIn, countsIn, WellFormed}
+use Rattle.round.proofs.Lists.{all-turn, all-map, all-append, map-back}
 use Rattle.round.proofs.Sections.{Sections, right-of, section-of, sections-in-order}
 use Rattle.round.proofs.Blocks.{length-blocks, blocks-tile, parts-back, all-parts}
 use Rattle.round.proofs.Ends.{written-ends}
@@ -35,7 +34,8 @@ use Rattle.round.proofs.Tables.{length-tables, length-arms, few-tables,
 use Rattle.round.proofs.Accepted.{Accepted}
 
 -- blocks that are written end within the code
-all-blocks : (P : Record → Type 0) (m : ℕ) → ((s e : ℕ) → s ≤ e → e ≤ m → P (blockRecord (record { start = s; end = e }))) → (due : ℕ) (cs : List (List Code)) → due + length (joined cs) ≤ m → All P (blockRecords due cs)
+all-blocks : (P : Record → Type 0) (m : ℕ) → ((s e : ℕ) → s ≤ e → e ≤ m → P (blockRecord (record { start = s; end = e }))) →
+    (due : ℕ) (cs : List (List Code)) → due + length (joined cs) ≤ m → All P (blockRecords due cs)
 unfolding blockRecords
 all-blocks P m f due [] h = tt
 all-blocks P m f due (c ∷ cs) h =
@@ -127,7 +127,8 @@ module _ (p : Procedure) (w : WellFormed p) where
   sections = (registers, (blocks, (bodies, (code, (operands, (arms, tt))))))
     where
       registers : All (λ r. rightOf 1 r ≡ true) R
-      registers = all-map (λ k. k < 5) (λ r. rightOf 1 r ≡ true) (λ k. registerRecord (regTyOf k)) (λ k h. register-right (regTyOf k)) (p .registers) (w .each-register)
+      registers =
+          all-map (λ k. k < 5) (λ r. rightOf 1 r ≡ true) (λ k. registerRecord (regTyOf k)) (λ k h. register-right (regTyOf k)) (p .registers) (w .each-register)
 
       blocks : All (λ r. rightOf 2 r ≡ true) B
       blocks = all-blocks (λ r. rightOf 2 r ≡ true) 756 (λ s e i j. block-right (record { start = s; end = e })) 0 (p .blocks) (let a = w .code in omega arith)
@@ -136,10 +137,14 @@ module _ (p : Procedure) (w : WellFormed p) where
       bodies = all-body (λ r. rightOf 3 r ≡ true) (length (p .blocks)) (λ b h. body-right (blockOf b)) (p .body) (w .body)
 
       code : All (λ r. rightOf 4 r ≡ true) C
-      code = all-map (Sound (countsIn p)) (λ r. rightOf 4 r ≡ true) recordOf (λ x h. right-of 4 (recordOf x) (written-class (x .inst)) (written-right x (h .range))) (joined (p .blocks)) all-code
+      code =
+          all-map (Sound (countsIn p)) (λ r. rightOf 4 r ≡ true) recordOf
+          (λ x h. right-of 4 (recordOf x) (written-class (x .inst)) (written-right x (h .range))) (joined (p .blocks)) all-code
 
       operands : All (λ r. rightOf 5 r ≡ true) O
-      operands = all-map (λ r. r < length (p .registers)) (λ r. rightOf 5 r ≡ true) (λ r. operandRecord (regOf r)) (λ r h. operand-right (regOf r)) (p .operands) (w .each-operand)
+      operands =
+          all-map (λ r. r < length (p .registers)) (λ r. rightOf 5 r ≡ true) (λ r. operandRecord (regOf r)) (λ r h. operand-right (regOf r))
+          (p .operands) (w .each-operand)
 
       arms : All (λ r. rightOf 6 r ≡ true) T
       arms = arms-right (length (p .blocks)) few-blocks (p .tables) few-arms (w .each-table)
@@ -163,7 +168,8 @@ module _ (p : Procedure) (w : WellFormed p) where
       (all-blocks Fits 756 (λ s e i j. block-fits (record { start = s; end = e }) (omega arith) (omega arith)) 0 (p .blocks) (omega arith))
       (all-body Fits (length (p .blocks)) (λ b h. body-fits (blockOf b) (omega arith)) (p .body) (w .body))
       (all-map (Sound (countsIn p)) Fits recordOf (λ x h. written-fits x (h .range)) (joined (p .blocks)) all-code)
-      (all-map (λ r. r < length (p .registers)) Fits (λ r. operandRecord (regOf r)) (λ r h. operand-fits (regOf r) (omega arith)) (p .operands) (w .each-operand))
+      (all-map (λ r. r < length (p .registers)) Fits (λ r. operandRecord (regOf r)) (λ r h. operand-fits (regOf r) (omega arith))
+      (p .operands) (w .each-operand))
       (arms-fit (length (p .blocks)) few-blocks (p .tables) few-arms (w .each-table))
 
   records-named : All (λ r. namesExist (countsIn p) r ≡ true) (recordsFor p)
@@ -176,11 +182,13 @@ module _ (p : Procedure) (w : WellFormed p) where
       (all-body (λ r. namesExist n r ≡ true) (length (p .blocks)) (body-exists n) (p .body) (w .body))
       (all-map (Sound n) (λ r. namesExist n r ≡ true) recordOf (λ x h. h .names) (joined (p .blocks)) all-code)
       (all-map (λ r. r < length (p .registers)) (λ r. namesExist n r ≡ true) (λ r. operandRecord (regOf r)) (operand-exists n) (p .operands) (w .each-operand))
-      (all-arms (λ r. namesExist n r ≡ true) (length (p .tables)) (length (p .blocks)) (λ k a i j. case-exists n k a (j .target)) (λ k to i j. default-exists n k to j) 0 (p .tables) (omega arith) (w .each-table))
+      (all-arms (λ r. namesExist n r ≡ true) (length (p .tables)) (length (p .blocks)) (λ k a i j. case-exists n k a (j .target))
+      (λ k to i j. default-exists n k to j) 0 (p .tables) (omega arith) (w .each-table))
 
   counts-same : countsOf (recordsFor p) ≡ countsIn p
   counts-same =
-      rw (class-of 0, class-of 1, class-of 4, class-of 5, length-map (p .registers) (λ k. registerRecord (regTyOf k)), length-blocks 0 (p .blocks), ← length-tables [] T, tables-read 0 (p .tables), length-map (p .operands) (λ r. operandRecord (regOf r)))
+      rw (class-of 0, class-of 1, class-of 4, class-of 5, ← length-tables [] T, tables-read 0 (p .tables), length-blocks 0 (p .blocks))
+      (rw (length-map (p .registers) (λ k. registerRecord (regTyOf k)), length-map (p .operands) (λ r. operandRecord (regOf r))))
 
   ends-well : All (λ r. endsWell (recordsOfBlock C r) ≡ true) B
   ends-well = all-parts C (λ c. endsWell c ≡ true) 0 (p .blocks) refl (all-turn (λ c h. written-ends c (h .ends)) (p .blocks) (w .each-block))
@@ -207,7 +215,8 @@ module _ (p : Procedure) (w : WellFormed p) where
           operands = let i = w .operands in omega arith;
           arms = let i = w .arms in omega arith;
         });
-        tile = rw (class-of 1, class-of 3) (blocks-tile (length C) 0 (p .blocks) (all-turn (λ c h. some-code c (h .ends)) (p .blocks) (w .each-block)) (omega arith));
+        tile = rw (class-of 1, class-of 3)
+            (blocks-tile (length C) 0 (p .blocks) (all-turn (λ c h. some-code c (h .ends)) (p .blocks) (w .each-block)) (omega arith));
         end = rw (class-of 1, class-of 3) ends-well;
         number = rw (class-of 5) (tables-numbered 0 (p .tables));
         name = rw counts-same records-named;
@@ -225,7 +234,8 @@ module _ (p : Procedure) (w : WellFormed p) where
   pub procedure-same : procedureOf (recordsFor p) ≡ p
   unfolding procedureOf
   procedure-same =
-      rw (class-of 0, class-of 1, class-of 2, class-of 3, class-of 4, class-of 5, registers-read, blocks-read, body-read (p .body), operands-read, tables-read 0 (p .tables))
+      rw (class-of 0, class-of 1, class-of 2, class-of 3, class-of 4, class-of 5)
+      (rw (registers-read, blocks-read, body-read (p .body), operands-read, tables-read 0 (p .tables)))
 
   pub records-few : length (recordsFor p) ≤ 1929
   unfolding recordsFor
