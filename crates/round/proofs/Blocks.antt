@@ -20,7 +20,7 @@ use Rattle.codec.specs.Codec.{codeOf, recordOf, InRange}
 use Rattle.codec.proofs.Laws.{read-back}
 use Rattle.items.specs.Items.{blockRecord}
 use Rattle.items.proofs.Laws.{block-write-back}
-use Rattle.steps.specs.Lists.{joined}
+use Rattle.procedure.specs.Lists.{joined}
 use Rattle.steps.specs.Write.{blockRecords}
 use Rattle.round.specs.WellFormed.{All}
 use Rattle.round.proofs.Lists.{map-back}

@@ -23,7 +23,7 @@ use Rattle.codec.proofs.Laws.{write-back, read-range}
 use Rattle.items.specs.Items.{registerRecord, operandRecord}
 use Rattle.items.proofs.Laws.{register-write-back, body-write-back, operand-write-back}
 use Rattle.procedure.specs.Procedure.{procedureOf, firstOf}
-use Rattle.steps.specs.Lists.{joined}
+use Rattle.procedure.specs.Lists.{joined}
 use Rattle.steps.specs.Write.{blockRecords, bodyRecords, tableRecords, recordsFor}
 use Rattle.round.specs.WellFormed.{All, Sound, BlockIn, BodyIn, TableIn, armCount, countsIn, WellFormed}
 use Rattle.round.proofs.Lists.{all-turn, all-both, all-map, all-take, all-drop, map-back}

@@ -17,7 +17,7 @@ use Rattle.layout.specs.Classes.{inOrder, ordered, ofClass, before}
 use Rattle.layout.specs.Spans.{rightOf}
 use Rattle.layout.proofs.Walks.{cases, walk-pass, walk-head, walk-tail}
 use Rattle.layout.proofs.Order.{Sorted, sorted-of, and-first, and-second, before-none, before-count, before-end, ordered-end, of-part}
-use Rattle.steps.specs.Lists.{joined}
+use Rattle.procedure.specs.Lists.{joined}
 use Rattle.round.specs.WellFormed.{All}
 
 -- lists of right records, of class c and of those after it

@@ -23,7 +23,7 @@ use Rattle.codec.proofs.Laws.{written-right, written-class, written-fits}
 use Rattle.items.specs.Items.{registerRecord, blockRecord, bodyRecord, operandRecord}
 use Rattle.items.proofs.Laws.{register-right, register-fits, block-right, block-fits, body-right, body-fits, operand-right, operand-fits}
 use Rattle.procedure.specs.Procedure.{Procedure, Arm, procedureOf, firstOf}
-use Rattle.steps.specs.Lists.{joined}
+use Rattle.procedure.specs.Lists.{joined}
 use Rattle.steps.specs.Write.{blockRecords, bodyRecords, tableRecords, caseRecord, defaultRecord, recordsFor}
 use Rattle.round.specs.WellFormed.{All, Ends, Sound, BodyIn, countsIn, WellFormed}
 use Rattle.round.proofs.Lists.{all-turn, all-map, all-append, map-back}

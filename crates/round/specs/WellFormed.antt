@@ -11,7 +11,7 @@ use Rattle.inst.specs.Inst.{terminatorOf}
 use Rattle.inst.specs.declared.Code.{Code}
 use Rattle.codec.specs.Codec.{recordOf, InRange}
 use Rattle.procedure.specs.Procedure.{Procedure, Arm, Table}
-use Rattle.steps.specs.Lists.{joined}
+use Rattle.procedure.specs.Lists.{joined}
 
 -- each element of a list
 abbrev pub All : {A : Type 0} → (A → Type 0) → List A → Type 0
