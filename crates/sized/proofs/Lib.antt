@@ -1,2 +1,3 @@
 pub mod Names
 pub mod Exchange
+pub mod Blocks
