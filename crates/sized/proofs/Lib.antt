@@ -1,3 +1,6 @@
 pub mod Names
 pub mod Exchange
 pub mod Blocks
+pub mod Arms
+pub mod Notes
+pub mod Copies
