@@ -46,11 +46,11 @@ pub record Accepted (rs : List Record) : Type 0 where
   pub number : Numbered 0 (ofClass 6 rs)
   pub name : All (λ r. namesExist (countsOf rs) r ≡ true) rs
 
-or-first : (a b : Bool) → (a || b) ≡ false → a ≡ false
+pub or-first : (a b : Bool) → (a || b) ≡ false → a ≡ false
 or-first true b e = absurd (true≢false e)
 or-first false b e = refl
 
-or-second : (a b : Bool) → (a || b) ≡ false → b ≡ false
+pub or-second : (a b : Bool) → (a || b) ≡ false → b ≡ false
 or-second true b e = absurd (true≢false e)
 or-second false b e = e
 

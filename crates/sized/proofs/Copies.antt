@@ -134,6 +134,16 @@ module _ (f : Facts) (own : ℕ → ℕ) (n : Counts) where
       go (x ∷ y ∷ c) e h = next-copied x (y ∷ c) (e .0) (h .0) (go (y ∷ c) (e .1) (h .1))
 
   -- the kinds of the new registers
+  pub kinds-few : (c : List Code) → length (kindsGiven f own c) ≤ length c
+  unfolding kindsGiven
+  kinds-few [] = omega arith
+  kinds-few (x ∷ c) = by (howOf f own (x .inst)) (kinds-few c)
+    where
+      by : (w : How) → length (kindsGiven f own c) ≤ length c → length (kindFor f own w (kindsGiven f own c)) ≤ suc (length c)
+      by leftOut i = omega arith
+      by (renumbered d) i = omega arith
+      by kept i = omega arith
+
   pub kinds-in : All (λ k. k < 5) (f .registers) → (c : List Code) → All (λ k. k < 5) (kindsGiven f own c)
   unfolding kindsGiven
   kinds-in h [] = tt

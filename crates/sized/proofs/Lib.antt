@@ -4,3 +4,5 @@ pub mod Blocks
 pub mod Arms
 pub mod Notes
 pub mod Copies
+pub mod Threads
+pub mod Emits
