@@ -23,6 +23,13 @@ use Rattle.sized.proofs.Blocks.{all-or, all-set, joined-set, EndIn, end
 pub each-at : (n : Counts) (P : List (List Code)) → All (BlockIn n) P → (k : ℕ) → All (Sound n) (getD P k [])
 each-at n P h k = all-or (All (Sound n)) P [] tt (all-turn (λ c b. b .each) P h) k
 
+-- what the step leaves of the blocks P
+pub record Kept (n : Counts) (P : List (List Code)) (s : Arms) : Type 0 where
+  pub each : All (BlockIn n) (s .blocks)
+  pub blocks : length (s .blocks) ≡ length P
+  pub code : length (joined (s .blocks)) ≡ length (joined P)
+  pub same : s .edited ≡ false → s .blocks ≡ P
+
 module _ (n : Counts) (few : n .blocks ≤ 2 ^ 32) where
   past-in : (b : ℕ) (x : End) → b < n .blocks → EndIn n x → past b x < n .blocks
   past-in b (e.Br to) h i = by (eqb (to .0) b)
@@ -40,13 +47,7 @@ module _ (n : Counts) (few : n .blocks ≤ 2 ^ 32) where
   follow-in (suc k) P h b i = follow-in k P h _ (past-in b (loneOf (getD P b [])) i (lone-in n (getD P b []) (each-at n P h b)))
 
   module _ (P : List (List Code)) where
-    pub record Kept (s : Arms) : Type 0 where
-      pub each : All (BlockIn n) (s .blocks)
-      pub blocks : length (s .blocks) ≡ length P
-      pub code : length (joined (s .blocks)) ≡ length (joined P)
-      pub same : s .edited ≡ false → s .blocks ≡ P
-
-    join-if : (t : Bool) (k to : ℕ) (s : Arms) → Kept s → k < length (s .blocks) → to < n .blocks → Kept (joinIf t k to s)
+    join-if : (t : Bool) (k to : ℕ) (s : Arms) → Kept n P s → k < length (s .blocks) → to < n .blocks → Kept n P (joinIf t k to s)
     join-if false k to s h i j = h
     join-if true k to s h i j =
         let c = getD (s .blocks) k [] in
@@ -58,7 +59,7 @@ module _ (n : Counts) (few : n .blocks ≤ 2 ^ 32) where
           same = λ f. absurd (true≢false f);
         }
 
-    join-end : (x : End) (k : ℕ) (s : Arms) → endOf (getD (s .blocks) k []) ≡ x → Kept s → Kept (joinEnd x k s)
+    join-end : (x : End) (k : ℕ) (s : Arms) → endOf (getD (s .blocks) k []) ≡ x → Kept n P s → Kept n P (joinEnd x k s)
     join-end (e.Br to) k s q h = h
     join-end (e.CondBr c t f) k s q h =
         let d = end-in n (getD (s .blocks) k []) (each-at n (s .blocks) (h .each) k) in
@@ -69,10 +70,10 @@ module _ (n : Counts) (few : n .blocks ≤ 2 ^ 32) where
     join-end (e.Case t) k s q h = h
     join-end e.Other k s q h = h
 
-    join-from : (m k : ℕ) (s : Arms) → Kept s → Kept (joinFrom m k s)
+    join-from : (m k : ℕ) (s : Arms) → Kept n P s → Kept n P (joinFrom m k s)
     unfolding joinFrom joinArms
     join-from zero k s h = h
     join-from (suc m) k s h = join-from m (suc k) (joinArms k s) (join-end (endOf (getD (s .blocks) k [])) k s refl h)
 
-    pub arms-kept : All (BlockIn n) P → Kept (equalArms P)
+    pub arms-kept : All (BlockIn n) P → Kept n P (equalArms P)
     arms-kept h = join-from (length P) 0 _ (record { each = h; blocks = refl; code = refl; same = λ e. refl })

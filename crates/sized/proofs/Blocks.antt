@@ -204,7 +204,7 @@ pub record Final (n : Counts) (x : Inst) : Type 0 where
   pub range : inRange x ≡ true
   pub names : Named n x
 
-final-sound : (n : Counts) (x : Inst) (y : Code) → Final n x → Sound n y → Sound n (withInst x y)
+pub final-sound : (n : Counts) (x : Inst) (y : Code) → Final n x → Sound n y → Sound n (withInst x y)
 final-sound n x y f s = record { range = record { inst = f .range; stmt = s .range .stmt }; names = names n (withInst x y) (f .names) }
 
 end-each : (n : Counts) (x : Inst) (c : List Code) → Final n x → All (Sound n) c → All (Sound n) (withEnd x c)

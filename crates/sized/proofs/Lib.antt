@@ -6,3 +6,4 @@ pub mod Notes
 pub mod Copies
 pub mod Threads
 pub mod Emits
+pub mod Laws
