@@ -173,7 +173,7 @@ module _ (rs : List Record) (a : Accepted rs) (f : All Fits rs) where
   n-blocks : length (procedureOf rs .blocks) ≡ length B
   n-blocks = ap (λ (n : Counts). n .blocks) counts-same
 
-  n-registers : length (procedureOf rs .registers) ≡ length (ofClass 1 rs)
+  pub n-registers : length (procedureOf rs .registers) ≡ length (ofClass 1 rs)
   n-registers = ap (λ (n : Counts). n .registers) counts-same
 
   body-first : (s : List Record) → All (λ r. r .class ≡ 3) s → All (λ r. namesExist (countsOf rs) r ≡ true) s → BodyIn (length B) (firstOf (map (λ r. r .p1) s))
@@ -205,7 +205,7 @@ module _ (rs : List Record) (a : Accepted rs) (f : All Fits rs) where
   unfolding procedureOf
   kinds-in = all-map (λ r. rightOf 1 r ≡ true) (λ k. k < 5) (λ r. r .kind) register-kind (ofClass 1 rs) (of-class 1)
 
-  n-code : length (joined (procedureOf rs .blocks)) ≡ length C
+  pub n-code : length (joined (procedureOf rs .blocks)) ≡ length C
   n-code = ap length code-is ∙ length-map C codeOf
 
   n-operands : length (procedureOf rs .operands) ≡ length (ofClass 5 rs)

@@ -7,7 +7,9 @@ use lib.ListN.{length}
 use Rattle.format.specs.Record.{recordsOf}
 use Rattle.store.specs.Store.{Bytes}
 use Rattle.read.specs.Reading.{reading, answer}
+use Rattle.layout.specs.Classes.{ofClass}
 use Rattle.procedure.specs.Procedure.{Procedure, procedureOf}
+use Rattle.procedure.specs.Lists.{joined}
 use Rattle.steps.specs.Write.{recordsFor, bytesOf}
 use Rattle.round.specs.WellFormed.{WellFormed}
 use Rattle.round.proofs.Bytes.{bytes-back, bytes-length, records-back, records-fit}
@@ -23,6 +25,13 @@ module _ (b : List ℕ) (h : Bytes b) (e : reading b .number ≡ 0) where
   -- and writes back the same bytes
   pub write-back : bytesOf (recordsFor (procedureOf (recordsOf b))) ≡ b
   write-back = ap bytesOf (From.records-same (recordsOf b) (read-accepted b e .2) (records-fit b h)) ∙ bytes-back b (read-accepted b e .0) h
+
+  -- as many registers and instructions as the file has records of them
+  pub read-registers : length (procedureOf (recordsOf b) .registers) ≡ length (ofClass 1 (recordsOf b))
+  read-registers = From.n-registers (recordsOf b) (read-accepted b e .2) (records-fit b h)
+
+  pub read-code : length (joined (procedureOf (recordsOf b) .blocks)) ≡ length (ofClass 4 (recordsOf b))
+  read-code = From.n-code (recordsOf b) (read-accepted b e .2) (records-fit b h)
 
 module _ (p : Procedure) (w : WellFormed p) where
   written-records : recordsOf (bytesOf (recordsFor p)) ≡ recordsFor p

@@ -41,7 +41,7 @@ module _ (p : Procedure) (h : WellFormed p) where
 
   unchanged-stage : Stage p (unchanged p)
   unchanged-stage = record {
-    sized = record { code = omega arith; grown = omega arith; fresh = omega arith; registers = omega arith; blocks = refl };
+    sized = record { code = omega arith; grown = omega arith; fresh = omega arith; rescued = omega arith; registers = omega arith; blocks = refl };
     each-register = h .each-register;
     each-block = h .each-block;
     body = refl;
@@ -58,7 +58,7 @@ module _ (p : Procedure) (h : WellFormed p) where
       let k = kept in
       let c = k .code in
       record {
-        sized = record { code = omega arith; grown = omega arith; fresh = omega arith; registers = omega arith; blocks = k .blocks };
+        sized = record { code = omega arith; grown = omega arith; fresh = omega arith; rescued = omega arith; registers = omega arith; blocks = k .blocks };
         each-register = h .each-register;
         each-block = rw (k .blocks) (k .each);
         body = refl;
@@ -107,7 +107,7 @@ module _ (p : Procedure) (h : WellFormed p) where
       let z = v .code in
       let g = v .grown in
       record {
-        sized = record { code = omega arith; grown = v .grown; fresh = v .fresh; registers = regs; blocks = len };
+        sized = record { code = omega arith; grown = v .grown; fresh = v .fresh; rescued = omega arith; registers = regs; blocks = len };
         each-register = all-append (λ k. k < 5) (p .registers) (w .kinds) (h .each-register) (v .kinds);
         each-block = rw (len, n′) blocks;
         body = refl;

@@ -7,3 +7,4 @@ pub mod Copies
 pub mod Threads
 pub mod Emits
 pub mod Laws
+pub mod Shorten

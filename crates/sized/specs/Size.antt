@@ -15,5 +15,6 @@ pub record Sized (p : Procedure) (s : Shortened) : Type 0 where
   pub code : codeSize (s .procedure) ≤ codeSize p + codeSize p / 2 + 36
   pub grown : s .grown ≤ codeSize p / 2 + 36
   pub fresh : s .fresh ≤ s .grown
+  pub rescued : s .rescued ≤ codeSize p + codeSize p / 2 + 36
   pub registers : length (s .procedure .registers) ≡ length (p .registers) + s .fresh
   pub blocks : length (s .procedure .blocks) ≡ length (p .blocks)
