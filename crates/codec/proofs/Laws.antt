@@ -8,18 +8,19 @@ use mathlib.Core.Logic.{_⊎_, inl, inr}
 use lib.Dec.{ltb, eqb, lit<}
 use lib.ListN.{length, getD}
 use borrow.Author.Tests.{lt-ltb, ltb-true, eqb-true}
+use Rattle.general.proofs.Booleans.{and-first, and-second}
+use Rattle.general.proofs.Numbers.{below, order}
 use Rattle.format.specs.declared.Record.{Record}
 use Rattle.format.specs.Record.{recordAt}
 use Rattle.format.specs.Kinds.{right, fields, instructionPlaces, instructionOps, allFit}
 use Rattle.inst.specs.declared.Code.{Code}
 use Rattle.inst.specs.declared.Inst.{Inst}
 use Rattle.inst.specs.declared.Inst.the-variants as i
-use Rattle.ops.proofs.Laws.{below}
 use Rattle.store.specs.Store.{Bytes, Fits, putOf}
-use Rattle.store.proofs.Laws.{order, fits-at, put-same, put-back}
+use Rattle.store.proofs.Laws.{fits-at, put-same, put-back}
 use Rattle.codec.specs.Codec.{instOf, codeOf, instRecord, recordOf, withStmt, withInst, rewrittenRecord, rowOf, inRange, InRange}
 use Rattle.codec.proofs.Table.{inst-past}
-use Rattle.codec.proofs.Read.{first, second, inst-back, inst-right, inst-words}
+use Rattle.codec.proofs.Read.{inst-back, inst-right, inst-words}
 use Rattle.codec.proofs.Write.{kept}
 use Rattle.codec.proofs.Range.{ranged}
 
@@ -34,13 +35,13 @@ pub listed : (r : Record) → right r ≡ true → r .class ≡ 4 → Listed r
 unfolding right
 listed r h e =
     let a = rw e at h in
-    let b = second (ltb (r .kind) 24) _ a in
-    let c = second (ltb (r .op) (instructionOps (r .kind))) _ b in
+    let b = and-second (ltb (r .kind) 24) _ a in
+    let c = and-second (ltb (r .op) (instructionOps (r .kind))) _ b in
     record {
-      kind = ltb-true (r .kind) 24 (first (ltb (r .kind) 24) _ a);
-      op = ltb-true (r .op) (instructionOps (r .kind)) (first (ltb (r .op) (instructionOps (r .kind))) _ b);
-      zero = eqb-true (r .zero) 0 (first (eqb (r .zero) 0) _ c);
-      places = second (eqb (r .zero) 0) _ c;
+      kind = ltb-true (r .kind) 24 (and-first (ltb (r .kind) 24) _ a);
+      op = ltb-true (r .op) (instructionOps (r .kind)) (and-first (ltb (r .op) (instructionOps (r .kind))) _ b);
+      zero = eqb-true (r .zero) 0 (and-first (eqb (r .zero) 0) _ c);
+      places = and-second (eqb (r .zero) 0) _ c;
     }
 
 row-same : (r : Record) → r .class ≡ 4 → r .zero ≡ 0 → withStmt (rowOf (r .kind) (r .op) (r .p1) (r .p2) (r .p3) (r .p4) (r .p5) (r .p6)) (r .stmt) ≡ r
@@ -104,7 +105,7 @@ ops-few : (k : ℕ) → k < 24 → instructionOps k < 256
 ops-few = below (λ (k : ℕ). instructionOps k < 256) 24 ((((((((((((((((((((((((tt, lit< tt), lit< tt), lit< tt), lit< tt), lit< tt), lit< tt), lit< tt), lit< tt), lit< tt), lit< tt), lit< tt), lit< tt), lit< tt), lit< tt), lit< tt), lit< tt), lit< tt), lit< tt), lit< tt), lit< tt), lit< tt), lit< tt), lit< tt), lit< tt)
 
 word : (p : ℕ) (b : Bool) → (ltb p (2 ^ 32) && b) ≡ true → p < 2 ^ 32
-word p b h = ltb-true p (2 ^ 32) (first (ltb p (2 ^ 32)) b h)
+word p b h = ltb-true p (2 ^ 32) (and-first (ltb p (2 ^ 32)) b h)
 
 -- what is written fits its 32 bytes
 pub written-fits : (c : Code) → InRange c → Fits (recordOf c)
@@ -114,11 +115,11 @@ written-fits c h =
     let l = listed r (written-right c h) e in
     let few = ops-few (r .kind) (l .kind) in
     let w1 = inst-words (c .inst) (h .inst) in
-    let w2 = second (ltb (r .p1) (2 ^ 32)) _ w1 in
-    let w3 = second (ltb (r .p2) (2 ^ 32)) _ w2 in
-    let w4 = second (ltb (r .p3) (2 ^ 32)) _ w3 in
-    let w5 = second (ltb (r .p4) (2 ^ 32)) _ w4 in
-    let w6 = second (ltb (r .p5) (2 ^ 32)) _ w5 in
+    let w2 = and-second (ltb (r .p1) (2 ^ 32)) _ w1 in
+    let w3 = and-second (ltb (r .p2) (2 ^ 32)) _ w2 in
+    let w4 = and-second (ltb (r .p3) (2 ^ 32)) _ w3 in
+    let w5 = and-second (ltb (r .p4) (2 ^ 32)) _ w4 in
+    let w6 = and-second (ltb (r .p5) (2 ^ 32)) _ w5 in
     record {
       class = omega (arith, e);
       kind = omega (arith, l .kind);
