@@ -140,12 +140,11 @@ module _ (edges : List (List ℕ)) where
       by (inr i) = false-true (ap (isIn s) (List·getD-eq-default edges [] {n = a} (ltb-false a (length edges) i))) (p .0)
 
   -- marks that hold the targets of every marked block
-  pub Closed : List Bool → Type 0
+  abbrev pub Closed : List Bool → Type 0
   Closed m = (x s : ℕ) → getD m x false ≡ true → isIn s (getD edges x []) ≡ true → s < length edges → getD m s false ≡ true
 
   -- hold every block that a marked one leads to
   pub closed-leads : (m : List Bool) → Closed m → (b : ℕ) → b < length edges → (ss : List ℕ) (a : ℕ) → getD m a false ≡ true → Path edges b a ss → getD m b false ≡ true
-  unfolding Closed
   closed-leads m c b h [] a e p = rw (← p) e
   closed-leads m c b h (s ∷ ss) a e p = closed-leads m c b h ss s (c a s e (p .0) (leads-inside b h ss s (p .1))) (p .1)
 
@@ -234,7 +233,6 @@ module _ (edges : List (List ℕ)) where
 
     -- a block is marked where block a leads to it, over any number of blocks, and only there
     pub reached-is : (b : ℕ) → b < length edges → (getD (reachedFrom edges a) b false ≡ true) ↔ Leads edges a b
-    unfolding Closed
     reached-is b h = (
       ended .sound b,
       λ p. closed-leads m shut b h (p .0) a (unlisted a m (ended .start (leads-inside b h (p .0) a (p .1)))) (p .1),

@@ -32,9 +32,12 @@ abbrev pub PairAt : List ℕ → List ℕ → ℕ → Type 0
 PairAt es ts a = Pair es (getD ts (2 * a) 0) (getD ts (2 * a + 1) 0)
 
 -- the targets of each block of a file
+abbrev pub targetsAt : List Record → Layout → ℕ → List ℕ
+targetsAt rs l a = targets (endOf (getD (blocksIn rs l) a []))
+
 pub record TargetsIn (rs : List Record) (l : Layout) (ts : List ℕ) : Type 0 where
   pub size : length ts ≡ 320
-  pub each : (a : ℕ) → a < 160 → PairAt (targets (endOf (getD (blocksIn rs l) a []))) ts a
+  pub each : (a : ℕ) → a < 160 → PairAt (targetsAt rs l a) ts a
 
 -- one mark for each of 160 blocks
 unfoldable pub clear : List Bool

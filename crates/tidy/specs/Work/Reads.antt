@@ -5,10 +5,16 @@ use mathlib.Core.List.{List, [], _∷_, _++_}
 use mathlib.Core.Bool.{Bool, false, _&&_, cond}
 use lib.Dec.{eqb, ltb}
 use lib.ListN.{length, getD, take, drop}
+use Rattle.format.specs.declared.Record.{Record}
+use Rattle.format.specs.Record.{recordsOf, recordAt}
+use Rattle.layout.specs.declared.Layout.{Layout}
 use Rattle.roles.specs.declared.Roles.{Roles}
+use Rattle.roles.specs.Roles.{readsOf, operandsOf, numbersOf}
 use Rattle.paths.specs.Paths.{reachedFrom}
 use Rattle.tidy.specs.declared.Tidiness.{Tidiness}
-use Rattle.tidy.specs.Tidy.{Field, wrong, told}
+use Rattle.tidy.specs.Tidy.{Placed, Field, fieldsAt, reads, wrong, told}
+use Rattle.tidy.specs.Work.Parts.{operandsIn, placedAt}
+use Rattle.tidy.specs.Work.Marks.{edgesIn}
 
 -- a read at place k of block b judged by the table's number
 unfoldable pub judged : List (List ℕ) → ℕ → ℕ → ℕ → Bool
@@ -47,8 +53,21 @@ pub record Five (r : Roles) : Type 0 where
 
 -- the registers that an instruction reads, over the file's operands
 abbrev pub allReads : List ℕ → Roles → List ℕ
-allReads ops r = drop (r .defs) (take (r .n) (r .reg)) ++ take (r .list .len) (drop (r .list .start) ops)
+allReads ops r = drop (r .defs) (take (r .n) (numbersOf (r .reg))) ++ operandsOf ops (r .list)
 
 -- how many, of n operands
 abbrev pub readCount : ℕ → Roles → ℕ
 readCount n r = r .n - r .defs + min (r .list .len) (n - r .list .start)
+
+-- the reads of the record at a place, as that of an instruction of a block; of some instructions of a file
+abbrev pub readsAt : List ℕ → Layout → ℕ → ℕ → ℕ → List Field
+readsAt b l at block place =
+    let x = placedAt block place (recordAt b at) in
+    fieldsAt x (readsOf (operandsIn (recordsOf b) l) (x .inst))
+
+abbrev pub readsIn : List Record → Layout → List Placed → List Field
+readsIn rs l xs = reads (operandsIn rs l) xs
+
+-- by a table of targets and a table of writers
+abbrev pub judgedIn : List ℕ → List ℕ → Layout → Tidiness → List Field → Tidiness
+judgedIn ts ws l s fs = judgedAll (edgesIn ts) (l .blocks) ws s fs

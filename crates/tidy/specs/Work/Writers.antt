@@ -5,7 +5,10 @@ use mathlib.Core.Bool.{cond}
 use lib.Dec.{eqb}
 use lib.ListN.{getD, set}
 use Rattle.inst.specs.Inst.{kindOf}
-use Rattle.tidy.specs.Tidy.{Placed, Field}
+use Rattle.format.specs.Record.{recordAt}
+use Rattle.roles.specs.Roles.{defsOf}
+use Rattle.tidy.specs.Tidy.{Placed, Field, fieldsAt}
+use Rattle.tidy.specs.Work.Parts.{placedAt}
 
 -- a writer as one number, at least 2
 abbrev pub packed : ℕ → ℕ → ℕ → ℕ
@@ -24,3 +27,9 @@ notes ws v (r ∷ rs) = notes (note ws r v) v rs
 unfoldable pub noted : List ℕ → List Field → List ℕ
 noted ws [] = ws
 noted ws (f ∷ fs) = noted (note ws (f .reg) (pack (f .at))) fs
+
+-- what the record at a place writes, as an instruction of a block
+abbrev pub writtenAt : List ℕ → ℕ → ℕ → ℕ → List Field
+writtenAt b at block place =
+    let x = placedAt block place (recordAt b at) in
+    fieldsAt x (defsOf (x .inst))
