@@ -1,7 +1,7 @@
 -- What is written and what is taken out of bytes are bytes; a code of bytes holds instructions in range.
 use Prim.Native.Nat.{ℕ, zero, suc, _*_, _-_, _+_, _/_, _<_}
 use native.Mathlib.Omega.{arith}
-use mathlib.Core.Path.{sym, subst}
+use mathlib.Core.Path.{_≡_, refl, sym, subst}
 use mathlib.Core.Bool.{Bool, true, false, cond}
 use mathlib.Core.List.{List, [], _∷_, _++_}
 use lib.ListN.{length, getD, take, drop}
@@ -9,7 +9,7 @@ use lib.Dec.{ltb}
 use Rattle.format.specs.declared.Record.{Record}
 use Rattle.format.specs.Record.{recordAt}
 use Rattle.store.specs.Store.{wordBytes, tagBytes, recordBytes, putOf, Bytes}
-use Rattle.store.proofs.Laws.{fits-at}
+use Rattle.store.proofs.Laws.{put-length, fits-at}
 use Rattle.inst.specs.declared.Code.{Code}
 use Rattle.inst.specs.declared.Inst.{Inst}
 use Rattle.codec.specs.Codec.{InRange}
@@ -92,6 +92,14 @@ end-bytes code r i h = go (ltb (r .p1) (r .p2))
     go : (t : Bool) → Bytes (cond t (putOf code (r .p2 - 1) (rewritten (recordAt code (r .p2 - 1)) i)) code)
     go false = h
     go true = put-bytes code (r .p2 - 1) (rewritten (recordAt code (r .p2 - 1)) i) h
+
+pub end-length : (code : List ℕ) (r : Record) (i : Inst) → length (endRewritten code r i) ≡ length code
+unfolding endRewritten
+end-length code r i = go (ltb (r .p1) (r .p2))
+  where
+    go : (t : Bool) → length (cond t (putOf code (r .p2 - 1) (rewritten (recordAt code (r .p2 - 1)) i)) code) ≡ length code
+    go false = refl
+    go true = put-length code (r .p2 - 1) (rewritten (recordAt code (r .p2 - 1)) i)
 
 -- a code of bytes holds instructions in range
 pub codes-range : (code : List ℕ) (k : ℕ) → Bytes code → InRange (codeAt (codesOf code) k)

@@ -17,7 +17,8 @@ use Rattle.codec.proofs.Laws.{write-back}
 use Rattle.blocks.specs.Blocks.{Canonical}
 use Rattle.blocks.proofs.Rewrites.{map-take}
 
-again : (rs : List Record) → ((j : ℕ) → j < length rs → recordOf (codeOf (getD rs j blank)) ≡ getD rs j blank) → map recordOf (map codeOf rs) ≡ rs
+again : (rs : List Record) → ((j : ℕ) → j < length rs → recordOf (codeOf (getD rs j blank)) ≡ getD rs j blank)
+    → map recordOf (map codeOf rs) ≡ rs
 again [] h = refl
 again (r ∷ rs) h =
     ap (λ (x : Record). x ∷ map recordOf (map codeOf rs)) (h 0 (omega arith))
@@ -36,7 +37,9 @@ module _ (c : List Record) (h : map recordOf (map codeOf c) ≡ c) where
   each [] = refl
   each (r ∷ rs) =
       let n = r .p2 - r .p1 in
-      let e = ap (map recordOf) (map-part codeOf n (r .p1) c) ∙ map-part recordOf n (r .p1) (map codeOf c) ∙ ap (λ (l : List Record). take n (drop (r .p1) l)) h in
+      let e = ap (map recordOf) (map-part codeOf n (r .p1) c)
+      ∙ map-part recordOf n (r .p1) (map codeOf c)
+      ∙ ap (λ (l : List Record). take n (drop (r .p1) l)) h in
       ap (λ (l : List Record). l ∷ map (recordsOfBlock c) rs) (sym e)
       ∙ ap (λ (l : List (List Record)). map recordOf (map codeOf (recordsOfBlock c r)) ∷ l) (each rs)
 

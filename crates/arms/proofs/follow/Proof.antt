@@ -1,10 +1,8 @@
 use Prim.Native.Nat.{ℕ, suc, _+_, _-_, _≤_, _<_, _^_}
 use mathlib.Core.Path.{_≡_, refl, sym, ap, _∙_}
 use native.Mathlib.Omega.{arith}
-use mathlib.Core.List.{List, []}
 use borrow.Author.Needs.{needs}
 use denote.Ref.{now}
-use lib.ListN.{getD}
 use Rattle.inst.specs.declared.BlockId.{BlockId}
 use Rattle.codec.specs.Codec.{blockOf}
 use Rattle.procedure.specs.Procedure.{codesOf}
