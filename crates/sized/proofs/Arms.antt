@@ -1,11 +1,11 @@
 -- The equal-arms step keeps the blocks sound, and changes nothing where it says so.
-use Prim.Native.Nat.{ℕ, zero, suc, _+_, _≤_, _<_, _^_}
+use Prim.Native.Nat.{ℕ, zero, suc, _≤_, _<_, _^_}
 use native.Mathlib.Omega.{arith}
-use mathlib.Core.Path.{_≡_, refl, sym, ap, _∙_}
+use mathlib.Core.Path.{_≡_, refl, _∙_}
 use mathlib.Core.Bool.{Bool, true, false, cond, true≢false}
 use mathlib.Core.List.{List, []}
 use lib.Dec.{eqb}
-use lib.ListN.{length, getD, set, length-set}
+use lib.ListN.{length, getD, length-set}
 use Rattle.shape.specs.declared.exist.Counts.{Counts}
 use Rattle.inst.specs.declared.Code.{Code}
 use Rattle.inst.specs.declared.Inst.the-variants as inst
@@ -53,7 +53,8 @@ module _ (n : Counts) (few : n .blocks ≤ 2 ^ 32) where
         let c = getD (s .blocks) k [] in
         let x = inst.Br (blockOf to) in
         record {
-          each = all-set (BlockIn n) (s .blocks) k (withEnd x c) (h .each) (λ l. end-with n x c (br-final n few to j) (all-at (BlockIn n) (s .blocks) [] (h .each) k l));
+          each = all-set (BlockIn n) (s .blocks) k (withEnd x c) (h .each)
+              (λ l. end-with n x c (br-final n few to j) (all-at (BlockIn n) (s .blocks) [] (h .each) k l));
           blocks = length-set (s .blocks) k (withEnd x c) ∙ h .blocks;
           code = let a = joined-set (s .blocks) k (withEnd x c) i in let b = end-length x c in let d = h .code in omega arith;
           same = λ f. absurd (true≢false f);

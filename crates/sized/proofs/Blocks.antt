@@ -1,17 +1,15 @@
 -- How a sound block ends, and what it is with another end or with other code after its front.
-use Prim.Native.Nat.{ℕ, zero, suc, _+_, _-_, _≤_, _<_, _^_}
+use Prim.Native.Nat.{ℕ, zero, suc, _+_, _≤_, _<_, _^_}
 use native.Mathlib.Omega.{arith}
-use mathlib.Core.Path.{_≡_, refl, sym, ap, subst, _∙_}
-use mathlib.Core.Bool.{Bool, true, false, _&&_, true≢false, false≢true}
+use mathlib.Core.Path.{_≡_, refl, ap}
+use mathlib.Core.Bool.{Bool, true, false, false≢true}
 use mathlib.Core.List.{List, [], _∷_, _++_}
 use mathlib.Core.Logic.{_⊎_, inl, inr}
 use borrow.Author.Tests.{lt-ltb}
-use lib.ListN.{length, getD, set, length-append, length-set, List·getD-eq-default}
+use lib.ListN.{length, getD, set, length-append, List·getD-eq-default}
 use Rattle.shape.specs.declared.exist.Counts.{Counts}
 use Rattle.store.proofs.Laws.{order}
-use Rattle.inst.specs.Inst.{kindOf, terminatorKind, terminatorOf}
-use Rattle.inst.specs.declared.Reg.{Reg}
-use Rattle.inst.specs.declared.BlockId.{BlockId}
+use Rattle.inst.specs.Inst.{terminatorOf}
 use Rattle.inst.specs.declared.Code.{Code}
 use Rattle.inst.specs.declared.Inst.{Inst}
 use Rattle.inst.specs.declared.Inst.the-variants as i
@@ -37,7 +35,8 @@ all-set P [] k y h i = tt
 all-set P (x ∷ xs) zero y h i = (i (omega arith), h .1)
 all-set P (x ∷ xs) (suc k) y h i = (h .0, all-set P xs k y (h .1) (λ j. i (omega arith)))
 
-pub joined-set : {A : Type 0} (xs : List (List A)) (k : ℕ) (y : List A) → k < length xs → length (joined (set xs k y)) + length (getD xs k []) ≡ length (joined xs) + length y
+pub joined-set : {A : Type 0} (xs : List (List A)) (k : ℕ) (y : List A) → k < length xs →
+    length (joined (set xs k y)) + length (getD xs k []) ≡ length (joined xs) + length y
 joined-set [] k y h = absurd (omega arith)
 joined-set (x ∷ xs) zero y h = let a = length-append y (joined xs) in let b = length-append x (joined xs) in omega arith
 joined-set (x ∷ xs) (suc k) y h =
@@ -228,7 +227,8 @@ module _ (n : Counts) (few : n .blocks ≤ 2 ^ 32) where
   unfolding inRange instRecord
   br-final l h = record { ends = refl; range = rw (lt-ltb l (2 ^ 32) (omega arith)); names = (h, tt) }
 
-  pub condbr-final : n .registers ≤ 2 ^ 32 → (c t f : ℕ) → c < n .registers → t < n .blocks → f < n .blocks → Final n (i.CondBr (regOf c) (blockOf t) (blockOf f))
+  pub condbr-final : n .registers ≤ 2 ^ 32 → (c t f : ℕ) → c < n .registers → t < n .blocks → f < n .blocks →
+      Final n (i.CondBr (regOf c) (blockOf t) (blockOf f))
   unfolding inRange instRecord
   condbr-final k c t f hc ht hf = record {
     ends = refl;

@@ -1,21 +1,20 @@
 -- The copy of a sound block: no longer than the block, sound with the new registers, which are no more than its instructions.
-use Prim.Native.Nat.{ℕ, zero, suc, _+_, _≤_, _<_, _^_}
+use Prim.Native.Nat.{ℕ, suc, _+_, _≤_, _<_, _^_}
 use native.Mathlib.Omega.{arith}
-use mathlib.Core.Path.{_≡_, refl, sym, ap, subst, _∙_}
-use mathlib.Core.Bool.{Bool, true, false, _&&_, cond}
+use mathlib.Core.Path.{_≡_, sym, ap, subst, _∙_}
+use mathlib.Core.Bool.{Bool, true, false, cond}
 use mathlib.Core.List.{List, [], _∷_, _++_}
 use lib.Dec.{eqb}
-use lib.ListN.{length, getD}
+use lib.ListN.{length}
 use Rattle.shape.specs.declared.exist.Counts.{Counts}
 use Rattle.inst.specs.Inst.{terminatorKind, terminatorOf}
 use Rattle.inst.specs.declared.Code.{Code}
-use Rattle.roles.specs.Roles.{defsOf}
 use Rattle.ends.specs.Forms.{fixedOf}
 use Rattle.steps.specs.Facts.{Facts}
-use Rattle.steps.specs.Copy.{exchanged, How, leftOut, renumbered, kept, howWritten, howOf, readThrough, written, renamed, place, copyFrom, kindFor, kindsGiven}
+use Rattle.steps.specs.Copy.{How, leftOut, renumbered, kept, howWritten, howOf, readThrough, written, renamed, place, copyFrom, kindFor, kindsGiven}
 use Rattle.round.specs.WellFormed.{All, Ends, Sound, BlockIn}
 use Rattle.round.proofs.Lists.{all-append, all-turn}
-use Rattle.sized.proofs.Names.{named, names, withRegs, more-sound}
+use Rattle.sized.proofs.Names.{named, names, withRegs}
 use Rattle.sized.proofs.Exchange.{exchange-named, exchange-range, exchange-kind}
 use Rattle.sized.proofs.Blocks.{all-or, ends-write-none, ends-cons}
 use Rattle.sized.proofs.Notes.{found-in}
@@ -37,8 +36,9 @@ module _ (n : Counts) (m : ℕ) (more : n .registers ≤ m) (few : m ≤ 2 ^ 32)
       let σ = readThrough local in
       let read : (r : ℕ) → r < n .registers → σ r < m = λ r i. found-in m local h r (omega arith) in
       let write : (r : ℕ) → r < n .registers → τ r < m = λ r i. t m r (omega arith) (omega arith) in
+      let word = exchange-range σ τ (found-in (2 ^ 32) local (wide (2 ^ 32) few)) (λ r. t (2 ^ 32) r few) (x .inst) (s .range .inst) in
       record {
-        range = record { inst = exchange-range σ τ (found-in (2 ^ 32) local (wide (2 ^ 32) few)) (λ r. t (2 ^ 32) r few) (x .inst) (s .range .inst); stmt = s .range .stmt };
+        range = record { inst = word; stmt = s .range .stmt };
         names = names (withRegs m n) (renamed local τ x) (exchange-named σ τ n m more read write (x .inst) (named n x (s .names)));
       }
 

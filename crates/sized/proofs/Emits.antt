@@ -1,5 +1,5 @@
 -- Emit keeps the blocks sound, and adds no instruction.
-use Prim.Native.Nat.{ℕ, zero, suc, _+_, _≤_, _<_, _^_}
+use Prim.Native.Nat.{ℕ, suc, _+_, _≤_, _<_, _^_}
 use native.Mathlib.Omega.{arith}
 use mathlib.Core.Path.{_≡_, refl, sym, ap, _∙_}
 use mathlib.Core.Bool.{Bool, true, false, _&&_, _||_, not, cond, true≢false}
@@ -69,7 +69,8 @@ module _ (n : Counts) (few : n .blocks ≤ 2 ^ 32) where
     rescued-in [] h = tt
     rescued-in (x ∷ c) h = by (cases (isRescued f x)) (rescued-in c (h .1))
       where
-        by : (isRescued f x ≡ true) ⊎ (isRescued f x ≡ false) → All Before (rescuedOf f c) → All Before (cond (isRescued f x) (x ∷ rescuedOf f c) (rescuedOf f c))
+        by : (isRescued f x ≡ true) ⊎ (isRescued f x ≡ false) → All Before (rescuedOf f c) →
+            All Before (cond (isRescued f x) (x ∷ rescuedOf f c) (rescuedOf f c))
         by (inl t) i = rw t ((h .0, rescued-goes-on x t), i)
         by (inr t) i = rw t i
 
@@ -94,12 +95,14 @@ module _ (n : Counts) (few : n .blocks ≤ 2 ^ 32) where
         by (inr t) = rw t (omega arith)
     rescued-few (x ∷ y ∷ c) h = by (isRescued f x) (rescued-few (y ∷ c) (h .1))
       where
-        by : (t : Bool) → length (rescuedOf f (y ∷ c)) + 1 ≤ suc (length c) → length (cond t (x ∷ rescuedOf f (y ∷ c)) (rescuedOf f (y ∷ c))) + 1 ≤ suc (suc (length c))
+        by : (t : Bool) → length (rescuedOf f (y ∷ c)) + 1 ≤ suc (length c) →
+            length (cond t (x ∷ rescuedOf f (y ∷ c)) (rescuedOf f (y ∷ c))) + 1 ≤ suc (suc (length c))
         by true i = omega arith
         by false i = omega arith
 
     -- a block that becomes a Br gives up its own instructions: what is rescued and the Br are no more
-    pub emit-few : (b : ℕ) (marks : List Bool) (P : List (List Code)) → All (BlockIn n) P → length (rescues f marks P) + length (joined (emptyFrom b marks P)) ≤ length (joined P)
+    pub emit-few : (b : ℕ) (marks : List Bool) (P : List (List Code)) → All (BlockIn n) P →
+        length (rescues f marks P) + length (joined (emptyFrom b marks P)) ≤ length (joined P)
     unfolding emptyFrom rescues
     emit-few b marks [] h = omega arith
     emit-few b [] (c ∷ cs) h = omega arith
@@ -120,11 +123,13 @@ module _ (n : Counts) (few : n .blocks ≤ 2 ^ 32) where
   -- at the front of block 0
   pub onto-in : (k : List Code) (P : List (List Code)) → All Before k → All (BlockIn n) P → All (BlockIn n) (ontoFront k P)
   onto-in k [] h i = tt
-  onto-in k (c ∷ cs) h i =
-      (record {
-        ends = ends-append k c (all-turn (λ x j. j .1) k h) (i .0 .ends);
-        each = all-append (Sound n) k c (all-turn (λ x j. j .0) k h) (i .0 .each);
-      }, i .1)
+  onto-in k (c ∷ cs) h i = (
+    record {
+      ends = ends-append k c (all-turn (λ x j. j .1) k h) (i .0 .ends);
+      each = all-append (Sound n) k c (all-turn (λ x j. j .0) k h) (i .0 .each);
+    },
+    i .1,
+  )
 
 pub onto-length : (k : List Code) (P : List (List Code)) → length (ontoFront k P) ≡ length P
 onto-length k [] = refl

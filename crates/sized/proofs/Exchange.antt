@@ -10,7 +10,7 @@ use Rattle.format.specs.Kinds.{number, spaceNumber}
 use Rattle.shape.specs.declared.exist.Counts.{Counts}
 use Rattle.layout.proofs.Order.{and-first, and-second}
 use Rattle.real.specs.Real.{canonical}
-use Rattle.inst.specs.Inst.{kindOf, terminatorKind, terminatorOf}
+use Rattle.inst.specs.Inst.{kindOf}
 use Rattle.inst.specs.declared.OptReg.the-variants as o
 use Rattle.inst.specs.declared.BoolOp.{BoolOp}
 use Rattle.inst.specs.declared.BoolOp.the-variants as b
@@ -72,7 +72,8 @@ module _ (σ τ : ℕ → ℕ) (n : Counts) (m : ℕ) (more : n .registers ≤ m
   exchange-named (i.Cmp o d a b) h = (to (h .0), (from (h .1 .0), (from (h .1 .1 .0), tt)))
   exchange-named (i.Bool o d a b) h = (to (h .0), (from (h .1 .0), (second-in o (h .1 .1 .0), tt)))
   exchange-named (i.Bin o d a b) h = (to (h .0), (from (h .1 .0), (from (h .1 .1 .0), tt)))
-  exchange-named (i.BinRange o d a b l u w) h = (to (h .0), (from (h .1 .0), (from (h .1 .1 .0), (from (h .1 .1 .1 .0), (from (h .1 .1 .1 .1 .0), h .1 .1 .1 .1 .1)))))
+  exchange-named (i.BinRange o d a b l u w) h =
+      (to (h .0), (from (h .1 .0), (from (h .1 .1 .0), (from (h .1 .1 .1 .0), (from (h .1 .1 .1 .1 .0), h .1 .1 .1 .1 .1)))))
   exchange-named (i.Load d a w) h = (to (h .0), (from (h .1 .0), tt))
   exchange-named (i.Store a v w) h = (from (h .0), (from (h .1 .0), tt))
   exchange-named (i.Check k v l u w) h = (from (h .0), (low-in k (h .1 .0), (high-in k (h .1 .1 .0), h .1 .1 .1)))

@@ -1,21 +1,19 @@
 -- What `run` leaves of a well-formed procedure: its sizes, and that it is well formed.
 use Prim.Native.Nat.{ℕ, _+_, _/_, _≤_, _<_, _^_}
 use native.Mathlib.Omega.{arith}
-use mathlib.Core.Path.{_≡_, refl, sym, ap, subst, _∙_}
+use mathlib.Core.Path.{_≡_, refl, ap, _∙_}
 use mathlib.Core.Bool.{Bool, true, false, _&&_, true≢false}
-use mathlib.Core.List.{List, [], _++_}
+use mathlib.Core.List.{_++_}
 use lib.Dec.{ltb}
 use lib.ListN.{length, length-append}
-use Rattle.shape.specs.declared.exist.Counts.{Counts}
-use Rattle.inst.specs.declared.Code.{Code}
 use Rattle.procedure.specs.Procedure.{Procedure}
 use Rattle.procedure.specs.Lists.{joined, present}
 use Rattle.steps.specs.Facts.{Facts, factsOf}
-use Rattle.steps.specs.EqualArms.{Arms, equalArms}
+use Rattle.steps.specs.EqualArms.{equalArms}
 use Rattle.steps.specs.Gate.{hasBackEdge, mayThread}
 use Rattle.steps.specs.Thread.{Work, nextNumber, thread}
 use Rattle.steps.specs.Emit.{reached, emptyFrom, rescues, ontoFront}
-use Rattle.steps.specs.Run.{Shortened, withBlocks, withRegisters, unchanged, armsJoined, written, emitMarked, emit, emitIf, emitted, threadBy, countedIn, threadIf, threaded, fromArms, runIf, run}
+use Rattle.steps.specs.Run.{Shortened, withBlocks, unchanged, armsJoined, emit, emitIf, countedIn, threadIf, runIf, run}
 use Rattle.round.specs.WellFormed.{All, BlockIn, countsIn, WellFormed}
 use Rattle.round.proofs.Lists.{all-append, all-turn}
 use Rattle.sized.specs.Size.{codeSize, Sized}
@@ -83,7 +81,8 @@ module _ (p : Procedure) (h : WellFormed p) where
       let k = kept in
       let i = h .registers in
       let j = h .code in
-      thread-keeps f (countsIn p) (codeSize p) refl (ap (λ (n : ℕ). n / 2 + 32) (k .code)) (h .each-register) few (omega arith) (q .blocks) (k .each) (k .blocks) (k .code)
+      thread-keeps f (countsIn p) (codeSize p) refl (ap (λ (n : ℕ). n / 2 + 32) (k .code)) (h .each-register) few (omega arith) (q .blocks) (k .each)
+      (k .blocks) (k .code)
 
   names-at : nextNumber f w ≡ length (p .registers) + length (w .kinds)
   unfolding factsOf
@@ -140,8 +139,8 @@ module _ (p : Procedure) (h : WellFormed p) where
   pub run-same : run p .moved ≡ false → run p .procedure ≡ p
   run-same = run-stage .same
 
-  -- "Shortening: 480 registers, 480 instructions."
-  module _ (registers : length (p .registers) ≤ 480) (code : codeSize p ≤ 480) where
+  -- within limits that leave room for what is added, such as 480 registers and 480 instructions
+  module _ (registers : length (p .registers) + codeSize p / 2 + 36 ≤ 756) (code : codeSize p + codeSize p / 2 + 36 ≤ 756) where
     pub run-well-formed : WellFormed (run p .procedure)
     run-well-formed =
         let r = run-stage in

@@ -1,13 +1,11 @@
 -- What an instruction names, place by place; with more registers it still exists.
-use Prim.Native.Nat.{ℕ, _+_, _≤_, _<_, _^_}
+use Prim.Native.Nat.{ℕ, _+_, _≤_, _<_}
 use native.Mathlib.Omega.{arith}
 use mathlib.Core.Path.{_≡_, refl}
-use mathlib.Core.Bool.{Bool, true, _&&_}
+use mathlib.Core.Bool.{true}
 use mathlib.Core.List.{List, [], _∷_}
 use borrow.Author.Tests.{ltb-true, leb-true, lt-ltb, le-leb}
-use lib.Dec.{ltb, leb}
 use lib.ListN.{getD}
-use Rattle.format.specs.declared.Record.{Record}
 use Rattle.format.specs.Kinds.{Place, unused, number, small, register, block, table, list, places, fields}
 use Rattle.shape.specs.declared.exist.Counts.{Counts}
 use Rattle.shape.specs.Exist.{exist, allExist, namesExist}
@@ -15,7 +13,7 @@ use Rattle.layout.proofs.Order.{and-first, and-second}
 use Rattle.inst.specs.declared.Inst.{Inst}
 use Rattle.inst.specs.declared.Code.{Code}
 use Rattle.codec.specs.Codec.{instRecord, recordOf}
-use Rattle.round.specs.WellFormed.{All, Sound, BlockIn}
+use Rattle.round.specs.WellFormed.{Sound, BlockIn}
 use Rattle.round.proofs.Lists.{all-turn}
 
 abbrev pub Exist : Counts → Place → ℕ → ℕ → Type 0

@@ -1,9 +1,9 @@
 -- A copy's source that `note` gathers is a register of the file.
 use Prim.Native.Nat.{ℕ, _≤_, _<_}
 use native.Mathlib.Omega.{arith}
-use mathlib.Core.Path.{_≡_, refl, sym, ap, _∙_}
+use mathlib.Core.Path.{_≡_, refl}
 use mathlib.Core.Bool.{Bool, true, false, _&&_, _||_, cond}
-use mathlib.Core.List.{List, [], _∷_, _++_}
+use mathlib.Core.List.{List, [], _∷_}
 use mathlib.Core.Logic.{_⊎_, inl, inr}
 use mathlib.Core.Option.{Option, none, some}
 use borrow.Author.Tests.{eqb-true}
@@ -13,12 +13,11 @@ use Rattle.layout.proofs.Walks.{cases}
 use Rattle.layout.proofs.Order.{and-first, and-second}
 use Rattle.store.proofs.Laws.{order}
 use Rattle.inst.specs.declared.Code.{Code}
-use Rattle.inst.specs.declared.Inst.{Inst}
 use Rattle.roles.specs.Roles.{defsOf}
 use Rattle.procedure.specs.Lists.{found, valueOr}
 use Rattle.ends.specs.Forms.{Form, const, constF, addrOf, move, bool, bin, jump, other, formOf}
 use Rattle.steps.specs.Facts.{Facts}
-use Rattle.steps.specs.Note.{Known, nothing, copiesWithout, forget, forgetAll, withValueIf, sourceOf, valueOf, alike, noteMove, boolOf, learnt, learn, note, notes}
+use Rattle.steps.specs.Note.{Known, nothing, copiesWithout, forgetAll, withValueIf, sourceOf, valueOf, alike, noteMove, boolOf, learnt, learn, note, notes}
 use Rattle.round.specs.WellFormed.{All}
 use Rattle.round.proofs.Lists.{all-append}
 

@@ -1,12 +1,12 @@
 -- What a successful Shorten writes: Read accepts it, 61,728 bytes hold it, and where moved is 0 it is the input.
 use Prim.Native.Nat.{ℕ, _+_, _≤_, _<_}
 use native.Mathlib.Omega.{arith}
-use mathlib.Core.Path.{_≡_, refl, sym, ap, subst, _∙_}
-use mathlib.Core.Bool.{Bool, true, false, _||_, cond}
+use mathlib.Core.Path.{_≡_, refl, sym, ap, _∙_}
+use mathlib.Core.Bool.{Bool, true, false, cond}
 use mathlib.Core.List.{List, _++_}
-use borrow.Author.Tests.{ltb-true, ltb-false, eqb-true, eqb-false, eq-eqb}
+use borrow.Author.Tests.{ltb-true, ltb-false, eqb-true, eqb-false}
 use lib.Dec.{eqb, ltb}
-use lib.ListN.{length, take, drop, length-append}
+use lib.ListN.{length, take, drop}
 use lib.Seq.{take-append-seam}
 use Rattle.format.specs.declared.Record.{Record}
 use Rattle.format.specs.Record.{recordsOf}
@@ -18,12 +18,34 @@ use Rattle.procedure.specs.Procedure.{procedureOf}
 use Rattle.word.specs.Word.{bit}
 use Rattle.steps.specs.Run.{Shortened, run}
 use Rattle.steps.specs.Write.{recordsFor, bytesOf}
-use Rattle.steps.specs.Shorten.{Outcome, refusal, success, fitIf, above, runUnless, acceptIf, accept, shortenWithin, shorten}
+use Rattle.steps.specs.Shorten.{refusal, success, fitIf, above, runUnless, acceptIf, shortenWithin, shorten}
 use Rattle.round.specs.WellFormed.{WellFormed}
 use Rattle.round.proofs.Accepted.{or-first, or-second}
 use Rattle.round.proofs.Laws.{read-well-formed, read-registers, read-code, write-back, written-few, written-accepted}
-use Rattle.sized.specs.Size.{codeSize}
 use Rattle.sized.proofs.Laws.{run-same, run-well-formed}
+
+-- no reading has the number 9
+few-numbers : (number first k n : ℕ) (o : Reading) → number ≤ 7 → o .number ≤ 7 → unless number first k n o .number ≤ 7
+unfolding unless
+few-numbers number first k n o i j = by (ltb k n)
+  where
+    by : (t : Bool) → cond t (answer number (first + k)) o .number ≤ 7
+    by true = i
+    by false = j
+
+either : (t : Bool) (x o : Reading) → x .number ≤ 7 → o .number ≤ 7 → cond t x o .number ≤ 7
+either true x o i j = i
+either false x o i j = j
+
+seven : (b : List ℕ) → reading b .number ≤ 7
+unfolding reading readRecords readBlocks readTables
+seven b =
+    either (wrongLength b) (answer 1 0) _ (omega arith)
+    (few-numbers 2 _ _ _ _ (omega arith)
+    (either (beyondLimit (recordsOf b)) (answer 3 0) _ (omega arith)
+    (few-numbers 4 _ _ _ _ (omega arith)
+    (few-numbers 5 _ _ _ _ (omega arith)
+    (few-numbers 6 _ _ _ _ (omega arith) (few-numbers 7 _ _ _ _ (omega arith) (omega arith)))))))
 
 -- the bytes of what `run` leaves of a file
 abbrev pub shortBytes : List ℕ → List ℕ
@@ -74,7 +96,12 @@ module _ (b out : List ℕ) where
     before = read-well-formed b h (w .accepted)
 
     after : WellFormed (s .procedure)
-    after = run-well-formed (procedureOf rs) before (rw (read-registers b h (w .accepted)) (w .registers)) (rw (read-code b h (w .accepted)) (w .code))
+    after =
+        let r = read-registers b h (w .accepted) in
+        let c = read-code b h (w .accepted) in
+        let i = w .registers in
+        let j = w .code in
+        run-well-formed (procedureOf rs) before (omega arith) (omega arith)
 
     few-bytes : length (shortBytes b) ≤ 61728
     few-bytes = written-few (s .procedure) after
@@ -95,33 +122,12 @@ module _ (b out : List ℕ) where
       by (short w i q) = absurd (let z = ap (λ o. o .answer .number) q in omega arith)
       by (done w i q) = ap reading (taken q) ∙ written-accepted (s .procedure) (after h w)
 
-  -- no reading has the number 9
-  few-numbers : (number first k n : ℕ) (o : Reading) → number ≤ 7 → o .number ≤ 7 → unless number first k n o .number ≤ 7
-  unfolding unless
-  few-numbers number first k n o i j = by (ltb k n)
-    where
-      by : (t : Bool) → cond t (answer number (first + k)) o .number ≤ 7
-      by true = i
-      by false = j
-
-  either : (t : Bool) (x o : Reading) → x .number ≤ 7 → o .number ≤ 7 → cond t x o .number ≤ 7
-  either true x o i j = i
-  either false x o i j = j
-
-  seven : reading b .number ≤ 7
-  unfolding reading readRecords readBlocks readTables
-  seven =
-      either (wrongLength b) (answer 1 0) _ (omega arith)
-      (few-numbers 2 _ _ _ _ (omega arith)
-      (either (beyondLimit rs) (answer 3 0) _ (omega arith)
-      (few-numbers 4 _ _ _ _ (omega arith) (few-numbers 5 _ _ _ _ (omega arith) (few-numbers 6 _ _ _ _ (omega arith) (few-numbers 7 _ _ _ _ (omega arith) (omega arith)))))))
-
   -- 1,929 records hold every result
   pub room-enough : Bytes b → 61728 ≤ length out → shorten b out .answer .number ≡ 9 → ⊥
   room-enough h i e = by fate
     where
       by : Fate b out → ⊥
-      by (unread n q) = let z = ap (λ o. o .answer .number) q in let y = seven in omega arith
+      by (unread n q) = let z = ap (λ o. o .answer .number) q in let y = seven b in omega arith
       by (over q) = let z = ap (λ o. o .answer .number) q in omega arith
       by (short w j q) = let z = few-bytes h w in omega arith
       by (done w j q) = let z = ap (λ o. o .answer .number) q in omega arith

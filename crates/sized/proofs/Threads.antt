@@ -1,15 +1,15 @@
 -- Every edit of Thread keeps the blocks sound and the counts within their bounds.
 use Prim.Native.Nat.{ℕ, zero, suc, _+_, _/_, _≤_, _<_, _^_}
 use native.Mathlib.Omega.{arith}
-use mathlib.Core.Path.{_≡_, refl, sym, ap, subst, _∙_}
+use mathlib.Core.Path.{_≡_, sym, ap, _∙_}
 use mathlib.Core.Bool.{Bool, true, false, _&&_, _||_, not, cond, false≢true}
 use mathlib.Core.List.{List, [], _++_, append-nil}
 use mathlib.Core.Logic.{_⊎_, inl, inr}
 use borrow.Author.Tests.{leb-true, ltb-false, not-false}
 use lib.Dec.{eqb, ltb, leb}
-use lib.ListN.{length, getD, set, length-append, length-set, List·getD-eq-default}
+use lib.ListN.{length, getD, length-append, length-set, List·getD-eq-default}
 use Rattle.shape.specs.declared.exist.Counts.{Counts}
-use Rattle.layout.proofs.Order.{and-first, and-second}
+use Rattle.layout.proofs.Order.{and-first}
 use Rattle.store.proofs.Laws.{order}
 use Rattle.inst.specs.declared.Reg.{Reg}
 use Rattle.inst.specs.declared.BlockId.{BlockId}
@@ -22,19 +22,20 @@ use Rattle.ends.specs.declared.End.{End}
 use Rattle.ends.specs.declared.End.the-variants as e
 use Rattle.ends.specs.Ends.{endOf, loneOf, front, withEnd}
 use Rattle.steps.specs.Facts.{Facts}
-use Rattle.steps.specs.Small.{copyable, small, latch, readsKonst}
+use Rattle.steps.specs.Small.{copyable, small, readsKonst}
 use Rattle.steps.specs.Gate.{copied}
-use Rattle.steps.specs.Copy.{copyOf, kindsOf, kindsGiven, ownUses}
+use Rattle.steps.specs.Copy.{copyOf, kindsOf, ownUses}
 use Rattle.steps.specs.Thread.{Work, blockAt, edit, matching, armOf, stops, nextNumber, thread, unthreaded}
-use Rattle.steps.proofs.Edits.{knownAt, sourceAt, turned, joinedTo, Edit, joins, folds, turns, Edits, nil, then, thread-edits}
-use Rattle.round.specs.WellFormed.{All, Sound, BlockIn}
+use Rattle.steps.proofs.Edits.{sourceAt, turned, joinedTo, Edit, joins, folds, turns, Edits, nil, then, thread-edits}
+use Rattle.round.specs.WellFormed.{All, BlockIn}
 use Rattle.round.proofs.Lists.{all-at, all-turn, all-append}
 use Rattle.round.proofs.Accepted.{or-first, or-second}
 use Rattle.sized.proofs.Names.{withRegs, more-block}
-use Rattle.sized.proofs.Blocks.{all-or, all-set, joined-set, EndIn, end-in, lone-in, inside, front-length, joined-in, end-length, Final, end-with, br-final, condbr-final}
+use Rattle.sized.proofs.Blocks.{all-set, joined-set, EndIn, end-in, lone-in, inside, front-length, joined-in}
+use Rattle.sized.proofs.Blocks.{end-length, Final, end-with, br-final, condbr-final}
 use Rattle.sized.proofs.Arms.{each-at}
 use Rattle.sized.proofs.Notes.{source-in}
-use Rattle.sized.proofs.Copies.{Copied, copied-in, kinds-few, kinds-in}
+use Rattle.sized.proofs.Copies.{copied-in, kinds-few, kinds-in}
 
 -- one of two blocks
 choose-in : (m v t e : ℕ) → t < m → e < m → choose v t e < m
@@ -129,15 +130,20 @@ module _ (f : Facts) (n : Counts) (N : ℕ) (own : n .registers ≡ length (f .r
     where
       by : (t : Bool) → cond t l (matching truth r l (loneOf (blockAt w l))) < n .blocks
       by true = h
-      by false = matching-in (countsAt f n w) truth r l (loneOf (blockAt w l)) h (lone-in (countsAt f n w) (blockAt w l) (each-at (countsAt f n w) (w .blocks) (v .each) l))
+      by false =
+          matching-in (countsAt f n w) truth r l (loneOf (blockAt w l)) h
+          (lone-in (countsAt f n w) (blockAt w l) (each-at (countsAt f n w) (w .blocks) (v .each) l))
 
-  fold-inv : (w : Work) (a : ℕ) (c : Reg) (t g : BlockId) (k : ℕ) → endOf (blockAt w a) ≡ e.CondBr c t g → Inv f n N w → Inv f n N (edit w a (withEnd (inst.Br (blockOf (choose k (t .0) (g .0)))) (blockAt w a)) [] 0)
+  fold-inv : (w : Work) (a : ℕ) (c : Reg) (t g : BlockId) (k : ℕ) → endOf (blockAt w a) ≡ e.CondBr c t g → Inv f n N w →
+      Inv f n N (edit w a (withEnd (inst.Br (blockOf (choose k (t .0) (g .0)))) (blockAt w a)) [] 0)
   fold-inv w a c t g k q v =
       let d = end-at w v a (e.CondBr c t g) q in
       let there = jump-there w a (e.CondBr c t g) q (λ o. let z : _≡_ {A = ℕ} 0 1 = cc in absurd (omega arith)) in
-      end-inv w v a there (inst.Br (blockOf (choose k (t .0) (g .0)))) (br-final (countsAt f n w) few (choose k (t .0) (g .0)) (choose-in (n .blocks) k (t .0) (g .0) (d .1) (d .2)))
+      end-inv w v a there (inst.Br (blockOf (choose k (t .0) (g .0))))
+      (br-final (countsAt f n w) few (choose k (t .0) (g .0)) (choose-in (n .blocks) k (t .0) (g .0) (d .1) (d .2)))
 
-  turn-inv : (w : Work) (a : ℕ) (c : Reg) (t g : BlockId) → endOf (blockAt w a) ≡ e.CondBr c t g → Inv f n N w → Inv f n N (edit w a (turned f w a (c .0) (t .0) (g .0)) [] 0)
+  turn-inv : (w : Work) (a : ℕ) (c : Reg) (t g : BlockId) → endOf (blockAt w a) ≡ e.CondBr c t g → Inv f n N w →
+      Inv f n N (edit w a (turned f w a (c .0) (t .0) (g .0)) [] 0)
   turn-inv w a c t g q v =
       let d = end-at w v a (e.CondBr c t g) q in
       let there = jump-there w a (e.CondBr c t g) q (λ o. let z : _≡_ {A = ℕ} 0 1 = cc in absurd (omega arith)) in
