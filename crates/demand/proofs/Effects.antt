@@ -1,0 +1,2 @@
+-- Laws of the 24 kinds.
+use Prim.Native.Nat.{ℕ}
