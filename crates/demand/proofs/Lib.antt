@@ -1,2 +1,4 @@
 pub mod Basics
 pub mod Effects
+pub mod Stretches
+pub mod Edit
