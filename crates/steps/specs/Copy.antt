@@ -15,8 +15,10 @@ use Rattle.inst.specs.declared.Inst.{Inst}
 use Rattle.inst.specs.declared.Inst.the-variants as i
 use Rattle.codec.specs.Codec.{regOf}
 use Rattle.roles.specs.Roles.{defsOf, usesOf}
-use Rattle.steps.specs.Lists.{times, found, valueOr}
-use Rattle.steps.specs.Facts.{Facts, Fixed, word, real, address, varying, fixedOf}
+use Rattle.procedure.specs.Lists.{times, found, valueOr}
+use Rattle.ends.specs.Forms.{Fixed, word, real, address, varying, fixedOf}
+use Rattle.ends.specs.Ends.{withInst}
+use Rattle.steps.specs.Facts.{Facts}
 
 abbrev pub optional : (ℕ → ℕ) → OptReg → OptReg
 optional g (o.Some r) = o.Some (regOf (g (r .0)))
@@ -93,7 +95,7 @@ howSingle f own d x false = kept
 
 abbrev pub howWritten : Facts → (ℕ → ℕ) → Fixed → List ℕ → How
 howWritten f own x [] = kept
-howWritten f own x (d ∷ ds) = howSingle f (own d) d x (ltb d (length (f .registers)) && eqb (f .defs d) 1)
+howWritten f own x (d ∷ ds) = howSingle f (own d) d x (ltb d (length (f .registers)) && f .single d)
 
 -- l's instructions are `dupable` and its end, so each writes one register or none
 unfoldable pub howOf : Facts → (ℕ → ℕ) → Inst → How
@@ -112,7 +114,7 @@ abbrev pub written : ℕ → ℕ → ℕ → ℕ
 written d m r = cond (eqb r d) m r
 
 abbrev pub renamed : List (ℕ × ℕ) → (ℕ → ℕ) → Code → Code
-renamed local τ x = record { inst = exchanged (readThrough local) τ (x .inst); stmt = x .stmt }
+renamed local τ x = withInst (exchanged (readThrough local) τ (x .inst)) x
 
 abbrev pub place : How → Code → List (ℕ × ℕ) → ℕ → (List (ℕ × ℕ) → ℕ → List Code) → List Code
 place leftOut x local m rest = rest local m

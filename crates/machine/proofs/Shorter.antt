@@ -7,7 +7,7 @@ use native.Mathlib.Decide.{decLe}
 use Rattle.procedure.specs.Procedure.{Procedure}
 use Rattle.machine.specs.Machine.{Regs, Address, Outside, State, Shown, shown, start, step, run, entry, entered, intoZero}
 use Rattle.machine.specs.Demand.{Alike, shows, entries}
-use Rattle.machine.specs.Reading.{run-add}
+use Rattle.machine.proofs.Reading.{run-add}
 
 -- a machine: its step, what a step costs, what a state shows
 pub record Mach : Type 1 where

@@ -1,9 +1,11 @@
 -- Document 01, "Gate": "Definitions (saturating at 255) and uses are counted then."
 use Prim.Native.Nat.{ℕ, _+_, min}
 use mathlib.Core.List.{List, [], _∷_}
+use mathlib.Core.Bool.{Bool}
+use lib.Dec.{eqb}
 use Rattle.inst.specs.declared.Code.{Code}
 use Rattle.roles.specs.Roles.{defsOf, readsOf}
-use Rattle.steps.specs.Lists.{times}
+use Rattle.procedure.specs.Lists.{times}
 
 -- how many fields of some code write a register
 unfoldable pub writesIn : List Code → ℕ → ℕ
@@ -13,6 +15,10 @@ writesIn (x ∷ c) r = times r (defsOf (x .inst)) + writesIn c r
 -- `counts`: "Definitions (saturating at 255)"
 abbrev pub defCount : List Code → ℕ → ℕ
 defCount c r = min 255 (writesIn c r)
+
+-- "singly written"
+abbrev pub singly : List Code → ℕ → Bool
+singly c r = eqb (defCount c r) 1
 
 -- `counts`: "uses"; "list operands are read too"
 unfoldable pub useCount : List ℕ → List Code → ℕ → ℕ

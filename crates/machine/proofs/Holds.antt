@@ -6,13 +6,13 @@ use mathlib.Core.Option.{Option, none, some}
 use native.Mathlib.Omega.{arith}
 use lib.Dec.{lit<}
 use Rattle.inst.specs.declared.Inst.the-variants as i
-use Rattle.machine.specs.Word.{choose}
+use Rattle.word.specs.Word.{choose}
 use Rattle.machine.specs.Act.{Act, actOf, opOf}
 use Rattle.machine.specs.Machine.{Regs, Address, Outside, End, State, at, done, shown, enter, answered, effect}
 use Rattle.machine.specs.Demand.{Demand3, shows}
-use Rattle.machine.specs.Shorter.{Mach, Stretch, simulates, together, mach, seen, at-once, alike}
-use Rattle.machine.specs.Printed.{stmt, br, condBr, ret, printed, printed′}
-use Rattle.machine.specs.Refuted.{looping, looping′}
+use Rattle.machine.proofs.Shorter.{Mach, Stretch, simulates, together, mach, seen, at-once, alike}
+use Rattle.machine.proofs.Printed.{stmt, br, condBr, ret, printed, printed′}
+use Rattle.machine.proofs.Refuted.{looping, looping′}
 
 module _ (outside : Outside) (address : Address) where
   abbrev m : Mach

@@ -1,7 +1,7 @@
--- Document 01, "A printed procedure", "Proved (P)": P1 to P8, each as the file sent and the whole answer, with room for 65,536 bytes.
-use Prim.Native.Nat.{ℕ, _*_}
+-- Document 01, "A printed procedure", "Proved (P)": P1 to P8, each as the file sent, the whole answer and the output buffer afterwards.
+use Prim.Native.Nat.{ℕ, _*_, _-_}
 use mathlib.Core.Path.{_≡_, refl}
-use mathlib.Core.List.{List, [], _∷_, map}
+use mathlib.Core.List.{List, [], _∷_, _++_, map}
 use lib.ListN.{length, replicate}
 use Rattle.format.specs.declared.Record.{Record}
 use Rattle.format.specs.Record.{recordsOf, firstRecords}
@@ -15,11 +15,12 @@ use Rattle.read.specs.Reading.{unless, readTables, readBlocks, readRecords, rea
 use Rattle.codec.specs.Codec.{instOf, instRecord}
 use Rattle.items.specs.Items.{rowOf}
 use Rattle.procedure.specs.Procedure.{tablesFrom, procedureOf}
-use Rattle.steps.specs.Lists.{anyOf, times, found}
-use Rattle.steps.specs.Ends.{viewOf, endOf, front, withEnd}
+use Rattle.procedure.specs.Lists.{anyOf, times, found}
+use Rattle.ends.specs.Forms.{formOf, fixedOf}
+use Rattle.ends.specs.Ends.{viewOf, endOf, front, withEnd}
 use Rattle.steps.specs.Small.{copyable, small, stepBy, stepBlock, latch, readsKonst}
-use Rattle.steps.specs.Counts.{writesIn, useCount}
-use Rattle.steps.specs.Facts.{fixedOf, constIn, constOf, konstOf, factsOf}
+use Rattle.procedure.specs.Counts.{writesIn, useCount}
+use Rattle.steps.specs.Facts.{constIn, constOf, konstOf, factsOf}
 use Rattle.steps.specs.Note.{valuesWithout, copiesWithout, forgetAll, learn, notes}
 use Rattle.steps.specs.EqualArms.{follow, joinArms, joinFrom}
 use Rattle.steps.specs.Gate.{backEdgeFrom, copied, mayThreadFrom}
@@ -28,7 +29,7 @@ use Rattle.steps.specs.Thread.{armOf, hopCondBr, stops, hopBr, hop, hops
 use Rattle.steps.specs.Emit.{total, walk, reached, stays, emptyFrom, rescuedOf, rescues}
 use Rattle.steps.specs.Run.{emit, run}
 use Rattle.steps.specs.Write.{blockRecords, tableRecords, recordsFor, bytesOf}
-use Rattle.steps.specs.Shorten.{Answer, refusal, shorten, shortenWithin}
+use Rattle.steps.specs.Shorten.{Outcome, refusal, shorten, shortenWithin}
 
 -- "registers (number, type)"
 abbrev reg : ℕ → Record
@@ -44,25 +45,31 @@ code kind op stmt p1 p2 p3 =
     record { class = 4; kind = kind; op = op; zero = 0; stmt = stmt; p1 = p1; p2 = p2; p3 = p3; p4 = 0; p5 = 0; p6 = 0 }
 
 -- an accepted file: "moved", "grown", "fresh", "rescued" and the output's records
-abbrev gives : ℕ → ℕ → ℕ → ℕ → List Record → Answer
+abbrev gives : ℕ → ℕ → ℕ → ℕ → List Record → Outcome
 gives moved grown fresh rescued out =
     record {
-      number = 0;
-      place = 0;
-      moved = moved;
-      grown = grown;
-      fresh = fresh;
-      rescued = rescued;
-      length = 32 * length out;
-      bytes = bytesOf out;
+      answer = record {
+        number = 0;
+        place = 0;
+        length = 32 * length out;
+        moved = moved;
+        grown = grown;
+        fresh = fresh;
+        rescued = rescued;
+      };
+      output = bytesOf out ++ replicate (640 - 32 * length out) 85;
     }
+
+-- the output buffer at entry
+abbrev buffer : List ℕ
+buffer = replicate 640 85
 
 pub record Row : Type 0 where
   pub sent : List ℕ
-  pub answer : Answer
+  pub outcome : Outcome
 
-abbrev row-of : List Record → Answer → Row
-row-of sent answer = record { sent = bytesOf sent; answer = answer }
+abbrev row-of : List Record → Outcome → Row
+row-of sent outcome = record { sent = bytesOf sent; outcome = outcome }
 
 -- "Input: one I64; blocks 0-2, 2-4, 4-5, 5-6; Stmt, Br 2, Stmt, Br 2, CondBr 0 1 3, Ret; statements 10 to 15."
 abbrev P1 : Row
@@ -242,15 +249,19 @@ P6 = row-of fiveBrs (gives 0 0 0 0 fiveBrs)
 
 -- "Empty: 3"
 abbrev P7 : Row
-P7 = row-of [] (refusal 3 0)
+P7 = row-of [] (refusal 3 0 buffer)
 
 -- "33 bytes: 1"
 abbrev P8 : Row
-P8 = record { sent = replicate 33 0; answer = refusal 1 0 }
+P8 = record { sent = replicate 33 0; outcome = refusal 1 0 buffer }
 
 abbrev pub table : List Row
 table = P1 ∷ P2 ∷ P3 ∷ P4 ∷ P5 ∷ P6 ∷ P7 ∷ P8 ∷ []
 
-pub proved : map (λ r. shorten (r .sent) 65536) table ≡ map (λ r. r .answer) table
-unfolding bytesOf wordBytes tagBytes recordsOf firstRecords right namesExist passed ofClass before tiles numbers tables unless readTables readBlocks readRecords reading instOf instRecord tablesFrom procedureOf anyOf times found viewOf endOf front withEnd copyable small stepBy stepBlock latch readsKonst writesIn useCount fixedOf constIn constOf konstOf factsOf valuesWithout copiesWithout forgetAll learn notes follow joinArms joinFrom backEdgeFrom copied mayThreadFrom exchanged howOf ownUses copyFrom kindsGiven armOf hopCondBr stops hopBr hop hops threadFrom total walk reached stays emptyFrom rescuedOf rescues emit run blockRecords tableRecords recordsFor shortenWithin
+pub proved : map (λ r. shorten (r .sent) buffer) table ≡ map (λ r. r .outcome) table
+unfolding bytesOf wordBytes tagBytes recordsOf firstRecords right namesExist passed ofClass before tiles numbers tables unless readTables readBlocks
+    readRecords reading instOf instRecord tablesFrom procedureOf anyOf times found formOf viewOf endOf front withEnd copyable small stepBy
+    stepBlock latch readsKonst writesIn useCount fixedOf constIn constOf konstOf factsOf valuesWithout copiesWithout forgetAll learn notes
+    follow joinArms joinFrom backEdgeFrom copied mayThreadFrom exchanged howOf ownUses copyFrom kindsGiven armOf hopCondBr stops hopBr hop hops
+    threadFrom total walk reached stays emptyFrom rescuedOf rescues emit run blockRecords tableRecords recordsFor shortenWithin
 proved = refl

@@ -7,7 +7,7 @@ use Rattle.real.specs.Real.{realOf, bitsOf}
 use Rattle.ops.specs.Ops.{spaceNum, spaceArg}
 use Rattle.codec.specs.Codec.{codeOf, instOf, withStmt, rowOf}
 use Rattle.procedure.specs.Procedure.{Procedure}
-use Rattle.machine.specs.Word.{compares}
+use Rattle.word.specs.Word.{compares}
 use Rattle.machine.specs.Act.{opOf}
 use Rattle.machine.specs.Machine.{Address, Outside, Regs, Effect, writes, goes, ends, asks, returned, unreachable, effect, effectOf, stores}
 

@@ -10,7 +10,7 @@ use Rattle.procedure.specs.Procedure.{Procedure}
 use Rattle.machine.specs.Act.{Act}
 use Rattle.machine.specs.Machine.{Regs, Address, Outside, End, Effect, writes, goes, ends, asks, State, at, done, Shown, shown, start, effectOf, answered, after, step, run}
 use Rattle.machine.specs.Demand.{Alike, shows}
-use Rattle.machine.specs.Reading.{Prefix, Reads}
+use Rattle.machine.proofs.Reading.{Prefix, Reads}
 
 -- a first part of a list and one act more is a first part of the list, or all of it
 split : (h xs : List Act) (a : Act) (rest : List Act) → h ++ rest ≡ xs ++ (a ∷ []) → Prefix h xs ⊎ (h ≡ xs ++ (a ∷ []))

@@ -9,7 +9,12 @@ use lib.ListN.{length}
 use Rattle.inst.specs.declared.Code.{Code}
 use Rattle.inst.specs.declared.Inst.the-variants as i
 use Rattle.codec.specs.Codec.{regOf, blockOf}
-use Rattle.steps.specs.Ends.{End, br, condBr, case, other, endOf, front, withEnd}
+use Rattle.inst.specs.declared.Reg.{Reg}
+use Rattle.inst.specs.declared.BlockId.{BlockId}
+use Rattle.word.specs.Word.{choose}
+use Rattle.ends.specs.declared.End.{End}
+use Rattle.ends.specs.declared.End.the-variants as v
+use Rattle.ends.specs.Ends.{endOf, front, withEnd}
 use Rattle.steps.specs.Facts.{Facts}
 use Rattle.steps.specs.Note.{Known, nothing, notes, sourceOf, valueOf}
 use Rattle.steps.specs.Copy.{copyOf, kindsOf}
@@ -24,13 +29,26 @@ module _ (f : Facts) where
   abbrev pub sourceAt : Work → ℕ → ℕ → ℕ
   sourceAt w a c = sourceOf (knownAt w a) c
 
+  -- block a with a CondBr on the source of c and the arms that t and e lead to
+  abbrev pub turned : Work → ℕ → ℕ → ℕ → ℕ → List Code
+  turned w a c t e =
+      let c′ = sourceAt w a c in
+      withEnd (i.CondBr (regOf c′) (blockOf (armOf f w a c′ true t)) (blockOf (armOf f w a c′ false e))) (blockAt w a)
+
+  -- the work with the code of block l joined to block a
+  abbrev pub joinedTo : Work → ℕ → ℕ → Work
+  joinedTo w a l = appended w a (copyOf f (blockAt w l) (nextNumber f w)) (kindsOf f (blockAt w l))
+
   pub data Edit : Work → Work → Type 0 where
     -- a Br gives way to the code of its target
-    joins : (w : Work) (a l : ℕ) → endOf (blockAt w a) ≡ br l → stops f w a l ≡ false → Edit w (appended w a (copyOf f (blockAt w l) (nextNumber f w)) (kindsOf f (blockAt w l)))
+    joins : (w : Work) (a : ℕ) (l : BlockId) → endOf (blockAt w a) ≡ v.Br l → stops f w a (l .0) ≡ false → Edit w (joinedTo w a (l .0))
     -- a CondBr of a known value becomes a Br
-    folds : (w : Work) (a c t e v : ℕ) → endOf (blockAt w a) ≡ condBr c t e → valueOf f (knownAt w a) (sourceAt w a c) ≡ some v → Edit w (edit w a (withEnd (i.Br (blockOf (cond (eqb v 0) e t))) (blockAt w a)) [] 0)
+    folds : (w : Work) (a : ℕ) (c : Reg) (t e : BlockId) (n : ℕ) → endOf (blockAt w a) ≡ v.CondBr c t e
+        → valueOf f (knownAt w a) (sourceAt w a (c .0)) ≡ some n
+        → Edit w (edit w a (withEnd (i.Br (blockOf (choose n (t .0) (e .0)))) (blockAt w a)) [] 0)
     -- a CondBr takes its copy's source and the arms of lone CondBrs
-    turns : (w : Work) (a c t e : ℕ) → endOf (blockAt w a) ≡ condBr c t e → Edit w (edit w a (withEnd (i.CondBr (regOf (sourceAt w a c)) (blockOf (armOf f w a (sourceAt w a c) true t)) (blockOf (armOf f w a (sourceAt w a c) false e))) (blockAt w a)) [] 0)
+    turns : (w : Work) (a : ℕ) (c : Reg) (t e : BlockId) → endOf (blockAt w a) ≡ v.CondBr c t e
+        → Edit w (edit w a (turned w a (c .0) (t .0) (e .0)) [] 0)
 
   pub data Edits : Work → Work → Type 0 where
     nil : (w : Work) → Edits w w
@@ -46,26 +64,32 @@ module _ (f : Facts) where
   HopOk w (last w′) = Edit w w′
   HopOk w (next w′) = Edit w w′
 
-  append-ok : (w : Work) (a l : ℕ) → endOf (blockAt w a) ≡ br l → (b : Bool) → stops f w a l ≡ b → HopOk w (appendIf b f w a l)
+  append-ok : (w : Work) (a : ℕ) (l : BlockId) → endOf (blockAt w a) ≡ v.Br l → (b : Bool) → stops f w a (l .0) ≡ b
+      → HopOk w (appendIf b f w a (l .0))
   append-ok w a l e true q = tt
   append-ok w a l e false q = joins w a l e q
 
-  rewrite-ok : (w : Work) (a c t e : ℕ) → endOf (blockAt w a) ≡ condBr c t e → (b : Bool) → HopOk w (rewriteIf b w a (sourceAt w a c) (armOf f w a (sourceAt w a c) true t) (armOf f w a (sourceAt w a c) false e))
-  rewrite-ok w a c t e p true = tt
-  rewrite-ok w a c t e p false = turns w a c t e p
+  module _ (w : Work) (a : ℕ) (c : Reg) (t e : BlockId) (p : endOf (blockAt w a) ≡ v.CondBr c t e) where
+    abbrev source : ℕ
+    source = sourceAt w a (c .0)
 
-  decide-ok : (w : Work) (a c t e : ℕ) → endOf (blockAt w a) ≡ condBr c t e → (o : Option ℕ) → valueOf f (knownAt w a) (sourceAt w a c) ≡ o → HopOk w (decide f w a c t e (sourceAt w a c) o)
-  decide-ok w a c t e p (some v) q = folds w a c t e v p q
-  decide-ok w a c t e p none q =
-      let c′ = sourceAt w a c in
-      rewrite-ok w a c t e p (eqb c′ c && eqb (armOf f w a c′ true t) t && eqb (armOf f w a c′ false e) e)
+    abbrev arm : Bool → BlockId → ℕ
+    arm truth l = armOf f w a source truth (l .0)
+
+    rewrite-ok : (b : Bool) → HopOk w (rewriteIf b w a source (arm true t) (arm false e))
+    rewrite-ok true = tt
+    rewrite-ok false = turns w a c t e p
+
+    decide-ok : (o : Option ℕ) → valueOf f (knownAt w a) source ≡ o → HopOk w (decide f w a (c .0) (t .0) (e .0) source o)
+    decide-ok (some n) q = folds w a c t e n p q
+    decide-ok none q = rewrite-ok (eqb source (c .0) && eqb (arm true t) (t .0) && eqb (arm false e) (e .0))
 
   hopAt-ok : (w : Work) (a : ℕ) (x : End) → endOf (blockAt w a) ≡ x → HopOk w (hopAt f w a x)
   unfolding hopBr hopCondBr
-  hopAt-ok w a (br l) e = append-ok w a l e _ refl
-  hopAt-ok w a (condBr c t g) e = decide-ok w a c t g e _ refl
-  hopAt-ok w a (case n) e = tt
-  hopAt-ok w a other e = tt
+  hopAt-ok w a (v.Br l) e = append-ok w a l e _ refl
+  hopAt-ok w a (v.CondBr c t g) e = decide-ok w a c t g e _ refl
+  hopAt-ok w a (v.Case n) e = tt
+  hopAt-ok w a v.Other e = tt
 
   pub hop-ok : (w : Work) (a : ℕ) → HopOk w (hop f w a)
   unfolding hop

@@ -11,15 +11,16 @@ use lib.ListN.{length}
 use Rattle.inst.specs.declared.Inst.the-variants as i
 use Rattle.codec.specs.Codec.{regOf}
 use Rattle.procedure.specs.Procedure.{Procedure}
-use Rattle.steps.specs.Lists.{anyOf, times}
-use Rattle.steps.specs.Counts.{writesIn}
-use Rattle.steps.specs.Facts.{fixedOf}
+use Rattle.procedure.specs.Lists.{anyOf, times}
+use Rattle.procedure.specs.Counts.{writesIn}
+use Rattle.ends.specs.Forms.{formOf, fixedOf}
 use Rattle.machine.specs.Act.{opOf}
 use Rattle.machine.specs.Machine.{Regs, End, Shown, shown, effect}
-use Rattle.machine.specs.Single.{singleIn, constantIn, constantOf, load, load-loads}
+use Rattle.machine.specs.Single.{singleIn, constantIn, constantOf}
+use Rattle.machine.proofs.Loaded.{load, load-loads}
 use Rattle.machine.specs.Demand.{AlikeFrom, Demand3, Starts, shows, entries}
-use Rattle.machine.specs.Reading.{run-done}
-use Rattle.machine.specs.Printed.{code, stmt, br, condBr, ret, procedure, printed, nowhere, willing, all}
+use Rattle.machine.proofs.Reading.{run-done}
+use Rattle.machine.proofs.Printed.{code, stmt, br, condBr, ret, procedure, printed, nowhere, willing, all}
 
 -- two for each act done, and one if the run has ended
 abbrev ended : Option End → ℕ

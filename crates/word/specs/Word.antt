@@ -1,6 +1,5 @@
 -- Document 01, "Machine": what is computed with words.
 use Prim.Native.Nat.{ℕ, zero, suc, _+_, _-_, _%_, _<_, _^_}
-use mathlib.Core.Path.{_≡_, refl}
 use mathlib.Core.Bool.{Bool, true, false, cond, not, _&&_, _||_}
 use mathlib.Core.List.{List, [], _∷_}
 use lib.Dec.{eqb, leb, ltb}
@@ -64,8 +63,3 @@ armOf (arm ∷ arms) default v = cond (within arm v) (arm .target) (armOf arms d
 
 abbrev pub targetOf : Table → ℕ → ℕ
 targetOf t v = armOf (t .arms) (t .default) v
-
--- -1 is below 0, and 2^63 is below 2^63 - 1
-below : compares 0 0 c.Lt (2 ^ 64 - 1) 0 ∷ compares 0 0 c.Lt 0 (2 ^ 64 - 1) ∷ compares 2 2 c.Le (2 ^ 63) (2 ^ 63 - 1) ∷ [] ≡ 1 ∷ 0 ∷ 1 ∷ []
-unfolding compares
-below = refl

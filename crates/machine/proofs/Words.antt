@@ -14,8 +14,8 @@ use Rattle.inst.specs.declared.BoolOp.{BoolOp}
 use Rattle.inst.specs.declared.BoolOp.the-variants as b
 use Rattle.roles.specs.Roles.{defsOf, readsOf}
 use Rattle.procedure.specs.Procedure.{Procedure, Table}
-use Rattle.steps.specs.Facts.{fixedOf}
-use Rattle.machine.specs.Word.{Word, bit, holds, choose, signed, ordered, compares, tests}
+use Rattle.ends.specs.Forms.{formOf, fixedOf}
+use Rattle.word.specs.Word.{Word, bit, holds, choose, signed, ordered, compares, tests}
 use Rattle.machine.specs.Act.{Act}
 use Rattle.machine.specs.Machine.{Regs, Address, Outside, Effect, writes, goes, ends, asks, effect, effectOf, upd, stores, State, at, done, answered, after, step, run}
 use Rattle.machine.specs.Single.{constantOf}
@@ -85,7 +85,7 @@ stores-word (r ∷ rs) vs g a h = stores-word rs (drop 1 vs) (upd r (getD vs 0 0
 
 effect-fine : (address : Address) (tables : List Table) (s : ℕ) (kinds vs : List ℕ) → All vs
     → (x : Inst) → ((v : ℕ) → constantOf address x ≡ some v → Word v) → Fine (effect address tables s kinds vs x)
-unfolding effect constantOf fixedOf
+unfolding effect constantOf fixedOf formOf
 effect-fine address tables s kinds vs a (i.Const d v) f = (f _ refl, tt)
 effect-fine address tables s kinds vs a (i.ConstF d v) f = (f _ refl, tt)
 effect-fine address tables s kinds vs a (i.Move d r) f = (at-word vs a 0, tt)
