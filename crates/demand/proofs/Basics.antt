@@ -9,7 +9,7 @@ use native.Mathlib.Omega.{arith}
 use native.Mathlib.Decide.{ℕ-discrete}
 use lib.Dec.{T, eqb, eqb-refl, eqb→eq}
 use lib.ListN.{getD, drop}
-use Rattle.steps.specs.Lists.{anyOf}
+use Rattle.procedure.specs.Lists.{anyOf}
 use Rattle.machine.specs.Machine.{Regs, upd, stores}
 use Rattle.demand.specs.Setting.{In}
 

@@ -10,7 +10,7 @@ use lib.ListN.{getD}
 use Rattle.inst.specs.declared.Code.{Code}
 use Rattle.machine.specs.Act.{Act}
 use Rattle.machine.specs.Machine.{Regs, End, Effect, writes, goes, ends, asks, State, at, done, stores, shown, enter, answered, after, effect, step, entry, entryOf, ranOut}
-use Rattle.machine.specs.Shorter.{Mach, Shorter, Stretch, simulates, together, mach}
+use Rattle.machine.proofs.Shorter.{Mach, Shorter, Stretch, simulates, together, mach}
 use Rattle.demand.specs.Setting.{In, Each, Setting, code, does, defsAt, readsAt, Exposed, Hidden, Fine, Loaded, Passes, Behind}
 use Rattle.demand.proofs.Basics.{map-same, stores-agree}
 use Rattle.demand.proofs.Effects.{effect-is, keeps}

@@ -9,19 +9,22 @@ use native.Mathlib.Decide.{ℕ-discrete}
 use lib.ListN.{getD}
 use Rattle.inst.specs.Inst.{terminatorOf}
 use Rattle.inst.specs.declared.OptReg.the-variants as o
+use Rattle.inst.specs.declared.Reg.{Reg}
+use Rattle.inst.specs.declared.BlockId.{BlockId}
 use Rattle.inst.specs.declared.Inst.{Inst}
 use Rattle.inst.specs.declared.Inst.the-variants as i
 use Rattle.real.specs.Real.{bitsOf}
 use Rattle.roles.specs.Roles.{defsOf, usesOf, listOf, noList}
-use Rattle.procedure.specs.Procedure.{Arm, Table, firstOf}
-use Rattle.steps.specs.Ends.{viewOf}
-use Rattle.steps.specs.Facts.{fixedOf}
+use Rattle.procedure.specs.Procedure.{Arm, Table, tableAt, firstOf}
+use Rattle.ends.specs.declared.End.the-variants as e
+use Rattle.ends.specs.Forms.{formOf, fixedOf, isFixed}
+use Rattle.ends.specs.Ends.{viewOf}
 use Rattle.steps.specs.Small.{dupable}
-use Rattle.steps.specs.Emit.{isFixed, leads}
-use Rattle.machine.specs.Word.{choose, compares, tests, within, armOf, targetOf}
+use Rattle.steps.specs.Emit.{leads}
+use Rattle.word.specs.Word.{choose, compares, tests, within, armOf, targetOf}
 use Rattle.machine.specs.Act.{opOf, actOf}
 use Rattle.inst.specs.declared.Code.{Code}
-use Rattle.machine.specs.Machine.{Address, Outside, Regs, End, Effect, writes, goes, ends, asks, returned, unreachable, effect, effectOf, tableAt, stores, upd}
+use Rattle.machine.specs.Machine.{Address, Outside, Regs, End, Effect, writes, goes, ends, asks, returned, unreachable, effect, effectOf, stores, upd}
 use Rattle.machine.specs.Single.{given, constantOf}
 use Rattle.demand.proofs.Basics.{clash, clash-some, dec-in, upd-same, upd-other, stores-other}
 use Rattle.demand.specs.Setting.{In, Setting, code, does, defsAt, readsAt, Fine, Loaded, Passes}
@@ -45,51 +48,68 @@ module _ (address : Address) where
   abbrev Always : Inst → (List Table → ℕ → List ℕ → Effect) → Type 0
   Always x F = (tables : List Table) (s : ℕ) (kinds values : List ℕ) → effect address tables s kinds values x ≡ F tables s values
 
+  -- what an instruction is that ends no block
+  pub record Inner (x : Inst) (fixed : Bool) : Type 0 where
+    pub is-fixed : isFixed (fixedOf x) ≡ fixed
+    pub no-end : terminatorOf x ≡ false
+    pub view : viewOf x ≡ e.Other
+
+  -- and one that does
+  pub record Outer (x : Inst) : Type 0 where
+    pub none : defsOf x ≡ []
+    pub unlisted : listOf x ≡ noList
+    pub varies : isFixed (fixedOf x) ≡ false
+    pub no-copy : dupable x ≡ false
+
   pub data Shape (x : Inst) : Type 0 where
     -- Const, ConstF, AddrOf
-    constant : (d v : ℕ) → defsOf x ≡ d ∷ [] → usesOf x ≡ [] → listOf x ≡ noList → isFixed (fixedOf x) ≡ true → terminatorOf x ≡ false
-        → Always x (λ tables s vs. writes (v ∷ [])) → Shape x
+    constant : (d v : ℕ) → defsOf x ≡ d ∷ [] → usesOf x ≡ [] → listOf x ≡ noList → Inner x true → Always x (λ tables s vs. writes (v ∷ [])) → Shape x
     -- Move, Select, Cmp, Bool
-    computed : (d : ℕ) (F : List ℕ → ℕ) → defsOf x ≡ d ∷ [] → listOf x ≡ noList → isFixed (fixedOf x) ≡ false → terminatorOf x ≡ false
-        → Always x (λ tables s vs. writes (F vs ∷ [])) → Shape x
-    acting : isFixed (fixedOf x) ≡ false → terminatorOf x ≡ false → dupable x ≡ false → Always x (λ tables s vs. asks (actOf x s vs)) → Shape x
-    -- Br, CondBr, Case
-    jumping : (F : List Table → List ℕ → ℕ) → defsOf x ≡ [] → listOf x ≡ noList → isFixed (fixedOf x) ≡ false → terminatorOf x ≡ true
-        → dupable x ≡ false → ((tables : List Table) (vs : List ℕ) → In (F tables vs) (leads tables (viewOf x)))
-        → Always x (λ tables s vs. goes (F tables vs)) → Shape x
+    computed : (d : ℕ) (F : List ℕ → ℕ) → defsOf x ≡ d ∷ [] → listOf x ≡ noList → Inner x false → Always x (λ tables s vs. writes (F vs ∷ [])) → Shape x
+    acting : dupable x ≡ false → Inner x false → Always x (λ tables s vs. asks (actOf x s vs)) → Shape x
+    -- Br
+    going : (l : BlockId) → viewOf x ≡ e.Br l → Outer x → Always x (λ tables s vs. goes (l .0)) → Shape x
+    -- CondBr
+    testing : (c : Reg) (l m : BlockId) → viewOf x ≡ e.CondBr c l m → usesOf x ≡ c .0 ∷ [] → Outer x
+        → Always x (λ tables s vs. goes (choose (getD vs 0 0) (l .0) (m .0))) → Shape x
+    -- Case
+    casing : (n : ℕ) → viewOf x ≡ e.Case n → Outer x → Always x (λ tables s vs. goes (targetOf (tableAt tables n) (getD vs 0 0))) → Shape x
     -- Ret, Unreachable
-    ending : (F : ℕ → List ℕ → End) → defsOf x ≡ [] → listOf x ≡ noList → isFixed (fixedOf x) ≡ false → terminatorOf x ≡ true
-        → dupable x ≡ false → Always x (λ tables s vs. ends (F s vs)) → Shape x
+    ending : (F : ℕ → List ℕ → End) → viewOf x ≡ e.Other → Outer x → Always x (λ tables s vs. ends (F s vs)) → Shape x
+
+  inner : (x : Inst) (b : Bool) → isFixed (fixedOf x) ≡ b → terminatorOf x ≡ false → viewOf x ≡ e.Other → Inner x b
+  inner x b p q r = record { is-fixed = p; no-end = q; view = r }
+
+  outer : (x : Inst) → defsOf x ≡ [] → listOf x ≡ noList → isFixed (fixedOf x) ≡ false → dupable x ≡ false → Outer x
+  outer x p q r s = record { none = p; unlisted = q; varies = r; no-copy = s }
 
   pub shape : (x : Inst) → Shape x
-  unfolding effect opOf fixedOf viewOf compares
-  shape (i.Const d v) = constant (d .0) v refl refl refl refl refl (λ t s k w. refl)
-  shape (i.ConstF d v) = constant (d .0) (bitsOf v) refl refl refl refl refl (λ t s k w. refl)
-  shape (i.Move d a) = computed (d .0) (λ vs. getD vs 0 0) refl refl refl refl (λ t s k w. refl)
-  shape (i.AddrOf d a f) = constant (d .0) (address a f) refl refl refl refl refl (λ t s k w. refl)
-  shape (i.Select d c a b) = computed (d .0) (λ vs. choose (getD vs 0 0) (getD vs 1 0) (getD vs 2 0)) refl refl refl refl (λ t s k w. refl)
-  shape (i.Cmp op d a b) = computed (d .0) (λ vs. compares 0 0 op (getD vs 0 0) (getD vs 1 0)) refl refl refl refl (λ t s k w. refl)
-  shape (i.Bool op d a b) = computed (d .0) (λ vs. tests op (getD vs 0 0) (getD vs 1 0)) refl refl refl refl (λ t s k w. refl)
-  shape (i.Bin op d a b) = acting refl refl refl (λ t s k w. refl)
-  shape (i.BinRange op d a b l h w) = acting refl refl refl (λ t s k v. refl)
-  shape (i.Load d a w) = acting refl refl refl (λ t s k v. refl)
-  shape (i.Store a b w) = acting refl refl refl (λ t s k v. refl)
-  shape (i.Check c v l h w) = acting refl refl refl (λ t s k u. refl)
-  shape (i.MakeDope a p) = acting refl refl refl (λ t s k w. refl)
-  shape (i.DopeLen d p n) = acting refl refl refl (λ t s k w. refl)
-  shape (i.BoundsLen d l r e) = acting refl refl refl (λ t s k w. refl)
-  shape (i.Alloc d a) = acting refl refl refl (λ t s k w. refl)
-  shape (i.TakeBounds l r e) = acting refl refl refl (λ t s k w. refl)
-  shape (i.CallNative n a d) = acting refl refl refl (λ t s k w. refl)
-  shape (i.Br l) = jumping (λ tables vs. l .0) refl refl refl refl refl (λ t vs. inl refl) (λ t s k w. refl)
-  shape (i.CondBr c l m) =
-      jumping (λ tables vs. choose (getD vs 0 0) (l .0) (m .0)) refl refl refl refl refl (λ t vs. choose-in (getD vs 0 0) (l .0) (m .0)) (λ t s k w. refl)
-  shape (i.Case v n) =
-      jumping (λ tables vs. targetOf (tableAt tables n) (getD vs 0 0)) refl refl refl refl refl
-      (λ t vs. arm-in (tableAt t n .arms) (tableAt t n .default) (getD vs 0 0)) (λ t s k w. refl)
-  shape (i.Ret v) = ending (λ s vs. returned (firstOf vs) s) refl refl refl refl refl (λ t s k w. refl)
-  shape (i.Unreachable w) = ending (λ s vs. unreachable w s) refl refl refl refl refl (λ t s k v. refl)
-  shape i.Stmt = acting refl refl refl (λ t s k w. refl)
+  unfolding effect opOf fixedOf formOf viewOf compares
+  shape (i.Const d v) = constant (d .0) v refl refl refl (inner _ _ refl refl refl) (λ t s k w. refl)
+  shape (i.ConstF d v) = constant (d .0) (bitsOf v) refl refl refl (inner _ _ refl refl refl) (λ t s k w. refl)
+  shape (i.Move d a) = computed (d .0) (λ vs. getD vs 0 0) refl refl (inner _ _ refl refl refl) (λ t s k w. refl)
+  shape (i.AddrOf d a f) = constant (d .0) (address a f) refl refl refl (inner _ _ refl refl refl) (λ t s k w. refl)
+  shape (i.Select d c a b) =
+      computed (d .0) (λ vs. choose (getD vs 0 0) (getD vs 1 0) (getD vs 2 0)) refl refl (inner _ _ refl refl refl) (λ t s k w. refl)
+  shape (i.Cmp op d a b) = computed (d .0) (λ vs. compares 0 0 op (getD vs 0 0) (getD vs 1 0)) refl refl (inner _ _ refl refl refl) (λ t s k w. refl)
+  shape (i.Bool op d a b) = computed (d .0) (λ vs. tests op (getD vs 0 0) (getD vs 1 0)) refl refl (inner _ _ refl refl refl) (λ t s k w. refl)
+  shape (i.Bin op d a b) = acting refl (inner _ _ refl refl refl) (λ t s k w. refl)
+  shape (i.BinRange op d a b l h w) = acting refl (inner _ _ refl refl refl) (λ t s k v. refl)
+  shape (i.Load d a w) = acting refl (inner _ _ refl refl refl) (λ t s k v. refl)
+  shape (i.Store a b w) = acting refl (inner _ _ refl refl refl) (λ t s k v. refl)
+  shape (i.Check c v l h w) = acting refl (inner _ _ refl refl refl) (λ t s k u. refl)
+  shape (i.MakeDope a p) = acting refl (inner _ _ refl refl refl) (λ t s k w. refl)
+  shape (i.DopeLen d p n) = acting refl (inner _ _ refl refl refl) (λ t s k w. refl)
+  shape (i.BoundsLen d l r e) = acting refl (inner _ _ refl refl refl) (λ t s k w. refl)
+  shape (i.Alloc d a) = acting refl (inner _ _ refl refl refl) (λ t s k w. refl)
+  shape (i.TakeBounds l r e) = acting refl (inner _ _ refl refl refl) (λ t s k w. refl)
+  shape (i.CallNative n a d) = acting refl (inner _ _ refl refl refl) (λ t s k w. refl)
+  shape (i.Br l) = going l refl (outer _ refl refl refl refl) (λ t s k w. refl)
+  shape (i.CondBr c l m) = testing c l m refl refl (outer _ refl refl refl refl) (λ t s k w. refl)
+  shape (i.Case v n) = casing n refl (outer _ refl refl refl refl) (λ t s k w. refl)
+  shape (i.Ret v) = ending (λ s vs. returned (firstOf vs) s) refl (outer _ refl refl refl refl) (λ t s k w. refl)
+  shape (i.Unreachable w) = ending (λ s vs. unreachable w s) refl (outer _ refl refl refl refl) (λ t s k v. refl)
+  shape i.Stmt = acting refl (inner _ _ refl refl refl) (λ t s k w. refl)
 
   -- the kinds of the registers matter to no effect
   pub no-kinds : (x : Inst) (tables : List Table) (s : ℕ) (kinds kinds′ values : List ℕ)
@@ -97,11 +117,13 @@ module _ (address : Address) where
   no-kinds x tables s kinds kinds′ values = by (shape x)
     where
       by : Shape x → effect address tables s kinds values x ≡ effect address tables s kinds′ values x
-      by (constant d v e u l f t a) = a tables s kinds values ∙ sym (a tables s kinds′ values)
-      by (computed d F e l f t a) = a tables s kinds values ∙ sym (a tables s kinds′ values)
-      by (acting f t u a) = a tables s kinds values ∙ sym (a tables s kinds′ values)
-      by (jumping F e l f t u m a) = a tables s kinds values ∙ sym (a tables s kinds′ values)
-      by (ending F e l f t u a) = a tables s kinds values ∙ sym (a tables s kinds′ values)
+      by (constant d v e u l f a) = a tables s kinds values ∙ sym (a tables s kinds′ values)
+      by (computed d F e l f a) = a tables s kinds values ∙ sym (a tables s kinds′ values)
+      by (acting u f a) = a tables s kinds values ∙ sym (a tables s kinds′ values)
+      by (going l q f a) = a tables s kinds values ∙ sym (a tables s kinds′ values)
+      by (testing c l m q u f a) = a tables s kinds values ∙ sym (a tables s kinds′ values)
+      by (casing n q f a) = a tables s kinds values ∙ sym (a tables s kinds′ values)
+      by (ending F q f a) = a tables s kinds values ∙ sym (a tables s kinds′ values)
 
   -- what a Const, ConstF or AddrOf writes it writes whatever is read, and nothing else is a constant
   pub record Fixes (x : Inst) (v : ℕ) : Type 0 where
@@ -120,11 +142,13 @@ module _ (address : Address) where
   fixed-constant x y = by (shape x)
     where
       by : Shape x → (v : ℕ) × (constantOf address x ≡ some v) × Fixes x v
-      by (constant d v e u l f t a) = (v, rw (y, a [] 0 [] []), record { d = d; one = e; alone = u; unlisted = l; always = a })
-      by (computed d F e l f t a) = clash y f
-      by (acting f t u a) = clash y f
-      by (jumping F e l f t u m a) = clash y f
-      by (ending F e l f t u a) = clash y f
+      by (constant d v e u l f a) = (v, rw (y, a [] 0 [] []), record { d = d; one = e; alone = u; unlisted = l; always = a })
+      by (computed d F e l f a) = clash y (f .is-fixed)
+      by (acting u f a) = clash y (f .is-fixed)
+      by (going l q f a) = clash y (f .varies)
+      by (testing c l m q u f a) = clash y (f .varies)
+      by (casing n q f a) = clash y (f .varies)
+      by (ending F q f a) = clash y (f .varies)
 
   pub constant-fixes : (x : Inst) (v : ℕ) → constantOf address x ≡ some v → Fixes x v
   constant-fixes x v c = by (isFixed (fixedOf x)) refl
