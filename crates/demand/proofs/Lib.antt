@@ -2,3 +2,5 @@ pub mod Basics
 pub mod Effects
 pub mod Stretches
 pub mod Edit
+pub mod Codes
+pub mod Branches
