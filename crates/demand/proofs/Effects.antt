@@ -177,6 +177,12 @@ module _ (E : Setting) where
   passes-map Q Q′ (ends e) rs g f q = tt
   passes-map Q Q′ (asks a) rs g f q = λ vs. f _ (q vs)
 
+  pub passes-both : (Q Q′ : Regs → Type 0) (e : Effect) (rs : List ℕ) (g : Regs) → Passes e rs Q g → Passes e rs Q′ g → Passes e rs (λ g. Q g × Q′ g) g
+  passes-both Q Q′ (writes vs) rs g q q′ = (q, q′)
+  passes-both Q Q′ (goes b) rs g q q′ = tt
+  passes-both Q Q′ (ends e) rs g q q′ = tt
+  passes-both Q Q′ (asks a) rs g q q′ = λ vs. (q vs, q′ vs)
+
   -- single constants stay loaded
   pub keeps : (x : Code) (g : Regs) → Fine E x → Loaded E g → Passes (does E x g) (defsAt x) (Loaded E) g
   keeps x g fine l = by (constantOf (E .address) (x .inst)) refl

@@ -4,3 +4,4 @@ pub mod Stretches
 pub mod Edit
 pub mod Codes
 pub mod Branches
+pub mod Noted
