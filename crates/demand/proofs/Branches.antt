@@ -6,7 +6,6 @@ use mathlib.Core.List.{List, [], _∷_, _++_, map}
 use mathlib.Core.Bool.{Bool, true, false}
 use native.Mathlib.Omega.{arith}
 use lib.ListN.{length, getD, set}
-use Rattle.inst.specs.Inst.{terminatorOf}
 use Rattle.inst.specs.declared.Code.{Code}
 use Rattle.inst.specs.declared.Reg.{Reg}
 use Rattle.inst.specs.declared.BlockId.{BlockId}
@@ -19,7 +18,7 @@ use Rattle.ends.specs.declared.End.{End}
 use Rattle.ends.specs.declared.End.the-variants as e
 use Rattle.ends.specs.Ends.{viewOf, endOf, front, withInst, withEnd}
 use Rattle.machine.specs.Machine.{Regs, effect, goes}
-use Rattle.demand.specs.Setting.{In, Each, Front, Setting, does, defsAt, readsAt, Written, Read, Exposed, Hidden, Fine, Loaded, Behind}
+use Rattle.demand.specs.Setting.{terminatorOf, In, Each, Front, Setting, does, defsAt, readsAt, Written, Read, Exposed, Hidden, Fine, Loaded, Behind}
 use Rattle.demand.proofs.Basics.{clash}
 use Rattle.demand.proofs.Effects.{Shape, constant, computed, acting, going, testing, casing, ending, shape}
 use Rattle.demand.proofs.Codes.{each-append, each-left, each-right, front-each, each-front, exposed-left, exposed-right, exposed-split, read-exposed, Ended, set-block}
@@ -41,7 +40,7 @@ module _ (E : Setting) where
   br-does x l g q = by (shape (E .address) (x .inst))
     where
       by : Shape (E .address) (x .inst) → does E x g ≡ goes (l .0)
-      by (constant d v p u n f a) = apart (x .inst) q (f .view) (br-other l)
+      by (constant d v p u n w f a) = apart (x .inst) q (f .view) (br-other l)
       by (computed d F p n f a) = apart (x .inst) q (f .view) (br-other l)
       by (acting u f a) = apart (x .inst) q (f .view) (br-other l)
       by (going l′ w f a) = a _ _ _ _ ∙ ap (λ z. goes (z .0)) (by-name (sym w ∙ q))
@@ -61,7 +60,7 @@ module _ (E : Setting) where
   cond-does x c l m q = by (shape (E .address) (x .inst))
     where
       by : Shape (E .address) (x .inst) → Tests x c l m
-      by (constant d v p u n f a) = apart (x .inst) q (f .view) (cond-other c l m)
+      by (constant d v p u n w f a) = apart (x .inst) q (f .view) (cond-other c l m)
       by (computed d F p n f a) = apart (x .inst) q (f .view) (cond-other c l m)
       by (acting u f a) = apart (x .inst) q (f .view) (cond-other c l m)
       by (going l′ w f a) = apart (x .inst) q w (λ z. let y : _≡_ {A = ℕ} 0 1 = cc in omega arith)

@@ -7,7 +7,6 @@ use mathlib.Core.Option.{Option, none, some}
 use mathlib.Core.Bool.{Bool, true, false, cond}
 use native.Mathlib.Decide.{ℕ-discrete}
 use lib.ListN.{getD}
-use Rattle.inst.specs.Inst.{terminatorOf}
 use Rattle.inst.specs.declared.OptReg.the-variants as o
 use Rattle.inst.specs.declared.Reg.{Reg}
 use Rattle.inst.specs.declared.BlockId.{BlockId}
@@ -17,7 +16,7 @@ use Rattle.real.specs.Real.{bitsOf}
 use Rattle.roles.specs.Roles.{defsOf, usesOf, listOf, noList}
 use Rattle.procedure.specs.Procedure.{Arm, Table, tableAt, firstOf}
 use Rattle.ends.specs.declared.End.the-variants as e
-use Rattle.ends.specs.Forms.{formOf, fixedOf, isFixed}
+use Rattle.ends.specs.Forms.{Fixed, word, real, address, varying, formOf, fixedOf, isFixed}
 use Rattle.ends.specs.Ends.{viewOf}
 use Rattle.steps.specs.Small.{dupable}
 use Rattle.steps.specs.Emit.{leads}
@@ -27,7 +26,7 @@ use Rattle.inst.specs.declared.Code.{Code}
 use Rattle.machine.specs.Machine.{Address, Outside, Regs, End, Effect, writes, goes, ends, asks, returned, unreachable, effect, effectOf, stores, upd}
 use Rattle.machine.specs.Single.{given, constantOf}
 use Rattle.demand.proofs.Basics.{clash, clash-some, dec-in, upd-same, upd-other, stores-other}
-use Rattle.demand.specs.Setting.{In, Setting, code, does, defsAt, readsAt, Fine, Loaded, Passes}
+use Rattle.demand.specs.Setting.{terminatorOf, In, Setting, code, does, defsAt, readsAt, Fine, Loaded, Passes}
 
 -- an arm is one of the table's targets
 arm-in : (arms : List Arm) (d v : ℕ) → In (armOf arms d v) (map (λ a. a .target) arms ++ (d ∷ []))
@@ -42,6 +41,13 @@ arm-in (arm ∷ arms) d v = by (within arm v) (arm-in arms d v)
 choose-in : (v t f : ℕ) → In (choose v t f) (t ∷ f ∷ [])
 choose-in zero t f = inr (inl refl)
 choose-in (suc v) t f = inl refl
+
+-- a Const or ConstF, or what isn't fixed
+abbrev pub plain : Fixed → Bool
+plain (word v) = true
+plain real = true
+plain (address up) = false
+plain varying = true
 
 module _ (address : Address) where
   -- an effect, whatever the tables, the statement, the kinds and the values read
@@ -63,7 +69,8 @@ module _ (address : Address) where
 
   pub data Shape (x : Inst) : Type 0 where
     -- Const, ConstF, AddrOf
-    constant : (d v : ℕ) → defsOf x ≡ d ∷ [] → usesOf x ≡ [] → listOf x ≡ noList → Inner x true → Always x (λ tables s vs. writes (v ∷ [])) → Shape x
+    constant : (d v : ℕ) → defsOf x ≡ d ∷ [] → usesOf x ≡ [] → listOf x ≡ noList → dupable x ≡ plain (fixedOf x) → Inner x true
+        → Always x (λ tables s vs. writes (v ∷ [])) → Shape x
     -- Move, Select, Cmp, Bool
     computed : (d : ℕ) (F : List ℕ → ℕ) → defsOf x ≡ d ∷ [] → listOf x ≡ noList → Inner x false → Always x (λ tables s vs. writes (F vs ∷ [])) → Shape x
     acting : dupable x ≡ false → Inner x false → Always x (λ tables s vs. asks (actOf x s vs)) → Shape x
@@ -85,10 +92,10 @@ module _ (address : Address) where
 
   pub shape : (x : Inst) → Shape x
   unfolding effect opOf fixedOf formOf viewOf compares
-  shape (i.Const d v) = constant (d .0) v refl refl refl (inner _ _ refl refl refl) (λ t s k w. refl)
-  shape (i.ConstF d v) = constant (d .0) (bitsOf v) refl refl refl (inner _ _ refl refl refl) (λ t s k w. refl)
+  shape (i.Const d v) = constant (d .0) v refl refl refl refl (inner _ _ refl refl refl) (λ t s k w. refl)
+  shape (i.ConstF d v) = constant (d .0) (bitsOf v) refl refl refl refl (inner _ _ refl refl refl) (λ t s k w. refl)
   shape (i.Move d a) = computed (d .0) (λ vs. getD vs 0 0) refl refl (inner _ _ refl refl refl) (λ t s k w. refl)
-  shape (i.AddrOf d a f) = constant (d .0) (address a f) refl refl refl (inner _ _ refl refl refl) (λ t s k w. refl)
+  shape (i.AddrOf d a f) = constant (d .0) (address a f) refl refl refl refl (inner _ _ refl refl refl) (λ t s k w. refl)
   shape (i.Select d c a b) =
       computed (d .0) (λ vs. choose (getD vs 0 0) (getD vs 1 0) (getD vs 2 0)) refl refl (inner _ _ refl refl refl) (λ t s k w. refl)
   shape (i.Cmp op d a b) = computed (d .0) (λ vs. compares 0 0 op (getD vs 0 0) (getD vs 1 0)) refl refl (inner _ _ refl refl refl) (λ t s k w. refl)
@@ -117,7 +124,7 @@ module _ (address : Address) where
   no-kinds x tables s kinds kinds′ values = by (shape x)
     where
       by : Shape x → effect address tables s kinds values x ≡ effect address tables s kinds′ values x
-      by (constant d v e u l f a) = a tables s kinds values ∙ sym (a tables s kinds′ values)
+      by (constant d v e u l c f a) = a tables s kinds values ∙ sym (a tables s kinds′ values)
       by (computed d F e l f a) = a tables s kinds values ∙ sym (a tables s kinds′ values)
       by (acting u f a) = a tables s kinds values ∙ sym (a tables s kinds′ values)
       by (going l q f a) = a tables s kinds values ∙ sym (a tables s kinds′ values)
@@ -133,7 +140,7 @@ module _ (address : Address) where
     pub unlisted : listOf x ≡ noList
     pub always : (tables : List Table) (s : ℕ) (kinds values : List ℕ) → effect address tables s kinds values x ≡ writes (v ∷ [])
 
-  varies : (x : Inst) → isFixed (fixedOf x) ≡ false → constantOf address x ≡ none
+  pub varies : (x : Inst) → isFixed (fixedOf x) ≡ false → constantOf address x ≡ none
   unfolding constantOf
   varies x e = rw e
 
@@ -142,7 +149,7 @@ module _ (address : Address) where
   fixed-constant x y = by (shape x)
     where
       by : Shape x → (v : ℕ) × (constantOf address x ≡ some v) × Fixes x v
-      by (constant d v e u l f a) = (v, rw (y, a [] 0 [] []), record { d = d; one = e; alone = u; unlisted = l; always = a })
+      by (constant d v e u l c f a) = (v, rw (y, a [] 0 [] []), record { d = d; one = e; alone = u; unlisted = l; always = a })
       by (computed d F e l f a) = clash y (f .is-fixed)
       by (acting u f a) = clash y (f .is-fixed)
       by (going l q f a) = clash y (f .varies)

@@ -5,3 +5,7 @@ pub mod Edit
 pub mod Codes
 pub mod Branches
 pub mod Noted
+pub mod Jumps
+pub mod Rewrites
+pub mod Copied
+pub mod Joined
