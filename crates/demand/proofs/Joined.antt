@@ -77,7 +77,7 @@ module _ (E : Setting) (f : Facts) (same-one : (r : ℕ) → (ltb r (length (f .
     pub low : Each (Low E n₀) c
     pub from : n₀ ≤ m
     -- a register that gets a new number is written once, or isn't read
-    pub once : (r : ℕ) → E .one r ≡ true → all-own E f same-one own r ≡ true → (writesIn c r + renumberings r local ≤ 1) ⊎ (¬ (Read (E .operands) c r))
+    pub once : (r : ℕ) → E .one r ≡ true → E .local r ≡ true → all-own E f same-one own r ≡ true → (writesIn c r + renumberings r local ≤ 1) ⊎ (¬ (Read (E .operands) c r))
 
   module _ (κ : ℕ) (rs rs′ : List ℕ) (P P′ : List (List Code)) (h : List Act) where
     abbrev Sim : List Code → List Code → Regs → Regs → Type 0
@@ -174,9 +174,9 @@ module _ (E : Setting) (f : Facts) (same-one : (r : ℕ) → (ltb r (length (f .
               by (yes z) = upd-same d v g r z ∙ sym (upd-same d v g′ (readThrough local r) (ap (readThrough local) z ∙ through-d))
               by (no n) = upd-other d v g r n ∙ y .agree r (live-before r n l) ∙ sym (upd-other d v g′ (readThrough local r) (off r n))
 
-          once-less : (r : ℕ) → E .one r ≡ true → all-own E f same-one own r ≡ true
+          once-less : (r : ℕ) → E .one r ≡ true → E .local r ≡ true → all-own E f same-one own r ≡ true
               → (writesIn c r + renumberings r local ≤ 1) ⊎ (¬ (Read (E .operands) c r))
-          once-less r p q = by (y .once r p q)
+          once-less r p i q = by (y .once r p i q)
             where
               by : (writesIn (x ∷ c) r + renumberings r local ≤ 1) ⊎ (¬ (Read (E .operands) (x ∷ c) r))
                   → (writesIn c r + renumberings r local ≤ 1) ⊎ (¬ (Read (E .operands) c r))
@@ -209,7 +209,7 @@ module _ (E : Setting) (f : Facts) (same-one : (r : ℕ) → (ltb r (length (f .
 
           -- it has none yet, or isn't read any more
           fresh : Live E c d → found d local ≡ none
-          fresh l = by (found d local) refl (y .once d one-d own-d)
+          fresh l = by (found d local) refl (y .once d one-d local-d own-d)
             where
               read-on : Live E c d → Read (E .operands) c d
               read-on (inl q) = clash local-d q
@@ -239,9 +239,6 @@ module _ (E : Setting) (f : Facts) (same-one : (r : ℕ) → (ltb r (length (f .
               → (E .one r ≡ true) × (E .local r ≡ true) × (all-own E f same-one own r ≡ true) × (n₀ ≤ k) × (k < suc m)
           entries-new r k q = by (ℕ-discrete r d) (found r local) refl
             where
-              Goal : Type 0
-              Goal = (E .one r ≡ true) × (E .local r ≡ true) × (all-own E f same-one own r ≡ true) × (n₀ ≤ k) × (k < suc m)
-
               was : (j : ℕ) → found r local ≡ some j → j ≡ k → (E .one r ≡ true) × (E .local r ≡ true) × (all-own E f same-one own r ≡ true) × (n₀ ≤ k) × (k < suc m)
               was j z w = let t = y .entries r j z in (t .0, t .1, t .2, omega (arith, t .3), omega (arith, t .4))
 
@@ -255,9 +252,9 @@ module _ (E : Setting) (f : Facts) (same-one : (r : ℕ) → (ltb r (length (f .
               by (no n) none z = clash-some q (found-other d m local r n ∙ z)
               by w (some j) z = let t = found-old d m local r j z in was j z (cc)
 
-          once-new : (r : ℕ) → E .one r ≡ true → all-own E f same-one own r ≡ true
+          once-new : (r : ℕ) → E .one r ≡ true → E .local r ≡ true → all-own E f same-one own r ≡ true
               → (writesIn c r + renumberings r local′ ≤ 1) ⊎ (¬ (Read (E .operands) c r))
-          once-new r p q = by (y .once r p q) (ℕ-discrete r d)
+          once-new r p i q = by (y .once r p i q) (ℕ-discrete r d)
             where
               most : (o : Option ℕ) → counted o ≤ 1
               most none = omega arith
@@ -300,9 +297,9 @@ module _ (E : Setting) (f : Facts) (same-one : (r : ℕ) → (ltb r (length (f .
                   ∙ y .agree d (inl (E .single-shared d n single-d)) ∙ ap (λ w. g′ (readThrough local w)) (sym z)
               by (no w) = upd-other d v g r w ∙ y .agree r (live-before r w l)
 
-          once-out : (r : ℕ) → E .one r ≡ true → all-own E f same-one own r ≡ true
+          once-out : (r : ℕ) → E .one r ≡ true → E .local r ≡ true → all-own E f same-one own r ≡ true
               → (writesIn c r + renumberings r local ≤ 1) ⊎ (¬ (Read (E .operands) c r))
-          once-out r p q = by (y .once r p q)
+          once-out r p i q = by (y .once r p i q)
             where
               by : (writesIn (x ∷ c) r + renumberings r local ≤ 1) ⊎ (¬ (Read (E .operands) (x ∷ c) r))
                   → (writesIn c r + renumberings r local ≤ 1) ⊎ (¬ (Read (E .operands) c r))

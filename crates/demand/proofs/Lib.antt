@@ -9,3 +9,4 @@ pub mod Jumps
 pub mod Rewrites
 pub mod Copied
 pub mod Joined
+pub mod CopyKept
