@@ -82,6 +82,11 @@ in-map f r [] m = absurd m
 in-map f r (x ∷ xs) (inl e) = (x, e, inl refl)
 in-map f r (x ∷ xs) (inr m) = let t = in-map f r xs m in (t .0, t .1, inr (t .2))
 
+pub in-mapped : (f : ℕ → ℕ) (r : ℕ) (xs : List ℕ) → In r xs → In (f r) (map f xs)
+in-mapped f r [] m = absurd m
+in-mapped f r (x ∷ xs) (inl e) = inl (ap f e)
+in-mapped f r (x ∷ xs) (inr m) = inr (in-mapped f r xs m)
+
 pub any-in : (p : ℕ → Bool) (xs : List ℕ) → anyOf p xs ≡ true → (r : ℕ) × (p r ≡ true) × In r xs
 unfolding anyOf
 any-in p [] e = clash e refl

@@ -26,19 +26,19 @@ module _ (E : Setting) (f : Facts) (same-one : (r : ℕ) → (ltb r (length (f .
   abbrev W : Code → How → Type 0
   W x w = Way E f same-one own x w
 
-  defs-kept : (x : Code) (local : List (ℕ × ℕ)) → listOf (x .inst) ≡ noList → defsAt (renamed local (λ r. r) x) ≡ defsAt x
+  pub defs-kept : (x : Code) (local : List (ℕ × ℕ)) → listOf (x .inst) ≡ noList → defsAt (renamed local (λ r. r) x) ≡ defsAt x
   defs-kept x local u = renamed-defs E (readThrough local) (λ r. r) x u ∙ map-id (defsAt x)
 
-  defs-new : (x : Code) (local : List (ℕ × ℕ)) (d m : ℕ) → listOf (x .inst) ≡ noList → defsAt x ≡ d ∷ [] → defsAt (renamed local (written d m) x) ≡ m ∷ []
+  pub defs-new : (x : Code) (local : List (ℕ × ℕ)) (d m : ℕ) → listOf (x .inst) ≡ noList → defsAt x ≡ d ∷ [] → defsAt (renamed local (written d m) x) ≡ m ∷ []
   defs-new x local d m u q = renamed-defs E (readThrough local) (written d m) x u ∙ rw (q, eqb-true d d refl)
 
   -- in a list of one
-  only : (r d : ℕ) → In r (d ∷ []) → r ≡ d
+  pub only : (r d : ℕ) → In r (d ∷ []) → r ≡ d
   only r d (inl q) = q
   only r d (inr q) = absurd q
 
   -- what is read in a copied instruction
-  read-through : (x : Code) (local : List (ℕ × ℕ)) (τ : ℕ → ℕ) → listOf (x .inst) ≡ noList → (r : ℕ) → In r (readsAt (E .operands) (renamed local τ x))
+  pub read-through : (x : Code) (local : List (ℕ × ℕ)) (τ : ℕ → ℕ) → listOf (x .inst) ≡ noList → (r : ℕ) → In r (readsAt (E .operands) (renamed local τ x))
       → (s : ℕ) × In s (readsAt (E .operands) x) × (((found s local ≡ none) × (s ≡ r)) ⊎ (found s local ≡ some r))
   read-through x local τ u r k =
       let t = in-map (readThrough local) r (readsAt (E .operands) x) (subst (In r) (renamed-reads E (readThrough local) τ x u) k) in

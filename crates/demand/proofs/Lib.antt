@@ -10,3 +10,6 @@ pub mod Rewrites
 pub mod Copied
 pub mod Joined
 pub mod CopyKept
+pub mod Counted
+pub mod CopySparse
+pub mod Sparse
