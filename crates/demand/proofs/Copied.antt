@@ -89,6 +89,7 @@ module _ (E : Setting) where
     pub none : defsAt x ≡ []
     pub unlisted : listOf (x .inst) ≡ noList
     pub leaves : (g : Regs) → Leaves (does E x g)
+    pub few : length (usesOf (x .inst)) ≤ 1
 
   -- "A target has at most four instructions": the last one leaves, the others are silent
   abbrev pub Small : List Code → Type 0
@@ -126,10 +127,10 @@ module _ (E : Setting) where
       by (constant d v e u l c f a) = clash t (f .no-end)
       by (computed d F e l f a) = clash t (f .no-end)
       by (acting u f a) = clash t (f .no-end)
-      by (going l w f a) = record { none = f .none; unlisted = f .unlisted; leaves = λ g. subst Leaves (sym (a _ _ _ _)) tt }
-      by (testing c l m w u f a) = record { none = f .none; unlisted = f .unlisted; leaves = λ g. subst Leaves (sym (a _ _ _ _)) tt }
-      by (casing n w f a) = record { none = f .none; unlisted = f .unlisted; leaves = λ g. subst Leaves (sym (a _ _ _ _)) tt }
-      by (ending F w f a) = record { none = f .none; unlisted = f .unlisted; leaves = λ g. subst Leaves (sym (a _ _ _ _)) tt }
+      by (going l w f a) = record { none = f .none; unlisted = f .unlisted; leaves = λ g. subst Leaves (sym (a _ _ _ _)) tt; few = f .few }
+      by (testing c l m w u f a) = record { none = f .none; unlisted = f .unlisted; leaves = λ g. subst Leaves (sym (a _ _ _ _)) tt; few = f .few }
+      by (casing n w f a) = record { none = f .none; unlisted = f .unlisted; leaves = λ g. subst Leaves (sym (a _ _ _ _)) tt; few = f .few }
+      by (ending F w f a) = record { none = f .none; unlisted = f .unlisted; leaves = λ g. subst Leaves (sym (a _ _ _ _)) tt; few = f .few }
 
   pub small-is : (c : List Code) → copyable c ≡ true → Small c
   unfolding copyable

@@ -34,6 +34,15 @@ times-one d e xs q = rw q (by (eqb d e))
     by true = omega arith
     by false = omega arith
 
+pub times-most : (d : ℕ) (xs : List ℕ) → times d xs ≤ length xs
+unfolding times
+times-most d [] = omega arith
+times-most d (x ∷ xs) = by (eqb d x) (times-most d xs)
+  where
+    by : (t : Bool) → times d xs ≤ length xs → cond t 1 0 + times d xs ≤ suc (length xs)
+    by true ih = omega arith
+    by false ih = omega arith
+
 pub writes-append : (c e : List Code) (d : ℕ) → writesIn (c ++ e) d ≡ writesIn c d + writesIn e d
 unfolding writesIn
 writes-append [] e d = omega arith
@@ -59,6 +68,19 @@ pub front-cons : (x : Code) (c : List Code) → ¬ (c ≡ []) → front (x ∷ c
 unfolding front
 front-cons x [] n = absurd (n refl)
 front-cons x (y ∷ c) n = refl
+
+pub front-writes : (c : List Code) (d : ℕ) → writesIn (front c) d ≤ writesIn c d
+unfolding front writesIn
+front-writes [] d = omega arith
+front-writes (x ∷ []) d = omega arith
+front-writes (x ∷ y ∷ c) d = let z = front-writes (y ∷ c) d in omega arith
+
+pub front-read : (ops : List ℕ) (c : List Code) (d : ℕ) → Read ops (front c) d → Read ops c d
+unfolding front
+front-read ops [] d k = absurd k
+front-read ops (x ∷ []) d k = absurd k
+front-read ops (x ∷ y ∷ c) d (inl k) = inl k
+front-read ops (x ∷ y ∷ c) d (inr k) = inr (front-read ops (y ∷ c) d k)
 
 -- yes to the first and no to the second
 abbrev alone : {A B : Type 0} → Dec A → Dec B → ℕ

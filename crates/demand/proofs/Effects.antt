@@ -1,12 +1,13 @@
 -- The 24 kinds in five shapes: what an instruction's effect is made of. All else that the proof knows of a kind follows from its shape.
-use Prim.Native.Nat.{ℕ, zero, suc}
+use Prim.Native.Nat.{ℕ, zero, suc, _≤_}
 use mathlib.Core.Path.{_≡_, refl, sym, ap, subst, _∙_}
 use mathlib.Core.Logic.{_⊎_, inl, inr}
 use mathlib.Core.List.{List, [], _∷_, _++_, map}
 use mathlib.Core.Option.{Option, none, some}
 use mathlib.Core.Bool.{Bool, true, false, cond}
+use native.Mathlib.Omega.{arith}
 use native.Mathlib.Decide.{ℕ-discrete}
-use lib.ListN.{getD}
+use lib.ListN.{length, getD}
 use Rattle.inst.specs.declared.OptReg.the-variants as o
 use Rattle.inst.specs.declared.Reg.{Reg}
 use Rattle.inst.specs.declared.BlockId.{BlockId}
@@ -66,6 +67,7 @@ module _ (address : Address) where
     pub unlisted : listOf x ≡ noList
     pub varies : isFixed (fixedOf x) ≡ false
     pub no-copy : dupable x ≡ false
+    pub few : length (usesOf x) ≤ 1
 
   pub data Shape (x : Inst) : Type 0 where
     -- Const, ConstF, AddrOf
@@ -87,8 +89,8 @@ module _ (address : Address) where
   inner : (x : Inst) (b : Bool) → isFixed (fixedOf x) ≡ b → terminatorOf x ≡ false → viewOf x ≡ e.Other → Inner x b
   inner x b p q r = record { is-fixed = p; no-end = q; view = r }
 
-  outer : (x : Inst) → defsOf x ≡ [] → listOf x ≡ noList → isFixed (fixedOf x) ≡ false → dupable x ≡ false → Outer x
-  outer x p q r s = record { none = p; unlisted = q; varies = r; no-copy = s }
+  outer : (x : Inst) → defsOf x ≡ [] → listOf x ≡ noList → isFixed (fixedOf x) ≡ false → dupable x ≡ false → length (usesOf x) ≤ 1 → Outer x
+  outer x p q r s t = record { none = p; unlisted = q; varies = r; no-copy = s; few = t }
 
   pub shape : (x : Inst) → Shape x
   unfolding effect opOf fixedOf formOf viewOf compares
@@ -111,11 +113,12 @@ module _ (address : Address) where
   shape (i.Alloc d a) = acting refl (inner _ _ refl refl refl) (λ t s k w. refl)
   shape (i.TakeBounds l r e) = acting refl (inner _ _ refl refl refl) (λ t s k w. refl)
   shape (i.CallNative n a d) = acting refl (inner _ _ refl refl refl) (λ t s k w. refl)
-  shape (i.Br l) = going l refl (outer _ refl refl refl refl) (λ t s k w. refl)
-  shape (i.CondBr c l m) = testing c l m refl refl (outer _ refl refl refl refl) (λ t s k w. refl)
-  shape (i.Case v n) = casing n refl (outer _ refl refl refl refl) (λ t s k w. refl)
-  shape (i.Ret v) = ending (λ s vs. returned (firstOf vs) s) refl (outer _ refl refl refl refl) (λ t s k w. refl)
-  shape (i.Unreachable w) = ending (λ s vs. unreachable w s) refl (outer _ refl refl refl refl) (λ t s k v. refl)
+  shape (i.Br l) = going l refl (outer _ refl refl refl refl (omega arith)) (λ t s k w. refl)
+  shape (i.CondBr c l m) = testing c l m refl refl (outer _ refl refl refl refl (omega arith)) (λ t s k w. refl)
+  shape (i.Case v n) = casing n refl (outer _ refl refl refl refl (omega arith)) (λ t s k w. refl)
+  shape (i.Ret (o.Some v)) = ending (λ s vs. returned (firstOf vs) s) refl (outer _ refl refl refl refl (omega arith)) (λ t s k w. refl)
+  shape (i.Ret o.None) = ending (λ s vs. returned (firstOf vs) s) refl (outer _ refl refl refl refl (omega arith)) (λ t s k w. refl)
+  shape (i.Unreachable w) = ending (λ s vs. unreachable w s) refl (outer _ refl refl refl refl (omega arith)) (λ t s k v. refl)
   shape i.Stmt = acting refl (inner _ _ refl refl refl) (λ t s k w. refl)
 
   -- the kinds of the registers matter to no effect

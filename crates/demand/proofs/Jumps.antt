@@ -34,7 +34,7 @@ module _ (E : Setting) (κ : ℕ) (rs rs′ : List ℕ) (P P′ : List (List Cod
   abbrev pub St : State → State → Type 0
   St s s′ = Stretch (old E κ rs rs′ P P′) (new E κ rs rs′ P P′) (Same E κ rs rs′ P P′) s s′
 
-  goes-is : (qs : List ℕ) (Q : List (List Code)) (x : Code) (c : List Code) (g : Regs) (h : List Act) (b : ℕ) → does E x g ≡ goes b
+  pub goes-is : (qs : List ℕ) (Q : List (List Code)) (x : Code) (c : List Code) (g : Regs) (h : List Act) (b : ℕ) → does E x g ≡ goes b
       → step (E .outside) (E .address) (code E qs Q) (at (x ∷ c) g h) ≡ at (getD Q b []) g h
   goes-is qs Q x c g h b q = step-is E qs Q x c g h ∙ ap (λ z. after (E .outside) (E .address) (code E qs Q) z (defsAt x) c g h) q
 

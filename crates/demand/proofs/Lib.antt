@@ -13,3 +13,4 @@ pub mod CopyKept
 pub mod Counted
 pub mod CopySparse
 pub mod Sparse
+pub mod Join

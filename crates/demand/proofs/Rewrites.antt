@@ -36,7 +36,7 @@ use Rattle.demand.proofs.Branches.{Tests, cond-does, br-new, cond-new, 
 use Rattle.demand.proofs.Noted.{Holds, nothing-holds, value-holds, source-holds, notes-hold, source-read}
 use Rattle.demand.proofs.Jumps.{St, both-go, chase, matched}
 
-empty-end : endOf [] ≡ e.Other
+pub empty-end : endOf [] ≡ e.Other
 unfolding endOf
 empty-end = refl
 
@@ -52,7 +52,7 @@ module _ (E : Setting) where
     pub good : Good E m′ P′
     pub shortens : Shortens P P′
 
-  always : (c : List Code) (g : Regs) → Behind E (λ g. Unit {0}) c g
+  pub always : (c : List Code) (g : Regs) → Behind E (λ g. Unit {0}) c g
   always [] g = tt
   always (x ∷ c) g = passes-any E (Behind E (λ g. Unit {0}) c) (does E x g) (defsAt x) g (λ vs. always c _)
 

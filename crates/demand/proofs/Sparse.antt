@@ -42,14 +42,14 @@ module _ (E : Setting) (f : Facts) where
 
   -- one block set
   pub sparse-set : (P : List (List Code)) (a : ℕ) (c : List Code) (d : ℕ) → a < length P
-      → (writesIn (front (getD P a [])) d ≤ readersIn ops d (front (getD P a [])) → writesIn (front c) d ≤ readersIn ops d (front c))
+      → (((b : ℕ) → writesIn (front (getD P b [])) d ≤ readersIn ops d (front (getD P b []))) → writesIn (front c) d ≤ readersIn ops d (front c))
       → (((b : ℕ) → Quiet d (getD P b [])) → Quiet d c)
       → Sparse P d → Sparse (set P a c) d
   sparse-set P a c d l p q (busy k) = busy (λ b. by b (set-block P a c l b))
     where
       by : (b : ℕ) → ((b ≡ a) × (getD (set P a c) b [] ≡ c)) ⊎ (getD (set P a c) b [] ≡ getD P b [])
           → writesIn (front (getD (set P a c) b [])) d ≤ readersIn ops d (front (getD (set P a c) b []))
-      by b (inl s) = rw (s .1) (p (k a))
+      by b (inl s) = rw (s .1) (p k)
       by b (inr s) = rw s (k b)
   sparse-set P a c d l p q (quiet k) = quiet (λ b. by b (set-block P a c l b))
     where
@@ -67,7 +67,7 @@ module _ (E : Setting) (f : Facts) where
   pub sparse-end : (P : List (List Code)) (a : ℕ) (d : ℕ) → a < length P → (t : Ended (getD P a [])) (x : Inst) → defsOf x ≡ []
       → ((r : ℕ) → In r (readsOf ops x) → Read ops (front (getD P a [])) r ⊎ In r (readsAt ops (t .last)))
       → Sparse P d → Sparse (set P a (withEnd x (getD P a []))) d
-  sparse-end P a d l t x empty old = sparse-set P a (withEnd x c) d l (λ q. rw same q) (λ q. by (q a))
+  sparse-end P a d l t x empty old = sparse-set P a (withEnd x c) d l (λ q. rw same (q a)) (λ q. by (q a))
     where
       c : List Code
       c = getD P a []
