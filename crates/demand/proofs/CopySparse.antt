@@ -24,6 +24,26 @@ use Rattle.demand.proofs.Joined.{found-old, found-new, found-other}
 use Rattle.demand.proofs.CopyKept.{defs-kept, defs-new, only, read-through}
 use Rattle.demand.proofs.Counted.{times-none, front-cons, reader, readersIn, reader-of, reader-more}
 
+module _ (E : Setting) (f : Facts) (same-one : (r : ℕ) → (ltb r (length (f .registers)) && f .single r) ≡ E .one r) (own : ℕ → ℕ) where
+  some-by : (x : Code) (local : List (ℕ × ℕ)) (m : ℕ) (w : How) → Way E f same-one own x w → (rest : List (ℕ × ℕ) → ℕ → List Code)
+      → ((local : List (ℕ × ℕ)) (m : ℕ) → ¬ (rest local m ≡ [])) → ¬ (place w x local m rest ≡ [])
+  some-by x local m w (way-out e n p q z) rest ih = ih local m
+  some-by x local m w (way-new e p q z v) rest ih = λ q. let z : _≡_ {A = ℕ} 0 1 = cc in omega arith
+  some-by x local m w (way-kept z) rest ih = λ q. let z : _≡_ {A = ℕ} 0 1 = cc in omega arith
+
+  -- a copy isn't empty
+  pub copy-some : (c : List Code) → Small E c → (local : List (ℕ × ℕ)) (m : ℕ) → ¬ (copyFrom f own c local m ≡ [])
+  unfolding copyFrom
+  copy-some [] k local m = absurd k
+  copy-some (x ∷ []) k local m = by (howOf f own (x .inst)) (way-last E f same-one own x k)
+    where
+      by : (w : How) → Way E f same-one own x w → ¬ (place w x local m (copyFrom f own []) ≡ [])
+      by w (way-out e n p q z) = absurd (subst (In e) (k .none) (rw p (inl refl)))
+      by w (way-new e p q z v) = absurd (subst (In e) (k .none) (rw p (inl refl)))
+      by w (way-kept z) = λ q. let z : _≡_ {A = ℕ} 0 1 = cc in omega arith
+  copy-some (x ∷ y ∷ c) k local m =
+      some-by x local m (howOf f own (x .inst)) (way-silent E f same-one own x (k .0)) (copyFrom f own (y ∷ c)) (copy-some (y ∷ c) (k .1))
+
 module _ (E : Setting) (f : Facts) (same-one : (r : ℕ) → (ltb r (length (f .registers)) && f .single r) ≡ E .one r) (own : ℕ → ℕ)
     (n₀ : ℕ) (above : E .size ≤ n₀) (d : ℕ) (one-d : E .one d ≡ true) (local-d : E .local d ≡ true) where
   abbrev ops : List ℕ
@@ -142,25 +162,6 @@ module _ (E : Setting) (f : Facts) (same-one : (r : ℕ) → (ltb r (length (f .
   copy-read (x ∷ y ∷ c) k local m l g z =
       read-by x (y ∷ c) local m (k .0 .unlisted) l g (howOf f own (x .inst)) (way-silent E f same-one own x (k .0)) (copy-read (y ∷ c) (k .1)) z
 
-  some-by : (x : Code) (local : List (ℕ × ℕ)) (m : ℕ) (w : How) → W x w → (rest : List (ℕ × ℕ) → ℕ → List Code)
-      → ((local : List (ℕ × ℕ)) (m : ℕ) → ¬ (rest local m ≡ [])) → ¬ (place w x local m rest ≡ [])
-  some-by x local m w (way-out e n p q z) rest ih = ih local m
-  some-by x local m w (way-new e p q z v) rest ih = λ q. let z : _≡_ {A = ℕ} 0 1 = cc in omega arith
-  some-by x local m w (way-kept z) rest ih = λ q. let z : _≡_ {A = ℕ} 0 1 = cc in omega arith
-
-  -- a copy isn't empty
-  pub copy-some : (c : List Code) → Small E c → (local : List (ℕ × ℕ)) (m : ℕ) → ¬ (copyFrom f own c local m ≡ [])
-  unfolding copyFrom
-  copy-some [] k local m = absurd k
-  copy-some (x ∷ []) k local m = by (howOf f own (x .inst)) (way-last E f same-one own x k)
-    where
-      by : (w : How) → W x w → ¬ (place w x local m (copyFrom f own []) ≡ [])
-      by w (way-out e n p q z) = absurd (subst (In e) (k .none) (rw p (inl refl)))
-      by w (way-new e p q z v) = absurd (subst (In e) (k .none) (rw p (inl refl)))
-      by w (way-kept z) = λ q. let z : _≡_ {A = ℕ} 0 1 = cc in omega arith
-  copy-some (x ∷ y ∷ c) k local m =
-      some-by x local m (howOf f own (x .inst)) (way-silent E f same-one own x (k .0)) (copyFrom f own (y ∷ c)) (copy-some (y ∷ c) (k .1))
-
   -- d has uses elsewhere: it keeps its number
   module _ (else-d : owned d ≡ false) where
     -- no more writes and no fewer readers, before the ends
@@ -230,4 +231,4 @@ module _ (E : Setting) (f : Facts) (same-one : (r : ℕ) → (ltb r (length (f .
         by w (way-kept z) = record { writes = omega arith; readers = omega arith }
     copy-balanced (x ∷ y ∷ c) k local m l g =
         balanced-by x (y ∷ c) local m (λ q. let z : _≡_ {A = ℕ} 0 1 = cc in omega arith) (k .0) l g (howOf f own (x .inst)) (way-silent E f same-one own x (k .0))
-        (copy-some (y ∷ c) (k .1)) (copy-balanced (y ∷ c) (k .1))
+        (copy-some E f same-one own (y ∷ c) (k .1)) (copy-balanced (y ∷ c) (k .1))

@@ -153,3 +153,75 @@ module _ (E : Setting) where
                 (part-blocks E m P good a range κ rs rs′ (λ g. Unit {0}) pre (end .last ∷ []) copy (end .is) pre-fine join-hidden (λ g l. always E pre g) (tail κ rs rs′))
                 b g g h ld (λ r z. refl);
           }
+
+      -- the copy isn't empty, so the end of the joined code is the copy's
+      front-joined : front (pre ++ copy) ≡ pre ++ front copy
+      front-joined = by copy (copy-some E f same-one own c (short .1) [] m)
+        where
+          by : (d : List Code) → ¬ (d ≡ []) → front (pre ++ d) ≡ pre ++ front d
+          by [] n = absurd (n refl)
+          by (x ∷ d) n = front-append pre x d
+
+      none-given : (r k : ℕ) → found r [] ≡ some k → (m ≤ k) × (all-own E f same-one own r ≡ true)
+      unfolding found
+      none-given r k q = clash-some q refl
+
+      module _ (d : ℕ) (one-d : E .one d ≡ true) (local-d : E .local d ≡ true) where
+        abbrev owned : Bool
+        owned = all-own E f same-one own d
+
+        abbrev W : List Code → ℕ
+        W c = writesIn c d
+
+        abbrev R : List Code → ℕ
+        R c = readersIn (E .operands) d c
+
+        join-busy : ((b : ℕ) → W (front (getD P b [])) ≤ R (front (getD P b []))) → W (front (pre ++ copy)) ≤ R (front (pre ++ copy))
+        join-busy k = rw front-joined (by owned refl)
+          where
+            sums : W (front copy) ≤ R (front copy) → W (pre ++ front copy) ≤ R (pre ++ front copy)
+            sums q = let z = k a in omega (arith, writes-append pre (front copy) d, readers-append (E .operands) d pre (front copy))
+
+            by : (t : Bool) → owned ≡ t → W (pre ++ front copy) ≤ R (pre ++ front copy)
+            by true q =
+                sums (omega (
+                  arith,
+                  front-writes copy d,
+                  unwritten copy d (owned-unwritten E f same-one own m above d one-d local-d q c (short .1) [] m (omega arith)),
+                ))
+            by false q =
+                let b = copy-balanced E f same-one own m above d one-d local-d q c (short .1) [] m (omega arith) none-given in
+                sums (omega (arith, b .writes, b .readers, k (l .0)))
+
+        -- the copy doesn't read it
+        copy-unread : ((b : ℕ) → Quiet E f d (getD P b [])) → ¬ (Read (E .operands) copy d)
+        copy-unread k = by owned refl
+          where
+            by : (t : Bool) → owned ≡ t → ¬ (Read (E .operands) copy d)
+            by true q =
+                owned-unread E f same-one own m above d one-d local-d q c (short .1) (good .fine (l .0)) [] m (omega arith) none-given
+                (λ n z. clash local-d (good .hidden (l .0) d z))
+            by false q = λ z.
+                let r = copy-read E f same-one own m above d one-d local-d c (short .1) [] m (omega arith) none-given z in
+                let u = (k (l .0) .ends r) .1 in
+                let v = own-one c d (short .1) (k (l .0) .unread) r in
+                clash (eqb-true (f .uses d) (own d) (u ∙ sym v)) q
+
+        join-quiet : ((b : ℕ) → Quiet E f d (getD P b [])) → Quiet E f d (pre ++ copy)
+        join-quiet k =
+            record {
+              unread = λ z. at-front (read-split (E .operands) pre (front copy) d (subst (λ c. Read (E .operands) c d) front-joined z));
+              ends = λ z. at-end′ (read-split (E .operands) pre copy d z);
+            }
+          where
+            at-front : Read (E .operands) pre d ⊎ Read (E .operands) (front copy) d → ⊥
+            at-front (inl z) = k a .unread z
+            at-front (inr z) = copy-unread k (front-read (E .operands) copy d z)
+
+            at-end′ : Read (E .operands) pre d ⊎ Read (E .operands) copy d → (W (pre ++ copy) ≤ 1) × (f .uses d ≡ 1)
+            at-end′ (inl z) = absurd (k a .unread z)
+            at-end′ (inr z) = absurd (copy-unread k z)
+
+      pub joins-sparse : AllSparse P′
+      joins-sparse d one-d local-d =
+          sparse-set E f P a (pre ++ copy) d range (join-busy d one-d local-d) (join-quiet d one-d local-d) (sparse d one-d local-d)
