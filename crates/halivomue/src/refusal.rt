@@ -23,7 +23,7 @@ fn put_why(line: &mut [u8], at: usize, number: u32) -> usize
         1 => line::put(
             line,
             at,
-            b" is no multiple of 32 bytes long, or above 65536",
+            b" is not a multiple of 32 bytes long, or is longer than 65536",
         ),
         2 => line::put(
             line,
