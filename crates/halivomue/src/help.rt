@@ -18,7 +18,7 @@ fn put_usage(text: &mut [u8], at: usize) -> usize
 }
 
 pub fn usage() -> Status {
-    let mut text = [0u8; line::ROOM];
+    let mut text = [0u8; 1024];
     let n = put_usage(&mut text, 0);
     io::write_all(STDERR_FILENO, &text[..n]);
     Status::Usage
@@ -29,7 +29,7 @@ pub fn version() -> Status {
 }
 
 pub fn help() -> Status {
-    let mut text = [0u8; line::ROOM];
+    let mut text = [0u8; 1024];
     let n = put_usage(&mut text, 0);
     let n = line::put(
         &mut text,
@@ -66,13 +66,13 @@ pub fn help() -> Status {
 
 // A word that is no command, or no option.
 pub fn unknown(what: &[u8], word: &[u8]) -> Status {
-    let mut text = [0u8; line::ROOM];
-    let n = line::put(&mut text, 0, b"halivomue: unknown ");
-    let n = line::put(&mut text, n, what);
-    let n = line::put(&mut text, n, b" ");
-    let n = quote::put_name(&mut text, n, word);
-    let n = line::put(&mut text, n, b"\n");
+    let mut text = [0u8; 1024];
+    let n = quote::put_name(&mut text, 0, word);
+    io::write_all(STDERR_FILENO, b"halivomue: unknown ");
+    io::write_all(STDERR_FILENO, what);
+    io::write_all(STDERR_FILENO, b" ");
     io::write_all(STDERR_FILENO, &text[..n]);
+    io::write_all(STDERR_FILENO, b"\n");
     usage()
 }
 

@@ -1,19 +1,13 @@
 use Prim.Native.Nat.{_-_}
 use borrow.Author.Needs.{needs}
-use Rattle.halivomue.proofs.files.answer_all.Statement.{statement}
-use Rattle.halivomue.proofs.files.answer_all.Tie as tie
+use Rattle.halivomue.proofs.files.answer_files.Statement.{statement}
+use Rattle.halivomue.proofs.files.answer_files.Tie as tie
 
 abbrev Inv-loop : tie.InvT-loop
-Inv-loop o question count good₀ i₀ good i = Unit {0}
+Inv-loop o ask count good₀ i₀ good i = Unit {0}
 
 abbrev μ-loop : tie.MeasureT-loop
-μ-loop o question count good₀ i₀ good i = count - i
-
-answer-input-requires : tie.Need-answer-input-requires Inv-loop μ-loop
-answer-input-requires c κs = search needs
-
-returns : tie.Need-returns Inv-loop μ-loop
-returns c = search needs
+μ-loop o ask count good₀ i₀ good i = count - i
 
 arg-count-requires : tie.Need-arg-count-requires Inv-loop μ-loop
 arg-count-requires c κs = search needs
@@ -27,8 +21,8 @@ is-file-requires c κs = search needs
 answer-argument-requires : tie.Need-answer-argument-requires Inv-loop μ-loop
 answer-argument-requires c κs = search needs
 
-returns-2 : tie.Need-returns-2 Inv-loop μ-loop
-returns-2 c = search needs
+returns : tie.Need-returns Inv-loop μ-loop
+returns c = search needs
 
 add-i : tie.Need-add-i Inv-loop μ-loop
 add-i c = search needs
@@ -42,24 +36,22 @@ loop-again c = search needs
 of-requires : tie.Need-of-requires Inv-loop μ-loop
 of-requires c κs = search needs
 
-returns-3 : tie.Need-returns-3 Inv-loop μ-loop
-returns-3 c = search needs
+returns-2 : tie.Need-returns-2 Inv-loop μ-loop
+returns-2 c = search needs
 
-pub answer-all-spec : {M : Type 1} → statement M
-answer-all-spec =
+pub answer-files-spec : {M : Type 1} → statement M
+answer-files-spec =
     tie.close
     (tie.spec
     Inv-loop
     μ-loop
-    answer-input-requires
-    returns
     arg-count-requires
     loop-holds
     is-file-requires
     answer-argument-requires
-    returns-2
+    returns
     add-i
     loop-less
     loop-again
     of-requires
-    returns-3)
+    returns-2)
