@@ -39,8 +39,8 @@ def function(text, name):
 
 
 def uncommented(text):
-    """The text with comments blanked, places kept."""
-    return re.sub(r"//[^\n]*", lambda m: " " * len(m[0]), text)
+    """The text with comments and the tally's probes blanked, places kept."""
+    return re.sub(r"//[^\n]*|crate::probe::(hop|br|decided|kept|turned)\([^\n]*", lambda m: " " * len(m[0]), text)
 
 
 def spots(text, start, end, pattern):

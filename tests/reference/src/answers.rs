@@ -42,7 +42,7 @@ pub fn line(s: &Stored) -> String {
 
 /// Bytes in hexadecimal; `z` and two digits stand for that many zero bytes (1 to 255), `-` for
 /// no bytes at all.
-fn packed(bytes: &[u8]) -> String {
+pub fn packed(bytes: &[u8]) -> String {
     let mut s = String::new();
     let mut at = 0;
     while at < bytes.len() {

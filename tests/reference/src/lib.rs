@@ -4,16 +4,21 @@
 
 pub mod answer;
 pub mod answers;
+pub mod buffer;
 pub mod cases;
 pub mod draft;
 pub mod generate;
+pub mod library;
+pub mod limits;
 pub mod listing;
 pub mod machine;
 pub mod procedure;
 pub mod read;
 pub mod record;
+pub mod reduce;
 pub mod self_test;
 pub mod stream;
+pub mod tally;
 pub mod tidy;
 
 #[cfg(published)]
@@ -27,8 +32,7 @@ use published as inst;
 
 #[cfg(published)]
 mod opt;
-#[cfg(published)]
-mod probe;
+pub mod probe;
 #[cfg(published)]
 mod program;
 #[cfg(published)]
