@@ -233,7 +233,7 @@ def all_faults(cfg, inst):
     plain = uncommented(cfg)
     for name in STEPS:
         found += by_rules("cfg.rs", name, plain, *function(plain, name))
-    found += by_hand(cfg)
+    found += by_hand(plain)
     found += roles(uncommented(inst))
     seen = set()
     for f in found:
