@@ -73,3 +73,14 @@ fn unpacked(s: &str) -> Vec<u8> {
     }
     out
 }
+
+#[cfg(test)]
+mod tests {
+    use super::*;
+
+    #[test]
+    fn every_stored_line_reads_back() {
+        let lines = include_str!("../answers.txt").lines();
+        lines.for_each(|text| assert_eq!(line(&parse(text)), text));
+    }
+}

@@ -85,3 +85,72 @@ fn untouched(out: &[u8], range: std::ops::Range<usize>) -> bool {
 fn restore(out: &mut [u8], range: std::ops::Range<usize>) {
     out[range.clone()].copy_from_slice(&FILLING[range]);
 }
+
+#[cfg(test)]
+mod tests {
+    use super::*;
+    use crate::library::Function;
+
+    /// 64 bytes of ones, or refused with 9.
+    fn ones(room: usize) -> Shortening {
+        match room {
+            0..64 => Shortening { number: 9, ..Shortening::default() },
+            _ => Shortening { length: 64, moved: 1, ..Shortening::default() },
+        }
+    }
+
+    unsafe extern "C" fn right(_: *const u8, _: usize, out: *mut u8, room: usize) -> Shortening {
+        let told = ones(room);
+        unsafe { out.write_bytes(1, told.length) };
+        told
+    }
+
+    unsafe extern "C" fn past(_: *const u8, _: usize, out: *mut u8, room: usize) -> Shortening {
+        let told = ones(room);
+        unsafe { out.write_bytes(1, told.length + usize::from(told.length < room)) };
+        told
+    }
+
+    unsafe extern "C" fn before(_: *const u8, _: usize, out: *mut u8, room: usize) -> Shortening {
+        unsafe { out.sub(1).write_bytes(1, ones(room).length + 1) };
+        ones(room)
+    }
+
+    unsafe extern "C" fn on_refusal(_: *const u8, _: usize, out: *mut u8, room: usize) -> Shortening {
+        unsafe { out.write_bytes(1, room.min(64)) };
+        ones(room)
+    }
+
+    unsafe extern "C" fn short(_: *const u8, _: usize, out: *mut u8, room: usize) -> Shortening {
+        unsafe { out.write_bytes(1, ones(room).length.saturating_sub(1)) };
+        ones(room)
+    }
+
+    unsafe extern "C" fn into_input(bytes: *const u8, _: usize, out: *mut u8, room: usize) -> Shortening {
+        unsafe { bytes.cast_mut().write(3) };
+        unsafe { right(bytes, 0, out, room) }
+    }
+
+    unsafe extern "C" fn never_nine(_: *const u8, _: usize, out: *mut u8, room: usize) -> Shortening {
+        unsafe { out.write_bytes(1, room.min(64)) };
+        Shortening { length: room.min(64), moved: 1, ..Shortening::default() }
+    }
+
+    /// At which of these rooms the library differs: nothing, one byte less, just enough, more.
+    fn differs(function: Function) -> [bool; 4] {
+        let answer = Answer { moved: 1, output: vec![1; 64], ..Answer::default() };
+        let mut buffer = Buffer::default();
+        [0, 63, 64, 100].map(|room| ask(Library::of(function), &mut buffer, &[5; 32], room, &answer, 3).is_err())
+    }
+
+    #[test]
+    fn every_byte_is_compared() {
+        assert_eq!(differs(right), [false; 4]);
+        assert_eq!(differs(past), [false, true, false, true]);
+        assert_eq!(differs(before), [true; 4]);
+        assert_eq!(differs(on_refusal), [false, true, false, false]);
+        assert_eq!(differs(short), [false, false, true, true]);
+        assert_eq!(differs(into_input), [true; 4]);
+        assert_eq!(differs(never_nine), [true, true, false, false]);
+    }
+}

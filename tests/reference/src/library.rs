@@ -29,7 +29,7 @@ impl From<&Answer> for Shortening {
     }
 }
 
-type Function = unsafe extern "C" fn(*const u8, usize, *mut u8, usize) -> Shortening;
+pub type Function = unsafe extern "C" fn(*const u8, usize, *mut u8, usize) -> Shortening;
 
 #[derive(Clone, Copy)]
 pub struct Library(Function);
@@ -61,6 +61,12 @@ impl Library {
         }
         // It has the signature that include/halivomue.h gives it.
         Ok(Library(unsafe { std::mem::transmute::<*mut c_void, Function>(function) }))
+    }
+
+    /// A library of this one function.
+    #[cfg(test)]
+    pub fn of(function: Function) -> Library {
+        Library(function)
     }
 
     /// The library that HALIVOMUE_LIBRARY names.

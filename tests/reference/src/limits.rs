@@ -207,3 +207,21 @@ fn longest(g: &mut Rng) -> Draft {
     }
     d.with_statements(10)
 }
+
+#[cfg(test)]
+mod tests {
+    use super::*;
+    use crate::read::read;
+
+    /// Files on both sides of each limit on records, and of the smaller ones of shortening.
+    #[test]
+    fn limits_are_met_and_passed() {
+        let files: Vec<Vec<u8>> = (0..2000).map(|seed| of_records(&mut Rng::new(seed))).collect();
+        let counts: Vec<[usize; 6]> = files.iter().filter_map(|f| read(f).ok()).collect();
+        for (class, limit) in [(0, 480), (0, 756), (1, 160), (3, 480), (3, 756), (4, 128), (5, 128)] {
+            assert!(counts.iter().any(|c| c[class] == limit), "class {} at {limit}", class + 1);
+        }
+        assert!(counts.iter().any(|c| c[0] == 481) && counts.iter().any(|c| c[3] == 481));
+        assert!(files.iter().any(|f| read(f) == Err((3, 0))));
+    }
+}
