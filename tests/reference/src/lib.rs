@@ -31,7 +31,11 @@ mod published {
 use published as inst;
 
 #[cfg(published)]
+pub mod bench;
+#[cfg(published)]
 mod opt;
+#[cfg(published)]
+pub mod plain;
 pub mod probe;
 #[cfg(published)]
 mod program;

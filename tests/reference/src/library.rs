@@ -31,8 +31,20 @@ impl From<&Answer> for Shortening {
 
 pub type Function = unsafe extern "C" fn(*const u8, usize, *mut u8, usize) -> Shortening;
 
+#[repr(C)]
+#[derive(Clone, Copy, PartialEq, Eq, Debug)]
+pub struct Reading {
+    pub number: u32,
+    pub record: u32,
+}
+
+type Reader = unsafe extern "C" fn(*const u8, usize) -> Reading;
+
 #[derive(Clone, Copy)]
-pub struct Library(Function);
+pub struct Library {
+    shorten: Function,
+    read: Option<Reader>,
+}
 
 unsafe extern "C" {
     fn dlopen(name: *const c_char, flags: c_int) -> *mut c_void;
@@ -59,14 +71,17 @@ impl Library {
         if function.is_null() {
             return Err(dl_error());
         }
-        // It has the signature that include/halivomue.h gives it.
-        Ok(Library(unsafe { std::mem::transmute::<*mut c_void, Function>(function) }))
+        let reader = unsafe { dlsym(library, c"halivomue_read".as_ptr()) };
+        // They have the signatures that include/halivomue.h gives them.
+        let shorten = unsafe { std::mem::transmute::<*mut c_void, Function>(function) };
+        let read = unsafe { std::mem::transmute::<*mut c_void, Option<Reader>>(reader) };
+        Ok(Library { shorten, read })
     }
 
     /// A library of this one function.
     #[cfg(test)]
     pub fn of(function: Function) -> Library {
-        Library(function)
+        Library { shorten: function, read: None }
     }
 
     /// The library that HALIVOMUE_LIBRARY names.
@@ -78,6 +93,13 @@ impl Library {
     #[inline]
     pub fn shorten(self, bytes: &[u8], out: &mut [u8]) -> Shortening {
         // It only looks at these bytes and only writes to this buffer.
-        unsafe { (self.0)(bytes.as_ptr(), bytes.len(), out.as_mut_ptr(), out.len()) }
+        unsafe { (self.shorten)(bytes.as_ptr(), bytes.len(), out.as_mut_ptr(), out.len()) }
+    }
+
+    /// What Read says, where the library has it.
+    #[inline]
+    pub fn read(self, bytes: &[u8]) -> Option<Reading> {
+        // It only looks at these bytes.
+        self.read.map(|read| unsafe { read(bytes.as_ptr(), bytes.len()) })
     }
 }

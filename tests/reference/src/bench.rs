@@ -1,0 +1,230 @@
+//! The benchmark: a library's `halivomue_shorten` beside the published Rust, in turns.
+
+use crate::draft::*;
+use crate::generate::{Rng, Shape};
+use crate::library::{Library, Shortening};
+use crate::plain::{Ready, shorten_into};
+use crate::record::{RECORD, Record, kind};
+use std::ffi::c_int;
+use std::hint::black_box;
+use std::time::Duration;
+
+pub const SIZES: [usize; 5] = [10, 50, 100, 240, 480];
+
+/// What the files are like.
+#[derive(Clone, Copy, PartialEq, Eq, Debug)]
+pub enum Sort {
+    /// Loops whose test is copied into both blocks that go there.
+    Copies,
+    /// The same loops with a test that is no small block.
+    Loops,
+    /// No branch back.
+    Straight,
+    /// Drawn at random, rich in branches.
+    Drawn,
+}
+
+pub const SORTS: [Sort; 4] = [Sort::Copies, Sort::Loops, Sort::Straight, Sort::Drawn];
+
+/// Files of exactly so many instructions.
+pub fn files(sort: Sort, n: usize) -> Vec<Vec<u8>> {
+    match sort {
+        Sort::Drawn => (0..16).map(|seed| drawn(n, seed).bytes()).collect(),
+        _ => vec![groups(sort, n).bytes()],
+    }
+}
+
+fn drawn(n: usize, seed: u64) -> Draft {
+    let mut g = Rng::new(seed);
+    let shape = Shape { blocks: (n / 4).max(2), registers: n / 6 + 3, most: n, body: 0, ..Shape::large(&mut g) };
+    let mut d = shape.draft(&mut g);
+    while d.instructions() < n {
+        let b = g.below(d.blocks.len());
+        d.blocks[b].insert(0, Record { statement: 7, ..stmt() });
+    }
+    d.registers.truncate(480);
+    d
+}
+
+/// Groups of ten instructions in three blocks, each group going on to the next, then a Ret.
+fn groups(sort: Sort, n: usize) -> Draft {
+    let mut d = Draft { registers: vec![0; 3], ..Draft::default() };
+    for k in 0..n / 10 {
+        let [before, step, test] = [3 * k as u32, 3 * k as u32 + 1, 3 * k as u32 + 2];
+        let condition = d.registers.len() as u32;
+        d.registers.extend([0, 0]);
+        let load = ins(kind::LOAD, 2, &[0, 1]);
+        let first = vec![stmt(), load, stmt(), if sort == Sort::Straight { cond_br(2, step, test) } else { br(test) }];
+        let again = vec![ins(kind::STORE, 2, &[1, 0]), ins(kind::BIN, 0, &[2, 2, 0]), br(test)];
+        let middle = if sort == Sort::Copies { mov(condition + 1, condition) } else { load };
+        let last = match sort {
+            Sort::Straight => br(before + 3),
+            _ => cond_br(condition, step, before + 3),
+        };
+        d.blocks.extend([first, again, vec![cmp(2, condition, 0, 2), middle, last]]);
+    }
+    d.blocks[0].remove(0);
+    d.blocks.push(vec![ret()]);
+    d.with_statements(100)
+}
+
+const TURN: Duration = Duration::from_millis(10);
+const TURNS: usize = 15;
+
+/// The best time of each for one pass over the files, taken in turns.
+fn best<const N: usize>(functions: [&dyn Fn(); N]) -> [Duration; N] {
+    let passes = functions.map(|f| {
+        let once = time(10, f);
+        (TURN.as_nanos() / once.as_nanos().max(1)).clamp(1, 1_000_000) as u32
+    });
+    let mut best = [Duration::MAX; N];
+    for _ in 0..TURNS {
+        for k in 0..N {
+            best[k] = best[k].min(time(passes[k], functions[k]));
+        }
+    }
+    best
+}
+
+fn time(passes: u32, function: &dyn Fn()) -> Duration {
+    let start = processor_time();
+    (0..passes).for_each(|_| function());
+    (processor_time() - start) / passes
+}
+
+/// What this thread has taken of a processor: other programs on the machine don't count.
+fn processor_time() -> Duration {
+    #[repr(C)]
+    struct Time {
+        seconds: i64,
+        nanoseconds: i64,
+    }
+    unsafe extern "C" {
+        fn clock_gettime(clock: c_int, time: *mut Time) -> c_int;
+    }
+    const THREAD: c_int = 3;
+    let mut time = Time { seconds: 0, nanoseconds: 0 };
+    // On 64-bit Linux a timespec is two such numbers.
+    let failed = unsafe { clock_gettime(THREAD, &mut time) };
+    assert_eq!(failed, 0, "no clock");
+    Duration::new(time.seconds as u64, time.nanoseconds as u32)
+}
+
+/// Times of one file, in nanoseconds.
+struct Row {
+    library: f64,
+    rust: f64,
+    /// The library without its reading, where it can be told; the steps take no longer.
+    library_steps: Option<f64>,
+    run: f64,
+}
+
+fn row(library: Library, files: &[Vec<u8>]) -> Row {
+    let out = std::cell::RefCell::new(vec![0; 65_536]);
+    let ready: Vec<Ready> = files.iter().map(|f| Ready::new(f)).collect();
+    let each = |f: &dyn Fn(&[u8], &mut [u8]) -> Shortening| {
+        files.iter().for_each(|file| {
+            black_box(f(black_box(file), &mut out.borrow_mut()));
+        })
+    };
+    let [library_time, rust, read, copy_and_run, copy] = best([
+        &|| each(&|bytes, out| library.shorten(bytes, out)),
+        &|| each(&shorten_into),
+        &|| {
+            files.iter().for_each(|file| {
+                black_box(library.read(black_box(file)));
+            })
+        },
+        &|| ready.iter().for_each(|r| drop(black_box(black_box(r).copy_and_run()))),
+        &|| ready.iter().for_each(|r| drop(black_box(black_box(r).copy()))),
+    ]);
+    let each = |time: Duration| time.as_secs_f64() * 1e9 / files.len() as f64;
+    Row {
+        library: each(library_time),
+        rust: each(rust),
+        library_steps: library.read(&[]).map(|_| each(library_time) - each(read)),
+        run: each(copy_and_run) - each(copy),
+    }
+}
+
+/// All sorts and sizes.
+pub fn table(library: Library) {
+    println!("{:>16} {:>23} {:>6} {:>24} {:>6}", "", "(a) bytes to bytes, ns", "ratio", "(b) steps, ns", "ratio");
+    println!(
+        "{:>8} {:>7} {:>11} {:>11} {:>6} {:>12} {:>11} {:>6}",
+        "files", "instr.", "library", "Rust", "", "library at", "run", ""
+    );
+    println!("{:>57} {:>6}", "", "most");
+    for sort in SORTS {
+        let mut by_size = Vec::new();
+        for n in SIZES {
+            let r = row(library, &files(sort, n));
+            let steps =
+                r.library_steps.map_or(("-".into(), "-".into()), |s| (format!("{s:.0}"), format!("{:.2}", r.run / s)));
+            println!(
+                "{:>8} {n:>7} {:>11.0} {:>11.0} {:>6.2} {:>12} {:>11.0} {:>6}",
+                format!("{sort:?}").to_lowercase(),
+                r.library,
+                r.rust,
+                r.rust / r.library,
+                steps.0,
+                r.run,
+                steps.1
+            );
+            by_size.push(r);
+        }
+        let grows = |f: &dyn Fn(&Row) -> f64| f(&by_size[4]) / f(&by_size[3]);
+        println!("{:>8} (c) from 240 to 480: library {:.2}, Rust {:.2}", "", grows(&|r| r.library), grows(&|r| r.rust));
+    }
+    println!("A ratio is above 1 where the library is the faster.");
+}
+
+/// The call that callgrind counts.
+#[inline(never)]
+#[unsafe(no_mangle)]
+pub fn counted_library(library: Library, bytes: &[u8], out: &mut [u8]) -> Shortening {
+    black_box(library.shorten(bytes, out))
+}
+
+/// The same with the Rust.
+#[inline(never)]
+#[unsafe(no_mangle)]
+pub fn counted_rust(_: Library, bytes: &[u8], out: &mut [u8]) -> Shortening {
+    black_box(shorten_into(bytes, out))
+}
+
+/// One file shortened once, to be counted; prints its instructions and records.
+pub fn once(library: Library, which: &str, sort: &str, n: usize) {
+    let sort = SORTS.into_iter().find(|s| format!("{s:?}").to_lowercase() == sort).expect("a sort of files");
+    let bytes = files(sort, n).remove(0);
+    let mut out = vec![0; 65_536];
+    match which {
+        "library" => counted_library(library, black_box(&bytes), &mut out),
+        _ => counted_rust(library, black_box(&bytes), &mut out),
+    };
+    println!("{n} {}", bytes.len() / RECORD);
+}
+
+#[cfg(test)]
+mod tests {
+    use super::*;
+    use crate::shorten::shorten;
+
+    #[test]
+    fn files_are_what_they_are_called() {
+        for n in SIZES {
+            for sort in SORTS {
+                for bytes in files(sort, n) {
+                    let a = shorten(&bytes, 65_536);
+                    let code = bytes.chunks_exact(RECORD).filter(|r| r[0] == 4).count();
+                    assert_eq!((a.number, code), (0, n), "{sort:?} {n}");
+                    if matches!(sort, Sort::Loops | Sort::Straight) {
+                        assert_eq!(a.grown, 0, "{sort:?} {n}");
+                    }
+                }
+            }
+            let grown = shorten(&files(Sort::Copies, n)[0], 65_536).grown;
+            assert!(grown as usize * 100 >= 55 * n, "{n}: grown {grown}");
+        }
+    }
+}
