@@ -17,6 +17,7 @@ pub mod read;
 pub mod record;
 pub mod reduce;
 pub mod self_test;
+pub mod sorts;
 pub mod stream;
 pub mod tally;
 pub mod tidy;
@@ -30,8 +31,6 @@ mod published {
 #[cfg(published)]
 use published as inst;
 
-#[cfg(published)]
-pub mod bench;
 #[cfg(published)]
 mod opt;
 #[cfg(published)]

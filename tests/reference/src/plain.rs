@@ -5,12 +5,13 @@ use crate::inst::{Reg, RegTy};
 use crate::library::Shortening;
 use crate::procedure::Procedure;
 use crate::program::*;
-use crate::read::read;
+use crate::read::Refusal;
 use crate::record::*;
 use crate::shorten::{MAX_INSTRUCTIONS, MAX_REGISTERS, REG_TYPES, case_table, func, inst, record};
 use crate::{opt, probe};
 
-pub fn shorten_into(bytes: &[u8], out: &mut [u8]) -> Shortening {
+/// From the counts of classes 1 to 6 that a reader gives, or its refusal.
+pub fn shorten_into(read: impl Fn(&[u8]) -> Result<[usize; 6], Refusal>, bytes: &[u8], out: &mut [u8]) -> Shortening {
     let refused = |number, record| Shortening { number, record, ..Shortening::default() };
     let count = match read(bytes) {
         Ok(count) => count,
@@ -121,6 +122,7 @@ mod tests {
     use super::*;
     use crate::cases::cases;
     use crate::generate::{FAMILIES, file};
+    use crate::read::read;
     use crate::shorten::shorten;
 
     #[test]
@@ -129,7 +131,7 @@ mod tests {
         for bytes in cases().into_iter().map(|c| c.bytes).chain(drawn) {
             let answer = shorten(&bytes, 65_536);
             let mut out = vec![0; 65_536];
-            assert_eq!(shorten_into(&bytes, &mut out), Shortening::from(&answer));
+            assert_eq!(shorten_into(read, &bytes, &mut out), Shortening::from(&answer));
             assert_eq!(out[..answer.output.len()], answer.output[..]);
         }
     }

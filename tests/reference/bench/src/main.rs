@@ -1,71 +1,28 @@
-//! The benchmark: a library's `halivomue_shorten` beside the published Rust, in turns.
+//! Times a library's `halivomue_shorten` beside the published Rust with a plain reader and writer.
+//! Usage: bench-shorten                             all sorts of files and sizes, as a table
+//!        bench-shorten library|rust <sort> <n>     one file of n instructions once, to be counted
+//! HALIVOMUE_LIBRARY names the shared object. To be built with `--profile speed`.
 
-use crate::draft::*;
-use crate::generate::{Rng, Shape};
-use crate::library::{Library, Shortening};
-use crate::plain::{Ready, shorten_into};
-use crate::record::{RECORD, Record, kind};
+use checks::reader;
+use halivomue_reference::library::{Library, Shortening};
+use halivomue_reference::plain::{self, Ready};
+use halivomue_reference::read::Refusal;
+use halivomue_reference::record::RECORD;
+use halivomue_reference::sorts::{SIZES, SORTS, files};
 use std::ffi::c_int;
 use std::hint::black_box;
 use std::time::Duration;
 
-pub const SIZES: [usize; 5] = [10, 50, 100, 240, 480];
-
-/// What the files are like.
-#[derive(Clone, Copy, PartialEq, Eq, Debug)]
-pub enum Sort {
-    /// Loops whose test is copied into both blocks that go there.
-    Copies,
-    /// The same loops with a test that is no small block.
-    Loops,
-    /// No branch back.
-    Straight,
-    /// Drawn at random, rich in branches.
-    Drawn,
-}
-
-pub const SORTS: [Sort; 4] = [Sort::Copies, Sort::Loops, Sort::Straight, Sort::Drawn];
-
-/// Files of exactly so many instructions.
-pub fn files(sort: Sort, n: usize) -> Vec<Vec<u8>> {
-    match sort {
-        Sort::Drawn => (0..16).map(|seed| drawn(n, seed).bytes()).collect(),
-        _ => vec![groups(sort, n).bytes()],
+/// The counts of classes 1 to 6, from the Rust reader that Read is timed beside.
+fn read(bytes: &[u8]) -> Result<[usize; 6], Refusal> {
+    match reader::Procedure::read(bytes) {
+        Ok(p) => Ok([p.registers, p.blocks, p.bodies, p.code, p.operands, p.arms].map(<[_]>::len)),
+        Err(refusal) => Err((refusal.number, refusal.record)),
     }
 }
 
-fn drawn(n: usize, seed: u64) -> Draft {
-    let mut g = Rng::new(seed);
-    let shape = Shape { blocks: (n / 4).max(2), registers: n / 6 + 3, most: n, body: 0, ..Shape::large(&mut g) };
-    let mut d = shape.draft(&mut g);
-    while d.instructions() < n {
-        let b = g.below(d.blocks.len());
-        d.blocks[b].insert(0, Record { statement: 7, ..stmt() });
-    }
-    d.registers.truncate(480);
-    d
-}
-
-/// Groups of ten instructions in three blocks, each group going on to the next, then a Ret.
-fn groups(sort: Sort, n: usize) -> Draft {
-    let mut d = Draft { registers: vec![0; 3], ..Draft::default() };
-    for k in 0..n / 10 {
-        let [before, step, test] = [3 * k as u32, 3 * k as u32 + 1, 3 * k as u32 + 2];
-        let condition = d.registers.len() as u32;
-        d.registers.extend([0, 0]);
-        let load = ins(kind::LOAD, 2, &[0, 1]);
-        let first = vec![stmt(), load, stmt(), if sort == Sort::Straight { cond_br(2, step, test) } else { br(test) }];
-        let again = vec![ins(kind::STORE, 2, &[1, 0]), ins(kind::BIN, 0, &[2, 2, 0]), br(test)];
-        let middle = if sort == Sort::Copies { mov(condition + 1, condition) } else { load };
-        let last = match sort {
-            Sort::Straight => br(before + 3),
-            _ => cond_br(condition, step, before + 3),
-        };
-        d.blocks.extend([first, again, vec![cmp(2, condition, 0, 2), middle, last]]);
-    }
-    d.blocks[0].remove(0);
-    d.blocks.push(vec![ret()]);
-    d.with_statements(100)
+fn shorten_into(bytes: &[u8], out: &mut [u8]) -> Shortening {
+    plain::shorten_into(read, bytes, out)
 }
 
 const TURN: Duration = Duration::from_millis(10);
@@ -148,7 +105,7 @@ fn row(library: Library, files: &[Vec<u8>]) -> Row {
 }
 
 /// All sorts and sizes.
-pub fn table(library: Library) {
+fn table(library: Library) {
     println!("{:>16} {:>23} {:>6} {:>24} {:>6}", "", "(a) bytes to bytes, ns", "ratio", "(b) steps, ns", "ratio");
     println!(
         "{:>8} {:>7} {:>11} {:>11} {:>6} {:>12} {:>11} {:>6}",
@@ -182,19 +139,19 @@ pub fn table(library: Library) {
 /// The call that callgrind counts.
 #[inline(never)]
 #[unsafe(no_mangle)]
-pub fn counted_library(library: Library, bytes: &[u8], out: &mut [u8]) -> Shortening {
+fn counted_library(library: Library, bytes: &[u8], out: &mut [u8]) -> Shortening {
     black_box(library.shorten(bytes, out))
 }
 
 /// The same with the Rust.
 #[inline(never)]
 #[unsafe(no_mangle)]
-pub fn counted_rust(_: Library, bytes: &[u8], out: &mut [u8]) -> Shortening {
+fn counted_rust(_: Library, bytes: &[u8], out: &mut [u8]) -> Shortening {
     black_box(shorten_into(bytes, out))
 }
 
 /// One file shortened once, to be counted; prints its instructions and records.
-pub fn once(library: Library, which: &str, sort: &str, n: usize) {
+fn once(library: Library, which: &str, sort: &str, n: usize) {
     let sort = SORTS.into_iter().find(|s| format!("{s:?}").to_lowercase() == sort).expect("a sort of files");
     let bytes = files(sort, n).remove(0);
     let mut out = vec![0; 65_536];
@@ -205,26 +162,12 @@ pub fn once(library: Library, which: &str, sort: &str, n: usize) {
     println!("{n} {}", bytes.len() / RECORD);
 }
 
-#[cfg(test)]
-mod tests {
-    use super::*;
-    use crate::shorten::shorten;
-
-    #[test]
-    fn files_are_what_they_are_called() {
-        for n in SIZES {
-            for sort in SORTS {
-                for bytes in files(sort, n) {
-                    let a = shorten(&bytes, 65_536);
-                    let code = bytes.chunks_exact(RECORD).filter(|r| r[0] == 4).count();
-                    assert_eq!((a.number, code), (0, n), "{sort:?} {n}");
-                    if matches!(sort, Sort::Loops | Sort::Straight) {
-                        assert_eq!(a.grown, 0, "{sort:?} {n}");
-                    }
-                }
-            }
-            let grown = shorten(&files(Sort::Copies, n)[0], 65_536).grown;
-            assert!(grown as usize * 100 >= 55 * n, "{n}: grown {grown}");
-        }
+fn main() {
+    let library = Library::from_environment().unwrap_or_else(|why| panic!("{why}"));
+    let arguments: Vec<String> = std::env::args().skip(1).collect();
+    match arguments.as_slice() {
+        [] => table(library),
+        [which, sort, n] => once(library, which, sort, n.parse().expect("a number is due")),
+        _ => eprintln!("usage: bench-shorten [library|rust <sort> <instructions>]"),
     }
 }
