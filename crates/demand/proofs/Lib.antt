@@ -14,3 +14,4 @@ pub mod Counted
 pub mod CopySparse
 pub mod Sparse
 pub mod Join
+pub mod Threads
