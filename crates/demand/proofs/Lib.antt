@@ -15,3 +15,4 @@ pub mod CopySparse
 pub mod Sparse
 pub mod Join
 pub mod Threads
+pub mod Reached
