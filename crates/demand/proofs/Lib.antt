@@ -16,3 +16,4 @@ pub mod Sparse
 pub mod Join
 pub mod Threads
 pub mod Reached
+pub mod Emptied
