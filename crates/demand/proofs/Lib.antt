@@ -17,3 +17,4 @@ pub mod Join
 pub mod Threads
 pub mod Reached
 pub mod Emptied
+pub mod Rescued
