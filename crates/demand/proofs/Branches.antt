@@ -16,7 +16,8 @@ use Rattle.roles.specs.Roles.{defsOf, readsOf, noList}
 use Rattle.word.specs.Word.{choose}
 use Rattle.ends.specs.declared.End.{End}
 use Rattle.ends.specs.declared.End.the-variants as e
-use Rattle.ends.specs.Ends.{viewOf, endOf, front, withInst, withEnd}
+use Rattle.ends.specs.Ends.{viewOf, endOf, front, withEnd}
+use Rattle.codec.specs.Codec.{withInst}
 use Rattle.machine.specs.Machine.{Regs, effect, goes}
 use Rattle.demand.specs.Setting.{terminatorOf, In, Each, Front, Setting, does, defsAt, readsAt, Written, Read, Exposed, Hidden, Fine, Loaded, Behind}
 use Rattle.demand.proofs.Basics.{clash}

@@ -12,7 +12,8 @@ use Rattle.inst.specs.declared.Code.{Code}
 use Rattle.inst.specs.declared.Inst.{Inst}
 use Rattle.ends.specs.declared.End.{End}
 use Rattle.ends.specs.declared.End.the-variants as e
-use Rattle.ends.specs.Ends.{viewOf, endOf, loneOf, front, withInst, withEnd}
+use Rattle.ends.specs.Ends.{viewOf, endOf, loneOf, front, withEnd}
+use Rattle.codec.specs.Codec.{withInst}
 use Rattle.demand.specs.Setting.{In, Each, Front, defsAt, readsAt, Written, Read, Exposed}
 use Rattle.demand.proofs.Basics.{dec-in}
 

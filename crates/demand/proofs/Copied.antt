@@ -16,7 +16,7 @@ use Rattle.inst.specs.declared.Inst.the-variants as i
 use Rattle.roles.specs.Roles.{defsOf, usesOf, listOf, readsOf, noList}
 use Rattle.procedure.specs.Lists.{found, valueOr}
 use Rattle.ends.specs.Forms.{Fixed, word, real, address, varying, formOf, fixedOf, isFixed}
-use Rattle.ends.specs.Ends.{withInst}
+use Rattle.codec.specs.Codec.{withInst}
 use Rattle.steps.specs.Small.{dupable, smallEndKind, smallEnd, copyable}
 use Rattle.steps.specs.Facts.{Facts}
 use Rattle.steps.specs.Copy.{exchanged, How, leftOut, renumbered, kept, howFixed, howSingle, howWritten, howOf, readThrough, renamed}

@@ -17,7 +17,8 @@ use Rattle.procedure.specs.Lists.{holds}
 use Rattle.word.specs.Word.{choose}
 use Rattle.ends.specs.declared.End.{End}
 use Rattle.ends.specs.declared.End.the-variants as e
-use Rattle.ends.specs.Ends.{viewOf, endOf, loneOf, front, withInst, withEnd}
+use Rattle.ends.specs.Ends.{viewOf, endOf, loneOf, front, withEnd}
+use Rattle.codec.specs.Codec.{withInst}
 use Rattle.steps.specs.EqualArms.{past, follow}
 use Rattle.steps.specs.Thread.{matching}
 use Rattle.machine.specs.Act.{Act}

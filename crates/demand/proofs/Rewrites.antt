@@ -19,7 +19,8 @@ use Rattle.procedure.specs.Lists.{holds}
 use Rattle.word.specs.Word.{choose}
 use Rattle.ends.specs.declared.End.{End}
 use Rattle.ends.specs.declared.End.the-variants as e
-use Rattle.ends.specs.Ends.{viewOf, endOf, loneOf, front, withInst, withEnd}
+use Rattle.ends.specs.Ends.{viewOf, endOf, loneOf, front, withEnd}
+use Rattle.codec.specs.Codec.{withInst}
 use Rattle.steps.specs.EqualArms.{follow, reachedFrom, Arms, joinIf, joinEnd, joinArms, joinFrom, equalArms}
 use Rattle.steps.specs.Facts.{Facts}
 use Rattle.steps.specs.Note.{Known, nothing, notes, sourceOf, valueOf}

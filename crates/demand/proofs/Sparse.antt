@@ -15,7 +15,8 @@ use Rattle.inst.specs.declared.Inst.{Inst}
 use Rattle.roles.specs.Roles.{defsOf, readsOf, listOf, noList}
 use Rattle.procedure.specs.Lists.{times, found, valueOr}
 use Rattle.procedure.specs.Counts.{writesIn}
-use Rattle.ends.specs.Ends.{front, withInst, withEnd}
+use Rattle.ends.specs.Ends.{front, withEnd}
+use Rattle.codec.specs.Codec.{withInst}
 use Rattle.steps.specs.Facts.{Facts}
 use Rattle.steps.specs.Copy.{How, leftOut, renumbered, kept, howOf, readThrough, written, renamed, place, copyFrom}
 use Rattle.demand.specs.Setting.{In, Each, Setting, defsAt, readsAt, Read, Exposed, Fine}
