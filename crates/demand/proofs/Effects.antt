@@ -18,7 +18,7 @@ use Rattle.roles.specs.Roles.{defsOf, usesOf, listOf, noList}
 use Rattle.procedure.specs.Procedure.{Arm, Table, tableAt, firstOf}
 use Rattle.ends.specs.declared.End.the-variants as e
 use Rattle.ends.specs.Forms.{Fixed, word, real, address, varying, formOf, fixedOf, isFixed}
-use Rattle.ends.specs.Ends.{viewOf}
+use Rattle.ends.specs.Ends.{terminatorOf, viewOf}
 use Rattle.steps.specs.Small.{dupable}
 use Rattle.steps.specs.Emit.{leads}
 use Rattle.word.specs.Word.{choose, compares, tests, within, armOf, targetOf}
@@ -27,7 +27,7 @@ use Rattle.inst.specs.declared.Code.{Code}
 use Rattle.machine.specs.Machine.{Address, Outside, Regs, End, Effect, writes, goes, ends, asks, returned, unreachable, effect, effectOf, stores, upd}
 use Rattle.machine.specs.Single.{given, constantOf}
 use Rattle.demand.proofs.Basics.{clash, clash-some, dec-in, upd-same, upd-other, stores-other}
-use Rattle.demand.specs.Setting.{terminatorOf, In, Setting, code, does, defsAt, readsAt, Fine, Loaded, Passes}
+use Rattle.demand.specs.Setting.{In, Setting, code, does, defsAt, readsAt, Fine, Loaded, Passes}
 
 -- an arm is one of the table's targets
 pub arm-in : (arms : List Arm) (d v : ℕ) → In (armOf arms d v) (map (λ a. a .target) arms ++ (d ∷ []))

@@ -13,13 +13,13 @@ use Rattle.inst.specs.declared.Inst.the-variants as i
 use Rattle.codec.specs.Codec.{blockOf}
 use Rattle.procedure.specs.Procedure.{Table, tableAt}
 use Rattle.ends.specs.declared.End.the-variants as e
-use Rattle.ends.specs.Ends.{viewOf, endOf}
+use Rattle.ends.specs.Ends.{terminatorOf, viewOf, endOf}
 use Rattle.steps.specs.Facts.{Facts}
 use Rattle.steps.specs.Emit.{leads, stays, emptied, emptyFrom, isRescued, rescuedOf, rescues, ontoFront}
 use Rattle.machine.specs.Act.{Act}
 use Rattle.machine.specs.Machine.{Regs, End, Effect, writes, goes, ends, asks, State, at, done, stores, shown, ranOut, answered, after, effect}
 use Rattle.machine.proofs.Shorter.{Mach, Shorter, Stretch, simulates, together, mach}
-use Rattle.demand.specs.Setting.{terminatorOf, In, Each, Front, Setting, code, does, defsAt, readsAt}
+use Rattle.demand.specs.Setting.{In, Each, Front, Setting, code, does, defsAt, readsAt}
 use Rattle.demand.proofs.Basics.{clash}
 use Rattle.demand.proofs.Effects.{Shape, constant, computed, acting, going, testing, casing, ending, shape, choose-in, arm-in}
 use Rattle.demand.proofs.Codes.{each-append}

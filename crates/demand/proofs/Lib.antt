@@ -18,3 +18,6 @@ pub mod Threads
 pub mod Reached
 pub mod Emptied
 pub mod Rescued
+pub mod Sums
+pub mod Arms
+pub mod Original
