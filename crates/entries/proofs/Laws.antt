@@ -171,3 +171,10 @@ module _ (n : ℕ) (l : List ℕ) (r v : ℕ) where
 -- both lists
 pub held-eq : {v w c e : List (ℕ × ℕ)} → v ≡ w → c ≡ e → _≡_ {A = Known} (record { values = v; copies = c }) (record { values = w; copies = e })
 held-eq p q = rw (p, q)
+
+pub entries-zero : (l : List ℕ) → entries 0 l ≡ []
+unfolding tabled
+entries-zero l = sym (entries-in 0 l (omega arith))
+
+pub added-in : (n : ℕ) (l : List ℕ) (x : ℕ × ℕ) → n < length l / 2 → added n l x ≡ entries n l ++ (x ∷ [])
+added-in n l x h = rw (lt-ltb n (length l / 2) h)

@@ -13,6 +13,7 @@ use Rattle.inst.specs.declared.Code.{Code}
 use Rattle.codec.specs.Codec.{instOf, codeOf}
 use Rattle.procedure.specs.Procedure.{codesOf}
 use Rattle.roles.specs.Roles.{defsOf}
+use Rattle.ends.specs.Forms.{formOf}
 use Rattle.steps.specs.Facts.{Facts}
 use Rattle.steps.specs.Note.{Known, forgetAll, sourceOf, learn, note, notes}
 
@@ -35,7 +36,7 @@ module _ (f : Facts) (l : List Code) (k : ℕ) (s : Known) {w : Known} where
 -- facts with the same kinds and constants give the same
 module _ (f g : Facts) (same : f .registers ≡ g .registers) (told : (r : ℕ) → f .const r ≡ g .const r) where
   learn-same : (k : Known) (x : Inst) → learn f k x ≡ learn g k x
-  unfolding learn
+  unfolding learn formOf
   learn-same k (i.Const d v) = refl
   learn-same k (i.Move d s) = rw (same, told (sourceOf k (s .0)))
   learn-same k (i.Bool op d x y) = rw (told (x .0), told (y .0))
