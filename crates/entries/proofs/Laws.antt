@@ -128,7 +128,8 @@ without-copies d (x ∷ xs) = rw (without-copies d xs)
 
 -- the first entry of a register
 module _ (r n k : ℕ) (l : List ℕ) where
-  found-cons : k < n → found r (drop k (tabled n (entry l))) ≡ cond (eqb (getD l (2 * k) 0) r) (some (getD l (2 * k + 1) 0)) (found r (drop (suc k) (tabled n (entry l))))
+  found-cons : k < n → found r (drop k (tabled n (entry l)))
+      ≡ cond (eqb (getD l (2 * k) 0) r) (some (getD l (2 * k + 1) 0)) (found r (drop (suc k) (tabled n (entry l))))
   unfolding found
   found-cons h =
       ap (found r) (drop-cons (tabled n (entry l)) k (entry l k) (rw (tabled-length (entry l) n) h))

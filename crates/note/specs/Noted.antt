@@ -8,7 +8,8 @@ use lib.ListN.{length}
 use Rattle.inst.specs.declared.BoolOp.{BoolOp}
 use Rattle.inst.specs.declared.BoolOp.the-variants as b
 use Rattle.steps.specs.Facts.{Facts}
-use Rattle.steps.specs.Note.{Known, sourceOf, noteMove}
+use Rattle.steps.specs.Note.{Known, sourceOf, valueOf, noteMove, boolOf}
+use Rattle.facts.specs.Storage.{factsIn}
 use Rattle.entries.specs.declared.Held.{Held}
 use Rattle.entries.specs.Storage.{heldIn}
 use Rattle.note.specs.declared.Noted.{Noted}
@@ -20,6 +21,12 @@ testOf b.And x y = x && y
 testOf b.Or x y = x || y
 testOf b.Xor x y = cond x (not y) y
 testOf b.Not x y = not x
+
+-- Bool, of what a table and some entries say of its operands
+abbrev pub boolIn : List ℕ → Held → List ℕ → BoolOp → ℕ → ℕ → Option ℕ
+boolIn facts h known op x y =
+    let value = valueOf (factsIn facts none 0) (heldIn h known []) in
+    boolOf op (value x) (value y)
 
 -- the entry that a known value makes
 abbrev pub newEntry : ℕ → Option ℕ → List (ℕ × ℕ)

@@ -4,10 +4,10 @@ ghost use mathlib.Core.List.{[], _∷_, _++_};
 ghost use mathlib.Core.Option.{none};
 ghost use Prim.Native.Nat.{_+_, _/_, _≤_, _<_};
 ghost use lib.ListN.{length};
-ghost use Rattle.steps.specs.Note.{learn as learnOf, alike, boolOf, valueOf};
+ghost use Rattle.steps.specs.Note.{learn as learnOf, alike};
 ghost use Rattle.facts.specs.Storage.{factsIn, wordIn};
 ghost use Rattle.entries.specs.Storage.{entries as entriesIn, heldIn};
-ghost use Rattle.note.specs.Noted.{Roomy, OneMore, moved, newEntry};
+ghost use Rattle.note.specs.Noted.{Roomy, OneMore, moved, newEntry, boolIn};
 use crate::bools;
 use entries::Held;
 use facts::Word;
@@ -44,7 +44,8 @@ fn learn_value(known: &mut [u64], n: usize, d: Reg, v: Word) -> usize
 // The copy that Move makes.
 fn learn_copy(copy: &mut [u32], n: usize, facts: &[u64], d: Reg, s: Reg) -> usize
     requires { ⌜ n < length (now copy) / 2 ⌝ }
-    ensures { λ z. ⌜ (entriesIn z (now (copy .exit)) ≡ entriesIn n (now (copy .entry)) ++ cond (alike (factsIn (now (facts .entry)) none 0) (d .0) (s .0)) ((d .0, s .0) ∷ []) []) × (z ≤ n + 1) ⌝ }
+    ensures { λ z. ⌜ (entriesIn z (now (copy .exit))
+        ≡ entriesIn n (now (copy .entry)) ++ cond (alike (factsIn (now (facts .entry)) none 0) (d .0) (s .0)) ((d .0, s .0) ∷ []) []) × (z ≤ n + 1) ⌝ }
 {
     if copies(facts, d, s) {
         return entries::add_copy(copy, n, d, s);
@@ -55,7 +56,8 @@ fn learn_copy(copy: &mut [u32], n: usize, facts: &[u64], d: Reg, s: Reg) -> usiz
 // Move d s: nothing of a register moved to itself.
 fn learn_move(known: &mut [u64], copy: &mut [u32], h: Held, facts: &[u64], d: Reg, s: Reg) -> Held
     requires { ⌜ Roomy h (now known) (now copy) ⌝ }
-    ensures { λ z. ⌜ (heldIn z (now (known .exit)) (now (copy .exit)) ≡ moved (factsIn (now (facts .entry)) none 0) (d .0) (s .0) (heldIn h (now (known .entry)) (now (copy .entry)))) × OneMore z h ⌝ }
+    ensures { λ z. ⌜ (heldIn z (now (known .exit)) (now (copy .exit))
+        ≡ moved (factsIn (now (facts .entry)) none 0) (d .0) (s .0) (heldIn h (now (known .entry)) (now (copy .entry)))) × OneMore z h ⌝ }
 {
     if d.0 == s.0 {
         return h;
@@ -78,7 +80,9 @@ fn learn_bool(
     b: Reg,
 ) -> usize
     requires { ⌜ h .known < length (now known) / 2 ⌝ }
-    ensures { λ z. ⌜ (entriesIn z (now (known .exit)) ≡ entriesIn (h .known) (now (known .entry)) ++ newEntry (d .0) (boolOf op (valueOf (factsIn (now (facts .entry)) none 0) (heldIn h (now (known .entry)) []) (a .0)) (valueOf (factsIn (now (facts .entry)) none 0) (heldIn h (now (known .entry)) []) (b .0)))) × (z ≤ h .known + 1) ⌝ }
+    ensures { λ z. ⌜ (entriesIn z (now (known .exit))
+        ≡ entriesIn (h .known) (now (known .entry)) ++ newEntry (d .0) (boolIn (now (facts .entry)) h (now (known .entry)) op (a .0) (b .0)))
+        × (z ≤ h .known + 1) ⌝ }
 {
     let x = entries::value_of(known, h, facts, a);
     let y = entries::value_of(known, h, facts, b);
@@ -88,7 +92,8 @@ fn learn_bool(
 // What an instruction adds, once what it writes is forgotten: Const, Move, Bool.
 pub fn learn(known: &mut [u64], copy: &mut [u32], h: Held, facts: &[u64], i: Inst) -> Held
     requires { ⌜ Roomy h (now known) (now copy) ⌝ }
-    ensures { λ z. ⌜ (heldIn z (now (known .exit)) (now (copy .exit)) ≡ learnOf (factsIn (now (facts .entry)) none 0) (heldIn h (now (known .entry)) (now (copy .entry))) i) × OneMore z h ⌝ }
+    ensures { λ z. ⌜ (heldIn z (now (known .exit)) (now (copy .exit))
+        ≡ learnOf (factsIn (now (facts .entry)) none 0) (heldIn h (now (known .entry)) (now (copy .entry))) i) × OneMore z h ⌝ }
 {
     match i {
         Inst::Const { dst, v } => {

@@ -24,7 +24,8 @@ pub enum Noted {
 
 // What is known after what an instruction writes is forgotten: of more than two registers, nothing.
 fn forget_all(known: &mut [u64], copy: &mut [u32], h: Held, i: Inst) -> Held
-    ensures { λ z. ⌜ (heldIn z (now (known .exit)) (now (copy .exit)) ≡ forgetAll (defsOf i) (heldIn h (now (known .entry)) (now (copy .entry)))) × NoMore z h ⌝ }
+    ensures { λ z. ⌜ (heldIn z (now (known .exit)) (now (copy .exit))
+        ≡ forgetAll (defsOf i) (heldIn h (now (known .entry)) (now (copy .entry)))) × NoMore z h ⌝ }
 {
     let q = roles::roles_of(i);
     let defs = q.defs;
@@ -45,7 +46,8 @@ fn forget_all(known: &mut [u64], copy: &mut [u32], h: Held, i: Inst) -> Held
 // What is known after an instruction: what it writes is forgotten, then Const, Move and Bool are learnt.
 fn note(known: &mut [u64], copy: &mut [u32], h: Held, facts: &[u64], i: Inst) -> Held
     requires { ⌜ Roomy h (now known) (now copy) ⌝ }
-    ensures { λ z. ⌜ (heldIn z (now (known .exit)) (now (copy .exit)) ≡ noteOf (factsIn (now (facts .entry)) none 0) (heldIn h (now (known .entry)) (now (copy .entry))) i) × OneMore z h ⌝ }
+    ensures { λ z. ⌜ (heldIn z (now (known .exit)) (now (copy .exit))
+        ≡ noteOf (factsIn (now (facts .entry)) none 0) (heldIn h (now (known .entry)) (now (copy .entry))) i) × OneMore z h ⌝ }
 {
     let left = forget_all(known, copy, h, i);
     learn::learn(known, copy, left, facts, i)
@@ -54,7 +56,8 @@ fn note(known: &mut [u64], copy: &mut [u32], h: Held, facts: &[u64], i: Inst) ->
 // What is known after the instructions of some records, from nothing.
 fn gather(code: &[u8], known: &mut [u64], copy: &mut [u32], facts: &[u64]) -> Held
     requires { ⌜ (length (now code) / 32 ≤ length (now known) / 2) × (length (now code) / 32 ≤ length (now copy) / 2) ⌝ }
-    ensures { λ z. ⌜ heldIn z (now (known .exit)) (now (copy .exit)) ≡ notesOf (factsIn (now (facts .entry)) none 0) nothing (codesOf (now (code .entry))) ⌝ }
+    ensures { λ z. ⌜ heldIn z (now (known .exit)) (now (copy .exit))
+        ≡ notesOf (factsIn (now (facts .entry)) none 0) nothing (codesOf (now (code .entry))) ⌝ }
 {
     let mut h = Held { known: 0, copy: 0 };
     let mut k = 0;
@@ -68,7 +71,10 @@ fn gather(code: &[u8], known: &mut [u64], copy: &mut [u32], facts: &[u64]) -> He
 
 // The same, or Full where a slice has not two words for each record.
 pub fn notes(code: &[u8], known: &mut [u64], copy: &mut [u32], facts: &[u64]) -> Noted
-    ensures { λ z. ⌜ notedIn z (now (known .exit)) (now (copy .exit)) ≡ cond (enough (length (now (code .entry)) / 32) (now (known .entry)) (now (copy .entry))) (some (notesOf (factsIn (now (facts .entry)) none 0) nothing (codesOf (now (code .entry))))) none ⌝ }
+    ensures { λ z. ⌜ notedIn z (now (known .exit)) (now (copy .exit))
+        ≡ cond (enough (length (now (code .entry)) / 32) (now (known .entry)) (now (copy .entry)))
+        (some (notesOf (factsIn (now (facts .entry)) none 0) nothing (codesOf (now (code .entry)))))
+        none ⌝ }
 {
     let n = code.len() / 32;
     if known.len() / 2 < n {

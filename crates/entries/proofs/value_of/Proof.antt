@@ -28,15 +28,17 @@ const-of-requires c κs = search needs
 
 returns : tie.Need-returns
 returns c =
-    let a = c .before .before .before .before .before .before .before .before .args in
-    let t = entries-of (c .before .before .before .before .before .least .result) (a .h .known) (now (a .known)) (c .before .before .before .before .before .least .ensures) in
+    let c5 = c .before .before .before .before .before in
+    let a = c5 .before .before .before .args in
+    let t = entries-of (c5 .least .result) (a .h .known) (now (a .known)) (c5 .least .ensures) in
     let f = sym (c .before .before .before .find .ensures ∙ ap (found (a .r .0)) t) ∙ ap wordIn (c .before .f .given .1) in
     sym (ap (λ o. orElse o (constAt (now (a .facts)) (a .r .0))) f)
 
 returns-2 : tie.Need-returns-2
 returns-2 c =
-    let a = c .before .before .before .before .before .before .before .before .args in
-    let t = entries-of (c .before .before .before .before .before .least .result) (a .h .known) (now (a .known)) (c .before .before .before .before .before .least .ensures) in
+    let c5 = c .before .before .before .before .before in
+    let a = c5 .before .before .before .args in
+    let t = entries-of (c5 .least .result) (a .h .known) (now (a .known)) (c5 .least .ensures) in
     let f = sym (c .before .before .before .find .ensures ∙ ap (found (a .r .0)) t) ∙ ap wordIn (c .before .enum-told .given .1) in
     c .const-of .ensures ∙ sym (ap (λ o. orElse o (constAt (now (a .facts)) (a .r .0))) f)
 

@@ -22,10 +22,12 @@ returns c =
 
 returns-2 : tie.Need-returns-2
 returns-2 c =
-    let a = c .before .before .before .before .before .before .args in
+    let c5 = c .before .before .before .before .before in
+    let a = c5 .before .args in
     let k = heldIn (a .h) (now (a .known)) (now (a .copy)) in
     let none = held-eq (entries-zero (now (a .known))) (entries-zero (now (a .copy))) in
-    (none ∙ sym (writes-many (a .i) (c .before .before .before .roles-of .ensures) k (c .if2 .taken)), record { known-le = omega arith; copy-le = omega arith })
+    let many = writes-many (a .i) (c .before .before .before .roles-of .ensures) k (c .if2 .taken) in
+    (none ∙ sym many, record { known-le = omega arith; copy-le = omega arith })
 
 array-read-t16 : tie.Need-array-read-t16
 array-read-t16 c = search needs
@@ -41,10 +43,12 @@ same-length-2 c = search needs
 
 returns-3 : tie.Need-returns-3
 returns-3 c =
-    let a = c .before .before .before .before .before .before .before .before .before .before .before .before .before .before .args in
+    let c5 = c .before .before .before .before .before in
+    let c10 = c5 .before .before .before .before .before in
+    let a = c10 .before .before .before .before .args in
     let k = heldIn (a .h) (now (a .known)) (now (a .copy)) in
-    let f = c .before .before .before .before .before .forget .ensures in
-    (f .0 ∙ sym (writes-one (a .i) (c .before .before .before .before .before .before .before .before .before .before .before .roles-of .ensures) k (c .if3 .taken)), f .1)
+    let f = c5 .forget .ensures in
+    (f .0 ∙ sym (writes-one (a .i) (c10 .before .roles-of .ensures) k (c .if3 .taken)), f .1)
 
 array-read-t16-2 : tie.Need-array-read-t16-2
 array-read-t16-2 c = search needs
@@ -60,12 +64,16 @@ same-length-4 c = search needs
 
 returns-4 : tie.Need-returns-4
 returns-4 c =
-    let a = c .before .before .before .before .before .before .before .before .before .before .before .before .before .before .before .before .before .before .before .before .before .args in
+    let c5 = c .before .before .before .before .before in
+    let c10 = c5 .before .before .before .before .before in
+    let c15 = c10 .before .before .before .before .before in
+    let c20 = c15 .before .before .before .before .before in
+    let a = c20 .before .args in
     let k = heldIn (a .h) (now (a .known)) (now (a .copy)) in
-    let q = c .before .before .before .before .before .before .before .before .before .before .before .before .before .before .before .before .before .before .roles-of in
-    let f = c .before .before .before .before .before .before .before .before .before .before .before .before .forget .ensures in
+    let q = c15 .before .before .before .roles-of in
+    let f = c10 .before .before .forget .ensures in
     let g = c .before .before .before .before .forget2 .ensures in
-    let two = writes-two (a .i) (q .ensures) k (c .before .before .before .before .before .before .before .before .before .before .before .before .before .before .before .before .if1 .left) (c .before .before .before .before .before .before .before .before .before .before .before .before .before .before .before .if2 .left) (c .before .before .before .before .before .before .before .if3 .left) in (
+    let two = writes-two (a .i) (q .ensures) k (c15 .before .if1 .left) (c15 .if2 .left) (c5 .before .before .if3 .left) in (
       g .0 ∙ ap (forget (getD (q .result .reg) 1 0)) (f .0) ∙ sym two,
       record { known-le = le-trans (g .1 .known-le) (f .1 .known-le); copy-le = le-trans (g .1 .copy-le) (f .1 .copy-le) },
     )

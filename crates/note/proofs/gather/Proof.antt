@@ -42,21 +42,27 @@ note-requires : tie.Need-note-requires Inv-loop μ-loop
 note-requires c κs = search needs
 
 add-k : tie.Need-add-k Inv-loop μ-loop
-add-k c = omega (arith, c .before .before .before .before .before .before .before .before .before .loop-test .taken, c .before .before .before .before .before .before .before .before .before .before .before .before .before .before .before .good .0 .0)
+add-k c =
+    let c5 = c .before .before .before .before .before in
+    let c10 = c5 .before .before .before .before .before in
+    let c15 = c10 .before .before .before .before .before in
+    omega (arith, c5 .before .before .before .before .loop-test .taken, c15 .good .0 .0)
 
 loop-less : tie.Need-loop-less Inv-loop μ-loop
 loop-less c = omega (arith, c .before .before .before .before .before .before .before .before .before .loop-test .taken)
 
 loop-again : tie.Need-loop-again Inv-loop μ-loop
 loop-again c =
-    let l = c .before .before .before .before .before .before .before .before .before .before in
+    let c5 = c .before .before .before .before .before in
+    let c10 = c5 .before .before .before .before .before in
+    let l = c10 in
     let a = l .before .before .before .before .before .args in
     let b = now (a .code) in
     let f = factsIn (now (a .facts)) none 0 in
     let s = c .before .before .before .before .note .ensures in
     let held = heldIn (l .loop .h) (l .loop .known) (l .loop .copy) in
-    let at = inst-at b (l .loop .k) (c .before .before .before .before .before .before .before .before .record-at .ensures) (c .before .before .before .before .before .before .before .inst-of .ensures) in
-    let more : l .loop .k < length (codesOf b) = rw (length-codes b) (c .before .before .before .before .before .before .before .before .before .loop-test .taken) in (
+    let at = inst-at b (l .loop .k) (c5 .before .before .before .record-at .ensures) (c5 .before .before .inst-of .ensures) in
+    let more : l .loop .k < length (codesOf b) = rw (length-codes b) (c5 .before .before .before .before .loop-test .taken) in (
       notes-again f (codesOf b) (l .loop .k) held (codeOf blank) more (s .0 ∙ ap (note f held) at) (l .loop .inv .0),
       (omega (arith, s .1 .known-le), (omega (arith, s .1 .copy-le), (search needs, search needs))),
     )

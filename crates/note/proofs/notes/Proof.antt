@@ -35,11 +35,15 @@ same-length-2 c = search needs
 
 returns-3 : tie.Need-returns-3
 returns-3 c =
-    let a = c .before .before .before .before .before .before .before .before .before .before .before .before .before .args in
+    let c5 = c .before .before .before .before .before in
+    let c10 = c5 .before .before .before .before .before in
+    let a = c10 .before .before .before .args in
     let n = length (now (a .code)) / 32 in
     let known = length (now (a .known)) / 2 in
     let copy = length (now (a .copy)) / 2 in
-    rw (le-leb n known (c .before .before .before .before .before .before .before .before .if1 .left), le-leb n copy (c .before .before .before .before .before .before .before .if2 .left)) (ap some (c .before .before .before .before .gather .ensures))
+    let room = le-leb n known (c5 .before .before .before .if1 .left) in
+    let room-too = le-leb n copy (c5 .before .before .if2 .left) in
+    rw (room, room-too) (ap some (c .before .before .before .before .gather .ensures))
 
 pub notes-spec : {M : Type 1} → statement M
 notes-spec =

@@ -25,9 +25,11 @@ same-length c = search needs
 
 returns : tie.Need-returns
 returns c =
-    let a = c .before .before .before .before .before .before .before .before .before .before .before .args in
+    let c5 = c .before .before .before .before .before in
+    let c10 = c5 .before .before .before .before .before in
+    let a = c10 .before .args in
     let p = c .before .before .learn-value .ensures in
-    let told = c .before .before .before .bool-of .ensures ∙ bool-eq (a .op) (c .before .before .before .before .before .before .before .value-of .ensures) (c .before .before .before .before .before .value-of2 .ensures) in
+    let told = c .before .before .before .bool-of .ensures ∙ bool-eq (a .op) (c5 .before .before .value-of .ensures) (c5 .value-of2 .ensures) in
     (p .0 ∙ ap (λ o. entries (a .h .known) (now (a .known)) ++ newEntry (a .d .0) o) told, p .1)
 
 pub learn-bool-spec : {M : Type 1} → statement M

@@ -38,13 +38,16 @@ same-length-2 c = search needs
 
 returns-2 : tie.Need-returns-2
 returns-2 c =
-    let a = c .before .before .before .before .before .before .before .before .before .before .before .before .before .before .before .before .before .before .args in
+    let c5 = c .before .before .before .before .before in
+    let c10 = c5 .before .before .before .before .before in
+    let c15 = c10 .before .before .before .before .before in
+    let a = c15 .before .before .before .args in
     let f = factsIn (now (a .facts)) none 0 in
     let k = heldIn (a .h) (now (a .known)) (now (a .copy)) in
-    let v = c .before .before .before .before .before .before .learn-value .ensures in
+    let v = c5 .before .learn-value .ensures in
     let w = c .before .before .learn-copy .ensures in
-    let told = ap (λ o. entries (a .h .known) (now (a .known)) ++ newEntry (a .d .0) o) (c .before .before .before .before .before .before .before .before .value-of .ensures) in
-    let now-known = moved-other f k (a .d .0) (a .s .0) (c .before .before .before .before .before .before .before .before .before .before .before .before .if1 .left) (c .before .before .before .before .before .before .before .before .before .before .source-of .ensures) (v .0 ∙ told) (w .0) in
+    let told = ap (λ o. entries (a .h .known) (now (a .known)) ++ newEntry (a .d .0) o) (c5 .before .before .before .value-of .ensures) in
+    let now-known = moved-other f k (a .d .0) (a .s .0) (c10 .before .before .if1 .left) (c10 .source-of .ensures) (v .0 ∙ told) (w .0) in
     (now-known, record { known-le = v .1; copy-le = w .1 })
 
 pub learn-move-spec : {M : Type 1} → statement M
