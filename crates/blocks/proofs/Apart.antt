@@ -21,7 +21,8 @@ use Rattle.read.specs.Structure.{State, tiles, nextBlock, codeOf as recordsOfBl
 use Rattle.inst.specs.declared.Inst.{Inst}
 use Rattle.codec.specs.Codec.{codeOf, recordOf, inRange}
 use Rattle.codec.proofs.Laws.{written-fits}
-use Rattle.ends.specs.Ends.{withInst, withEnd}
+use Rattle.ends.specs.Ends.{withEnd}
+use Rattle.codec.specs.Codec.{withInst}
 use Rattle.blocks.specs.Blocks.{blockRecordsIn, blocksOf, Canonical}
 use Rattle.blocks.specs.Rewrite.{rewritten, endRewritten, lastBy, Holds, Apart, Tiled}
 use Rattle.blocks.proofs.Parts.{records-at, codes-at}

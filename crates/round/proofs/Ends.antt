@@ -10,8 +10,9 @@ use lib.ListN.{length, length-map}
 use Rattle.format.specs.declared.Record.{Record}
 use Rattle.layout.specs.Walk.{lead}
 use Rattle.layout.proofs.Walks.{cases, walk-pass, walk-stop}
-use Rattle.read.specs.Structure.{terminator, endsWell}
-use Rattle.inst.specs.Inst.{kindOf, terminatorKind, terminatorOf}
+use Rattle.read.specs.Structure.{terminatorKind, terminator, endsWell}
+use Rattle.inst.specs.Inst.{kindOf}
+use Rattle.ends.specs.Ends.{terminatorOf}
 use Rattle.inst.specs.declared.Code.{Code}
 use Rattle.inst.specs.declared.Inst.{Inst}
 use Rattle.inst.specs.declared.Inst.the-variants as i

@@ -7,7 +7,7 @@ use mathlib.Core.Option.{Option, none, some}
 use lib.ListN.{length}
 use Rattle.shape.specs.declared.exist.Counts.{Counts}
 use Rattle.shape.specs.Exist.{namesExist}
-use Rattle.inst.specs.Inst.{terminatorOf}
+use Rattle.ends.specs.Ends.{terminatorOf}
 use Rattle.inst.specs.declared.Code.{Code}
 use Rattle.codec.specs.Codec.{recordOf, InRange}
 use Rattle.procedure.specs.Procedure.{Procedure, Arm, Table}

@@ -9,7 +9,7 @@ use borrow.Author.Tests.{lt-ltb}
 use lib.ListN.{length, getD, set, length-append, List·getD-eq-default}
 use Rattle.shape.specs.declared.exist.Counts.{Counts}
 use Rattle.store.proofs.Laws.{order}
-use Rattle.inst.specs.Inst.{terminatorOf}
+use Rattle.ends.specs.Ends.{terminatorOf}
 use Rattle.inst.specs.declared.Code.{Code}
 use Rattle.inst.specs.declared.Inst.{Inst}
 use Rattle.inst.specs.declared.Inst.the-variants as i

@@ -10,7 +10,7 @@ use lib.ListN.{length, length-append}
 use Rattle.shape.specs.declared.exist.Counts.{Counts}
 use Rattle.layout.proofs.Walks.{cases}
 use Rattle.layout.proofs.Order.{and-first}
-use Rattle.inst.specs.Inst.{terminatorOf}
+use Rattle.ends.specs.Ends.{terminatorOf}
 use Rattle.inst.specs.declared.Code.{Code}
 use Rattle.inst.specs.declared.Inst.the-variants as inst
 use Rattle.codec.specs.Codec.{blockOf}

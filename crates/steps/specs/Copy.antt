@@ -10,7 +10,7 @@ use Rattle.roles.specs.Roles.{defsOf, usesOf}
 use Rattle.roles.specs.Exchange.{exchanged}
 use Rattle.procedure.specs.Lists.{times, found, valueOr}
 use Rattle.ends.specs.Forms.{Fixed, word, real, address, varying, fixedOf}
-use Rattle.ends.specs.Ends.{withInst}
+use Rattle.codec.specs.Codec.{withInst}
 use Rattle.steps.specs.Facts.{Facts}
 
 -- what becomes of an instruction in the copy
