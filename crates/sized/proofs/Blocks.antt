@@ -7,8 +7,8 @@ use mathlib.Core.List.{List, [], _∷_, _++_}
 use mathlib.Core.Logic.{_⊎_, inl, inr}
 use borrow.Author.Tests.{lt-ltb}
 use lib.ListN.{length, getD, set, length-append, List·getD-eq-default}
+use Rattle.general.proofs.Numbers.{order}
 use Rattle.shape.specs.declared.exist.Counts.{Counts}
-use Rattle.store.proofs.Laws.{order}
 use Rattle.ends.specs.Ends.{terminatorOf}
 use Rattle.inst.specs.declared.Code.{Code}
 use Rattle.inst.specs.declared.Inst.{Inst}

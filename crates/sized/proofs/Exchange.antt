@@ -6,9 +6,9 @@ use mathlib.Core.Bool.{Bool, true, false, _&&_}
 use mathlib.Core.List.{List, [], _∷_}
 use borrow.Author.Tests.{ltb-true, lt-ltb}
 use lib.Dec.{ltb}
+use Rattle.general.proofs.Booleans.{and-first, and-second}
 use Rattle.format.specs.Kinds.{number, spaceNumber}
 use Rattle.shape.specs.declared.exist.Counts.{Counts}
-use Rattle.layout.proofs.Order.{and-first, and-second}
 use Rattle.real.specs.Real.{canonical}
 use Rattle.inst.specs.Inst.{kindOf}
 use Rattle.inst.specs.declared.OptReg.the-variants as o

@@ -8,9 +8,9 @@ use mathlib.Core.Logic.{_⊎_, inl, inr}
 use borrow.Author.Tests.{leb-true, ltb-false, not-false}
 use lib.Dec.{eqb, ltb, leb}
 use lib.ListN.{length, getD, length-append, length-set, List·getD-eq-default}
+use Rattle.general.proofs.Booleans.{and-first}
+use Rattle.general.proofs.Numbers.{order}
 use Rattle.shape.specs.declared.exist.Counts.{Counts}
-use Rattle.layout.proofs.Order.{and-first}
-use Rattle.store.proofs.Laws.{order}
 use Rattle.inst.specs.declared.Reg.{Reg}
 use Rattle.inst.specs.declared.BlockId.{BlockId}
 use Rattle.inst.specs.declared.Code.{Code}
