@@ -24,7 +24,8 @@ use Rattle.steps.specs.Facts.{constIn, constOf, konstOf, factsOf}
 use Rattle.steps.specs.Note.{valuesWithout, copiesWithout, forgetAll, learn, notes}
 use Rattle.steps.specs.EqualArms.{follow, joinArms, joinFrom}
 use Rattle.steps.specs.Gate.{backEdgeFrom, copied, mayThreadFrom}
-use Rattle.steps.specs.Copy.{exchanged, howOf, ownUses, copyFrom, kindsGiven}
+use Rattle.roles.specs.Exchange.{exchanged}
+use Rattle.steps.specs.Copy.{howOf, ownUses, copyFrom, kindsGiven}
 use Rattle.steps.specs.Thread.{armOf, hopCondBr, stops, hopBr, hop, hops, threadFrom}
 use Rattle.steps.specs.Emit.{total, walk, reached, stays, emptyFrom, rescuedOf, rescues}
 use Rattle.steps.specs.Run.{emit, run}
