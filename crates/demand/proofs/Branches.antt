@@ -179,10 +179,10 @@ module _ (E : Setting) where
       end-good =
           rw (t .rewritten x)
           (set-good m (pre ++ (y ∷ [])) (omega arith)
-            (each-append (Fine E) pre (y ∷ []) pre-fine (λ r k. absurd (subst (In r) writes-none k), tt))
-            end-hidden
-            (each-append (Low m) pre (y ∷ []) (each-left (Low m) pre (t .last ∷ []) (subst (Each (Low m)) (t .is) (good .low a))) (end-low, tt))
-            (each-front NoEnd pre (y ∷ []) pre-formed tt))
+          (each-append (Fine E) pre (y ∷ []) pre-fine (λ r k. absurd (subst (In r) writes-none k), tt))
+          end-hidden
+          (each-append (Low m) pre (y ∷ []) (each-left (Low m) pre (t .last ∷ []) (subst (Each (Low m)) (t .is) (good .low a))) (end-low, tt))
+          (each-front NoEnd pre (y ∷ []) pre-formed tt))
 
       pub end-blocks : (κ : ℕ) (rs rs′ : List ℕ) (Q : Regs → Type 0) → ((g : Regs) → Loaded E g → Behind E Q pre g)
           → Tail E κ rs rs′ P (set P a (pre ++ (y ∷ []))) Q (t .last ∷ []) (y ∷ [])

@@ -44,7 +44,8 @@ module _ {rs : List Record} {l : Layout} (h : LaidOut rs l) where
 
   pub the-blocks : procedureOf rs .blocks ≡ blocksIn rs l
   unfolding procedureOf
-  the-blocks = sym (ap (λ (c : List Record). map (λ b. map codeOf (recordsOfBlock c b)) (blockRecords rs l)) code-is ∙ ap (map (λ b. map codeOf (recordsOfBlock (ofClass 4 rs) b))) blocks-are)
+  the-blocks = sym (ap (λ (c : List Record). map (λ b. map codeOf (recordsOfBlock c b)) (blockRecords rs l)) code-is
+      ∙ ap (map (λ b. map codeOf (recordsOfBlock (ofClass 4 rs) b))) blocks-are)
 
   pub the-operands : procedureOf rs .operands ≡ operandsIn rs l
   unfolding procedureOf
@@ -121,7 +122,8 @@ module _ (b : List ℕ) (e : reading b .number ≡ 0) where
       }
 
 -- the steps over a file that fits
-module _ {rs : List Record} {l : Layout} (h : LaidOut rs l) (f : Fit rs l) (n : ℕ) (size : n ≡ 756) (ts : List ℕ) {ws : List ℕ} (e : ws ≡ noted (replicate n 0) (written (placedFrom 0 (blocksIn rs l)))) (t : TargetsIn rs l ts) where
+module _ {rs : List Record} {l : Layout} (h : LaidOut rs l) (f : Fit rs l) (n : ℕ) (size : n ≡ 756) (ts : List ℕ) {ws : List ℕ}
+    (e : ws ≡ noted (replicate n 0) (written (placedFrom 0 (blocksIn rs l)))) (t : TargetsIn rs l ts) where
   few-blocks : length (procedureOf rs .blocks) ≤ 160
   few-blocks = let i = ap length (the-blocks h) ∙ length-map (blockRecords rs l) (blockCode rs l) ∙ blocks-length f in omega arith
 
@@ -143,7 +145,8 @@ module _ {rs : List Record} {l : Layout} (h : LaidOut rs l) (f : Fit rs l) (n : 
   unfolding endOf
   edges-are a i =
       subst (λ (es : List ℕ). PairAt es ts a)
-      (sym (ap (λ (bs : List (List Code)). getD (map (λ c. targets (endOf c)) bs) a []) (the-blocks h) ∙ List·getD-map (λ (c : List Code). targets (endOf c)) (blocksIn rs l) a []))
+      (sym (ap (λ (bs : List (List Code)). getD (map (λ c. targets (endOf c)) bs) a []) (the-blocks h)
+      ∙ List·getD-map (λ (c : List Code). targets (endOf c)) (blocksIn rs l) a []))
       (t .each a i)
 
   pub judge-is : {s : Tidiness} → s ≡ judgedIn ts ws l (told 0 0 1 0) (readsIn rs l (placedFrom 0 (blocksIn rs l))) → s ≡ verdict (offenders (procedureOf rs))
@@ -154,15 +157,18 @@ module _ {rs : List Record} {l : Layout} (h : LaidOut rs l) (f : Fit rs l) (n : 
       in
       i
       ∙ ap (λ (m : ℕ). judgedAll (edgesIn ts) m ws (told 0 0 1 0) (readsIn rs l (placedFrom 0 (blocksIn rs l)))) (sym (the-registers h))
-      ∙ ap (λ (ops : List ℕ). judgedAll (edgesIn ts) (length (p .registers)) ws (told 0 0 1 0) (reads ops (placedFrom 0 (blocksIn rs l)))) (sym (the-operands h))
-      ∙ ap (λ (bs : List (List Code)). judgedAll (edgesIn ts) (length (p .registers)) ws (told 0 0 1 0) (reads (p .operands) (placedFrom 0 bs))) (sym (the-blocks h))
+      ∙ ap (λ (ops : List ℕ). judgedAll (edgesIn ts) (length (p .registers)) ws (told 0 0 1 0) (reads ops (placedFrom 0 (blocksIn rs l))))
+      (sym (the-operands h))
+      ∙ ap (λ (bs : List (List Code)). judgedAll (edgesIn ts) (length (p .registers)) ws (told 0 0 1 0) (reads (p .operands) (placedFrom 0 bs)))
+      (sym (the-blocks h))
       ∙ answer-is p (edgesIn ts) ws few-blocks same table-is
 
 -- the answer by Read's number
 module _ (b : List ℕ) {r : Reading} (e : r ≡ reading b) where
   pub refused-is : (r .number ≡ 0 → ⊥) → told (r .number) (r .place) 0 0 ≡ tidiness b
   unfolding tidiness
-  refused-is h = ap (λ (x : Reading). told (x .number) (x .place) 0 0) e ∙ sym (rw (ne-eqb (reading b .number) 0 (λ i. h (ap (λ (x : Reading). x .number) e ∙ i))))
+  refused-is h = ap (λ (x : Reading). told (x .number) (x .place) 0 0) e
+      ∙ sym (rw (ne-eqb (reading b .number) 0 (λ i. h (ap (λ (x : Reading). x .number) e ∙ i))))
 
   pub number-is : r .number ≡ 0 → reading b .number ≡ 0
   number-is h = ap (λ (x : Reading). x .number) (sym e) ∙ h

@@ -20,7 +20,8 @@ judge-requires c κs =
     (c .layout-in .ensures, accepted b e (c .layout-in .ensures))
 
 returns-2 : tie.Need-returns-2
-returns-2 c = accepted-is (now (c .before .before .before .before .before .before .args .b)) (c .before .before .before .before .read .ensures) (c .before .before .if1 .left) (c .judge .ensures)
+returns-2 c = accepted-is (now (c .before .before .before .before .before .before .args .b)) (c .before .before .before .before .read .ensures)
+    (c .before .before .if1 .left) (c .judge .ensures)
 
 pub tidy-spec : {M : Type 1} → statement M
 tidy-spec =
