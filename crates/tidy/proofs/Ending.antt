@@ -113,7 +113,11 @@ module _ (rs : List Record) (l : Layout) where
 
   pub all-noted : Fit rs l → (k : ℕ) (ts : List ℕ) → length ts ≡ 320 → l .bodies - l .blocks ≤ k → Noted k ts → TargetsIn rs l ts
   unfolding endOf
-  all-noted h k ts s i n = record { size = s; each = λ a j. ⊎-elim (λ (e : ltb a k ≡ true). n a j .0 (ltb-true a k e)) (λ (e : ltb a k ≡ false). past a j (ltb-false a k e)) (cases (ltb a k)) }
+  all-noted h k ts s i n = record {
+    size = s;
+    each = λ a j. ⊎-elim (λ (e : ltb a k ≡ true). n a j .0 (ltb-true a k e))
+        (λ (e : ltb a k ≡ false). past a j (ltb-false a k e)) (cases (ltb a k));
+  }
     where
       none-there : (a : ℕ) → k ≤ a → targetsAt rs l a ≡ []
       none-there a e =

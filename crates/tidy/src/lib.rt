@@ -7,6 +7,7 @@ ghost use Rattle.tidy.specs.Work.Parts.{Fit};
 use layout::Layout;
 
 mod lead;
+mod parts;
 mod reads;
 mod targets;
 mod writers;
@@ -49,6 +50,6 @@ pub fn tidy(b: &[u8]) -> Tidiness
             reg: 0,
         };
     }
-    let l = layout::layout_of(b);
+    let l = parts::layout_in(b);
     judge(b, l)
 }
