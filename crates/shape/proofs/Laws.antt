@@ -111,7 +111,11 @@ picked (suc (suc zero)) r = refl
 picked (suc (suc (suc zero))) r = refl
 picked (suc (suc (suc (suc zero)))) r = refl
 picked (suc (suc (suc (suc (suc zero))))) r = refl
-picked (suc (suc (suc (suc (suc (suc u)))))) r = rw (lt-leb (suc (suc (suc (suc (suc (suc u)))))) 0 (omega arith), lt-leb (suc (suc (suc (suc (suc (suc u)))))) 1 (omega arith), lt-leb (suc (suc (suc (suc (suc (suc u)))))) 2 (omega arith), lt-leb (suc (suc (suc (suc (suc (suc u)))))) 3 (omega arith), lt-leb (suc (suc (suc (suc (suc (suc u)))))) 4 (omega arith), lt-leb (suc (suc (suc (suc (suc (suc u)))))) 5 (omega arith)) (sym (ap zeros (drop-of-length-le (fields r) {i = suc (suc (suc (suc (suc (suc u)))))} (omega arith))))
+picked (suc (suc (suc (suc (suc (suc u)))))) r =
+    let n = suc (suc (suc (suc (suc (suc u))))) in
+    let past : (k : ℕ) → k < n → leb n k ≡ false = lt-leb n in
+    rw (past 0 (omega arith), past 1 (omega arith), past 2 (omega arith), past 3 (omega arith), past 4 (omega arith), past 5 (omega arith))
+    (sym (ap zeros (drop-of-length-le (fields r) {i = n} (omega arith))))
 
 pub optional-some : (op : ℕ) → (op ≡ 0 → ⊥) → register ≡ optional op
 optional-some op h = at-rest (unused ∷ []) register {x = op} (omega arith)
