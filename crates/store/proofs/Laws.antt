@@ -6,7 +6,8 @@ use mathlib.Core.Bool.{Bool, true, false}
 use mathlib.Core.List.{List, [], _∷_, _++_, append-assoc}
 use mathlib.Core.Logic.{_⊎_, inl, inr}
 use lib.ListN.{length, getD, take, drop, set, length-append, length-drop, length-set, take-append-drop}
-use lib.Seq.{sets, sets-eq, length-sets, drop-cons, drop-append-le, drop-append-add, drop-drop, length-take-le, getD-set-same, getD-set-other, ext-getD, getD-drop}
+use lib.Seq.{sets, sets-eq, length-sets, drop-cons, drop-append-le, drop-append-add, drop-drop, length-take-le}
+use lib.Seq.{getD-set-same, getD-set-other, ext-getD, getD-drop}
 use lib.Dec.{ltb, eqb}
 use borrow.Author.Tests.{lt-ltb, le-ltb, ltb-true, ltb-false, eqb-true, eqb-false}
 use Rattle.general.proofs.Numbers.{order}
@@ -124,7 +125,19 @@ byte-back x h = omega arith
 pub written-read : (r : Record) (q : List ℕ) → Fits r → recordIn (recordBytes r ++ q) 0 ≡ r
 unfolding wordBytes tagBytes
 written-read r q f =
-    rw (byte-back (r .class) (f .class), byte-back (r .kind) (f .kind), byte-back (r .op) (f .op), byte-back (r .zero) (f .zero), word-back (r .stmt) (f .stmt), word-back (r .p1) (f .p1), word-back (r .p2) (f .p2), word-back (r .p3) (f .p3), word-back (r .p4) (f .p4), word-back (r .p5) (f .p5), word-back (r .p6) (f .p6))
+    rw (
+      byte-back (r .class) (f .class),
+      byte-back (r .kind) (f .kind),
+      byte-back (r .op) (f .op),
+      byte-back (r .zero) (f .zero),
+      word-back (r .stmt) (f .stmt),
+      word-back (r .p1) (f .p1),
+      word-back (r .p2) (f .p2),
+      word-back (r .p3) (f .p3),
+      word-back (r .p4) (f .p4),
+      word-back (r .p5) (f .p5),
+      word-back (r .p6) (f .p6),
+    )
 
 module _ (p q r s : ℕ) (hp : p < 256) (hq : q < 256) (hr : r < 256) (hs : s < 256) where
   abbrev whole : ℕ
@@ -152,7 +165,19 @@ word-bytes d i h = four-bytes _ _ _ _ (h i) (h (i + 1)) (h (i + 2)) (h (i + 3))
 read-written : (d : List ℕ) → Bytes d → recordBytes (recordIn d 0) ≡ from d 0 32
 unfolding tagBytes
 read-written d h =
-    rw (byte-back (getD d 0 0) (h 0), byte-back (getD d 1 0) (h 1), byte-back (getD d 2 0) (h 2), byte-back (getD d 3 0) (h 3), word-bytes d 4 h, word-bytes d 8 h, word-bytes d 12 h, word-bytes d 16 h, word-bytes d 20 h, word-bytes d 24 h, word-bytes d 28 h)
+    rw (
+      byte-back (getD d 0 0) (h 0),
+      byte-back (getD d 1 0) (h 1),
+      byte-back (getD d 2 0) (h 2),
+      byte-back (getD d 3 0) (h 3),
+      word-bytes d 4 h,
+      word-bytes d 8 h,
+      word-bytes d 12 h,
+      word-bytes d 16 h,
+      word-bytes d 20 h,
+      word-bytes d 24 h,
+      word-bytes d 28 h,
+    )
 
 word-fits : (d : List ℕ) (i : ℕ) → Bytes d → wordAt d i < 2 ^ 32
 word-fits d i h = omega (arith, h i, h (i + 1), h (i + 2), h (i + 3))
@@ -174,7 +199,20 @@ fits-in b at h = record {
 }
 
 fits-blank : Fits blank
-fits-blank = record { class = omega arith; kind = omega arith; op = omega arith; zero = omega arith; stmt = omega arith; p1 = omega arith; p2 = omega arith; p3 = omega arith; p4 = omega arith; p5 = omega arith; p6 = omega arith }
+fits-blank =
+    record {
+      class = omega arith;
+      kind = omega arith;
+      op = omega arith;
+      zero = omega arith;
+      stmt = omega arith;
+      p1 = omega arith;
+      p2 = omega arith;
+      p3 = omega arith;
+      p4 = omega arith;
+      p5 = omega arith;
+      p6 = omega arith;
+    }
 
 pub fits-at : (b : List ℕ) (k : ℕ) → Bytes b → Fits (recordAt b k)
 fits-at b k h = go (order k (length b / 32))

@@ -153,7 +153,8 @@ returns-20 : tie.Need-returns-20
 returns-20 c =
     let m = c .before .before .before .before .before in
     exist-at (m .before .args .n) (m .before .args .r) (m .match .keys18)
-    (both (c .before .before .before .before .list-exists2 .ensures) (c .before .before .before .if2 .taken) (rw (← optional-some _ (c .before .if3 .left)) (c .one4 .ensures)))
+    (both (c .before .before .before .before .list-exists2 .ensures) (c .before .before .before .if2 .taken)
+    (rw (← optional-some _ (c .before .if3 .left)) (c .one4 .ensures)))
 
 returns-21 : tie.Need-returns-21
 returns-21 c =
@@ -201,7 +202,9 @@ returns-29 : tie.Need-returns-29
 returns-29 c = exist-at (c .before .args .n) (c .before .args .r) (c .match .keys23) (refl)
 
 returns-30 : tie.Need-returns-30
-returns-30 c = ap (λ (l : List Place). allExist (c .before .args .n) l (fields (c .before .args .r))) (past-kinds (c .before .args .r) (past 23 _ (c .match .rest)))
+returns-30 c =
+    ap (λ (l : List Place). allExist (c .before .args .n) l (fields (c .before .args .r)))
+    (past-kinds (c .before .args .r) (past 23 _ (c .match .rest)))
 
 pub instruction-exist-spec : {M : Type 1} → statement M
 instruction-exist-spec =
