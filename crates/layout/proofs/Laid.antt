@@ -9,7 +9,7 @@ use Rattle.format.specs.declared.Record.{Record}
 use Rattle.layout.specs.declared.Layout.{Layout}
 use Rattle.layout.specs.Walk.{lead}
 use Rattle.layout.specs.Classes.{ordered, before, layoutOf}
-use Rattle.layout.specs.Spans.{rightOf}
+use Rattle.layout.specs.Work.{rightOf}
 use Rattle.layout.proofs.Order.{endOf, ordered-end, before-end, sorted-of}
 
 pub span-next : (c : ℕ) (rs : List Record) {x y : ℕ} → x ≡ endOf c rs → y ≡ x + lead (rightOf (suc c)) (drop x rs) → y ≡ endOf (suc c) rs

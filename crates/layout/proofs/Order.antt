@@ -17,7 +17,7 @@ use Rattle.format.specs.Kinds.{right}
 use Rattle.shape.proofs.Laws.{no-class}
 use Rattle.layout.specs.Walk.{walk, lead}
 use Rattle.layout.specs.Classes.{inOrder, ordered, ofClass, before}
-use Rattle.layout.specs.Spans.{rightOf}
+use Rattle.layout.specs.Work.{rightOf}
 use Rattle.layout.proofs.Walks.{walk-pass, walk-stop, walk-head, walk-tail, lead-le}
 
 -- how many records are right and in order after one of class p

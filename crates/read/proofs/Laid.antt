@@ -24,7 +24,7 @@ use Rattle.layout.proofs.Order.{Sorted, sorted-of, before-none, before-count, b
 use Rattle.read.specs.declared.Reading.{Reading}
 use Rattle.read.specs.Structure.{State, tiles, nextBlock, tiled, ended, numbered, tables}
 use Rattle.read.specs.Reading.{answer, unless, countsOf, named, beyond, beyondLimit}
-use Rattle.read.specs.Parts.{part, InCode, LaidOut}
+use Rattle.read.specs.Work.{part, InCode, LaidOut}
 
 -- where each class starts, by how many records each has
 pub record Sizes (rs : List Record) (l : Layout) : Type 0 where

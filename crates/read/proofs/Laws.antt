@@ -18,7 +18,7 @@ use Rattle.format.specs.Record.{blank}
 use Rattle.layout.specs.Walk.{walk, lead}
 use Rattle.layout.proofs.Walks.{pass-at, stop-at, end-at}
 use Rattle.read.specs.Structure.{State, codeOf, tiles, terminator, numbers, isDefault, tables}
-use Rattle.read.specs.Parts.{part, InCode}
+use Rattle.read.specs.Work.{part, InCode}
 
 module _ (rs : List Record) (first count : ℕ) (h : first + count ≤ length rs) where
   pub part-length : length (part first count rs) ≡ count

@@ -15,7 +15,7 @@ pub use Rattle.general.proofs.Lists.{at-key}
 use Rattle.format.specs.declared.Record.{Record}
 use Rattle.format.specs.Kinds.{Place, spaceNumber, unused, register, optional, zeros, fields, allFit, places, kindCount, opCount}
 use Rattle.format.specs.Kinds.{statementFits, instructionPlaces, right}
-use Rattle.shape.specs.Parts.{plain, below, listedPlaces}
+use Rattle.shape.specs.Work.{plain, below, listedPlaces}
 use Rattle.shape.specs.declared.exist.Counts.{Counts}
 use Rattle.shape.specs.Exist.{exist, allExist, namesExist}
 

@@ -17,7 +17,7 @@ use Rattle.layout.proofs.Walks.{cases, walk-le}
 use Rattle.read.specs.declared.Reading.{Reading}
 use Rattle.read.specs.Structure.{tiles, nextBlock, tiled, codeOf as recordsOfBlock}
 use Rattle.read.specs.Reading.{unless, answer, reading, readRecords, readBlocks, beyond, beyondLimit, wrongLength}
-use Rattle.read.specs.Parts.{part, InCode, LaidOut}
+use Rattle.read.specs.Work.{part, InCode, LaidOut}
 use Rattle.read.proofs.Laid.{sizes, class-part, laid-of, end-is, in-tiles}
 use Rattle.codec.specs.Codec.{codeOf}
 use Rattle.procedure.specs.Procedure.{procedureOf}

@@ -9,7 +9,7 @@ use lib.ListN.{length, getD, set, take, drop}
 use Rattle.format.specs.declared.Record.{Record}
 use Rattle.layout.specs.declared.Layout.{Layout}
 use Rattle.read.specs.Structure.{codeOf as recordsOfBlock}
-use Rattle.read.specs.Parts.{part, InCode}
+use Rattle.read.specs.Work.{part, InCode}
 use Rattle.inst.specs.Inst.{kindOf}
 use Rattle.inst.specs.declared.Code.{Code}
 use Rattle.codec.specs.Codec.{codeOf}

@@ -4,7 +4,7 @@ ghost use mathlib.Core.Bool.{false};
 ghost use Prim.Native.Nat.{_+_, _-_, _≤_, _<_};
 ghost use lib.ListN.{length, getD};
 ghost use Rattle.format.specs.Record.{recordsOf, recordAt};
-ghost use Rattle.read.specs.Parts.{part};
+ghost use Rattle.read.specs.Work.{part};
 ghost use Rattle.codec.specs.Codec.{instOf, codeOf};
 ghost use Rattle.roles.specs.Roles.{readsOf};
 ghost use Rattle.lead.specs.Lead.{arcs, leading};

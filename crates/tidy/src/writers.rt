@@ -3,7 +3,7 @@ ghost use mathlib.Core.List.{map};
 ghost use Prim.Native.Nat.{_+_, _≤_, _<_};
 ghost use lib.ListN.{length, take};
 ghost use Rattle.format.specs.Record.{recordsOf, recordAt};
-ghost use Rattle.read.specs.Parts.{part};
+ghost use Rattle.read.specs.Work.{part};
 ghost use Rattle.codec.specs.Codec.{instOf, codeOf};
 ghost use Rattle.roles.specs.Roles.{defsOf};
 ghost use Rattle.tidy.specs.Tidy.{placedIn, placedFrom, fieldsAt, written};

@@ -9,7 +9,7 @@ use Rattle.general.proofs.Booleans.{told}
 use Rattle.format.specs.Record.{recordsOf, blank}
 use Rattle.format.proofs.Laws.{length-records}
 use Rattle.layout.specs.Walk.{lead}
-use Rattle.layout.specs.Spans.{rightOf}
+use Rattle.layout.specs.Work.{rightOf}
 use Rattle.layout.proofs.Walks.{lead-pass, lead-stop, lead-end}
 use Rattle.layout.proofs.span.Statement.{statement}
 use Rattle.layout.proofs.span.Tie as tie

@@ -6,7 +6,7 @@ use lib.ListN.{length}
 use Rattle.format.specs.Record.{recordsOf}
 use Rattle.format.proofs.Laws.{length-records}
 use Rattle.read.specs.Reading.{readRecords}
-use Rattle.read.specs.Parts.{LaidOut}
+use Rattle.read.specs.Work.{LaidOut}
 use Rattle.read.proofs.Laid.{sizes, laid-of, end-is, beyond-is, few-arms, refuse-at, pass-on}
 use native.Mathlib.Nat.{zero-add}
 use borrow.Author.Needs.{needs}

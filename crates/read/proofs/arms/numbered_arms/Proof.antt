@@ -10,7 +10,7 @@ use Rattle.format.specs.Record.{recordsOf}
 use Rattle.format.proofs.Laws.{length-records}
 use Rattle.layout.specs.Walk.{walk}
 use Rattle.read.specs.Structure.{State, numbers, numbered, nextArm, tables}
-use Rattle.read.specs.Parts.{part}
+use Rattle.read.specs.Work.{part}
 use Rattle.read.proofs.Laws.{part-pass, part-stop, part-end, part-length, pair, tables-next}
 use Rattle.read.proofs.arms.numbered_arms.Statement.{statement}
 use Rattle.read.proofs.arms.numbered_arms.Tie as tie

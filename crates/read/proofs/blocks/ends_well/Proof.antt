@@ -7,7 +7,7 @@ use Rattle.format.specs.Record.{recordsOf}
 use Rattle.format.proofs.Laws.{length-records}
 use Rattle.layout.specs.Walk.{lead}
 use Rattle.read.specs.Structure.{terminator}
-use Rattle.read.specs.Parts.{part}
+use Rattle.read.specs.Work.{part}
 use Rattle.read.proofs.Laws.{part-length}
 use Rattle.layout.proofs.Walks.{lead-le}
 use borrow.Author.Needs.{needs}

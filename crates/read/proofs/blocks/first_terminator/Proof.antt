@@ -11,7 +11,7 @@ use Rattle.format.specs.Record.{recordsOf}
 use Rattle.format.proofs.Laws.{length-records}
 use Rattle.layout.specs.Walk.{lead}
 use Rattle.read.specs.Structure.{terminator}
-use Rattle.read.specs.Parts.{part}
+use Rattle.read.specs.Work.{part}
 use Rattle.read.proofs.Laws.{tests-pass, tests-stop, tests-end}
 use Rattle.read.proofs.blocks.first_terminator.Statement.{statement}
 use Rattle.read.proofs.blocks.first_terminator.Tie as tie

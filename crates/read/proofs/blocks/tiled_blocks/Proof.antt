@@ -10,7 +10,7 @@ use Rattle.format.specs.Record.{recordsOf}
 use Rattle.format.proofs.Laws.{length-records}
 use Rattle.layout.specs.Walk.{walk}
 use Rattle.read.specs.Structure.{State, tiles, tiled, nextBlock}
-use Rattle.read.specs.Parts.{part}
+use Rattle.read.specs.Work.{part}
 use Rattle.read.proofs.Laws.{part-pass, part-stop, part-end, part-length, pair}
 use Rattle.read.proofs.blocks.tiled_blocks.Statement.{statement}
 use Rattle.read.proofs.blocks.tiled_blocks.Tie as tie

@@ -8,7 +8,7 @@ use denote.Ref.{now}
 use lib.ListN.{length, drop}
 use Rattle.format.specs.Record.{recordsOf}
 use Rattle.format.proofs.Laws.{length-records}
-use Rattle.read.specs.Parts.{part}
+use Rattle.read.specs.Work.{part}
 use Rattle.codec.specs.Codec.{codeOf}
 use Rattle.tidy.specs.Tidy.{written, placedIn}
 use Rattle.tidy.specs.Work.{noted}
