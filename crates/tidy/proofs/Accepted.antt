@@ -18,8 +18,13 @@ use Rattle.layout.proofs.Walks.{walk-le}
 use Rattle.read.specs.declared.Reading.{Reading}
 use Rattle.read.specs.Structure.{tiles, nextBlock, tiled, codeOf as recordsOfBlock}
 use Rattle.read.specs.Reading.{unless, answer, reading, readRecords, readBlocks, beyond, beyondLimit, wrongLength}
+<<<<<<< HEAD
 use Rattle.read.specs.Parts.{part, InCode, LaidOut}
 use Rattle.read.proofs.Laid.{sizes, class-part, in-tiles}
+=======
+use Rattle.read.specs.Work.{part, InCode, LaidOut}
+use Rattle.read.proofs.Laid.{sizes, class-part, laid-of, end-is, in-tiles}
+>>>>>>> 53ca93069b3b02b5bd3b413f747eef9582f6cfac
 use Rattle.codec.specs.Codec.{codeOf}
 use Rattle.procedure.specs.Procedure.{procedureOf}
 use Rattle.ends.specs.Ends.{endOf, targets}

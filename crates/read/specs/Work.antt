@@ -1,4 +1,4 @@
--- A part of a file's records.
+-- Work definitions, for contracts between functions alone: a part of a file's records, and what is known of a file in order.
 use Prim.Native.Nat.{ℕ, _≤_, _<_}
 use mathlib.Core.List.{List}
 use mathlib.Core.Path.{_≡_}

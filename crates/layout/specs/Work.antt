@@ -1,4 +1,4 @@
--- The right records of one class.
+-- A work definition, for contracts between functions alone: the right records of one class.
 use Prim.Native.Nat.{ℕ}
 use mathlib.Core.Bool.{Bool, _&&_}
 use lib.Dec.{eqb}

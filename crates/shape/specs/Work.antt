@@ -1,4 +1,4 @@
--- Parts of the tests of a record.
+-- Work definitions, for contracts between functions alone: parts of the tests of a record.
 use Prim.Native.Nat.{ℕ}
 use mathlib.Core.List.{List, [], _∷_}
 use mathlib.Core.Bool.{Bool, true, _&&_}
