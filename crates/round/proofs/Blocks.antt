@@ -12,7 +12,7 @@ use lib.Seq.{take-all, take-at, drop-at, drop-drop, length-take-le}
 use Rattle.general.proofs.Booleans.{cases, and-first, and-second}
 use Rattle.format.specs.declared.Record.{Record}
 use Rattle.layout.specs.Walk.{walk}
-use Rattle.layout.specs.Spans.{rightOf}
+use Rattle.layout.specs.Work.{rightOf}
 use Rattle.layout.proofs.Walks.{walk-pass, walk-head, walk-tail}
 use Rattle.read.specs.Structure.{tiles, nextBlock, codeOf as recordsOfBlock}
 use Rattle.inst.specs.declared.Code.{Code}

@@ -15,7 +15,7 @@ use Rattle.format.specs.declared.Record.{Record}
 use Rattle.format.specs.Kinds.{right}
 use Rattle.layout.specs.Walk.{walk}
 use Rattle.layout.specs.Classes.{inOrder, ordered, ofClass, before}
-use Rattle.layout.specs.Spans.{rightOf}
+use Rattle.layout.specs.Work.{rightOf}
 use Rattle.layout.proofs.Walks.{walk-pass, walk-head, walk-tail}
 use Rattle.layout.proofs.Order.{Sorted, sorted-of, before-none, before-count, before-end, ordered-end, of-part}
 use Rattle.procedure.specs.Lists.{joined}

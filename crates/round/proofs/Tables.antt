@@ -13,7 +13,7 @@ use Rattle.general.proofs.Booleans.{cases, and-first, and-second}
 use Rattle.format.specs.declared.Record.{Record}
 use Rattle.format.specs.Kinds.{right}
 use Rattle.layout.specs.Walk.{walk}
-use Rattle.layout.specs.Spans.{rightOf}
+use Rattle.layout.specs.Work.{rightOf}
 use Rattle.layout.proofs.Walks.{walk-pass, walk-head, walk-tail}
 use Rattle.read.specs.Structure.{State, numbers, nextArm, isDefault, tables}
 use Rattle.store.specs.Store.{Fits}

@@ -1,5 +1,5 @@
 -- What a file that Read accepts is, for the steps of Tidy.
-use Prim.Native.Nat.{ℕ, _+_, _*_, _-_, _%_, _≤_, _<_}
+use Prim.Native.Nat.{ℕ, _-_, _%_, _≤_, _<_}
 use native.Mathlib.Omega.{arith}
 use mathlib.Core.Path.{_≡_, refl, sym, ap, subst, _∙_}
 use mathlib.Core.Bool.{Bool, true, false, _||_, not, cond}
@@ -8,23 +8,18 @@ use mathlib.Core.Logic.{_⊎_, inl, inr}
 use borrow.Author.Tests.{ltb-false, eq-eqb, ne-eqb}
 use lib.Dec.{eqb, ltb}
 use lib.ListN.{length, getD, replicate, length-map, length-replicate, getD-replicate, List·getD-map}
-use Rattle.general.proofs.Booleans.{cases}
 use Rattle.format.specs.declared.Record.{Record}
 use Rattle.format.specs.Record.{recordsOf}
 use Rattle.format.proofs.Laws.{length-records}
 use Rattle.layout.specs.declared.Layout.{Layout}
-use Rattle.layout.specs.Classes.{ofClass, ordered, layoutOf}
+use Rattle.layout.specs.Classes.{ofClass, inOrder, ordered}
+use Rattle.general.proofs.Booleans.{cases}
 use Rattle.layout.proofs.Walks.{walk-le}
 use Rattle.read.specs.declared.Reading.{Reading}
 use Rattle.read.specs.Structure.{tiles, nextBlock, tiled, codeOf as recordsOfBlock}
 use Rattle.read.specs.Reading.{unless, answer, reading, readRecords, readBlocks, beyond, beyondLimit, wrongLength}
-<<<<<<< HEAD
-use Rattle.read.specs.Parts.{part, InCode, LaidOut}
+use Rattle.read.specs.Work.{InCode, LaidOut}
 use Rattle.read.proofs.Laid.{sizes, class-part, in-tiles}
-=======
-use Rattle.read.specs.Work.{part, InCode, LaidOut}
-use Rattle.read.proofs.Laid.{sizes, class-part, laid-of, end-is, in-tiles}
->>>>>>> 53ca93069b3b02b5bd3b413f747eef9582f6cfac
 use Rattle.codec.specs.Codec.{codeOf}
 use Rattle.procedure.specs.Procedure.{procedureOf}
 use Rattle.ends.specs.Ends.{endOf, targets}

@@ -1,32 +1,28 @@
 -- Laws of the targets noted block by block.
-use Prim.Native.Nat.{ℕ, zero, suc, _+_, _*_, _-_, _≤_, _<_}
+use Prim.Native.Nat.{ℕ, _+_, _*_, _-_, _≤_, _<_}
 use native.Mathlib.Omega.{arith}
-use mathlib.Core.Path.{_≡_, refl, sym, ap, subst, _∙_}
+use mathlib.Core.Path.{_≡_, sym, ap, subst, _∙_}
 use mathlib.Core.Bool.{true, false}
-use mathlib.Core.List.{List, [], _∷_, map}
+use mathlib.Core.List.{List, [], map}
 use mathlib.Core.Logic.{⊎-elim}
 use borrow.Author.Tests.{eqb-true, eqb-false, ltb-true, ltb-false}
 use lib.Dec.{eqb, ltb}
 use lib.ListN.{length, getD, set, replicate, length-set, length-map, getD-replicate, List·getD-map, List·getD-eq-default}
 use lib.Seq.{getD-set-same, getD-set-other}
-use Rattle.general.proofs.Booleans.{cases}
 use Rattle.format.specs.declared.Record.{Record}
 use Rattle.format.specs.Record.{blank}
 use Rattle.layout.specs.declared.Layout.{Layout}
-use Rattle.read.specs.Parts.{part}
+use Rattle.general.proofs.Booleans.{cases}
+use Rattle.general.proofs.Lists.{getD-any}
+use Rattle.read.specs.Work.{part}
 use Rattle.read.proofs.Laws.{part-length, part-at}
 use Rattle.inst.specs.declared.Code.{Code}
 use Rattle.codec.specs.Codec.{codeOf}
-use Rattle.ends.specs.Ends.{codeAt, viewOf, endOf, targets}
+use Rattle.ends.specs.Ends.{viewOf, endOf, targets}
 use Rattle.ends.proofs.Laws.{end-last}
 use Rattle.tidy.specs.Work.Parts.{blockRecords, blockCode, blocksIn, Fit}
 use Rattle.tidy.specs.Work.Marks.{Pair, PairAt, targetsAt, TargetsIn}
 use Rattle.tidy.proofs.Tables.{blocks-length, block-in, block-code}
-
-getD-any : {A : Type 0} (l : List A) (k : ℕ) (d e : A) → k < length l → getD l k d ≡ getD l k e
-getD-any [] k d e h = absurd (omega arith)
-getD-any (x ∷ l) zero d e h = refl
-getD-any (x ∷ l) (suc k) d e h = getD-any l k d e (omega arith)
 
 -- the end of a block is that of its last record
 module _ {rs : List Record} {l : Layout} (h : Fit rs l) (k : ℕ) {r : Record} (i : k < l .bodies - l .blocks) (e : r ≡ getD rs (l .blocks + k) blank) where

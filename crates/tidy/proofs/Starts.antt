@@ -8,10 +8,10 @@ use mathlib.Core.Logic.{_⊎_, inl, inr}
 use borrow.Author.Tests.{ltb-true, ltb-false}
 use lib.Dec.{ltb}
 use lib.ListN.{length, getD}
-use Rattle.general.proofs.Booleans.{cases}
 use Rattle.format.specs.declared.Record.{Record}
 use Rattle.format.specs.Record.{blank}
 use Rattle.layout.specs.Classes.{ordered, before}
+use Rattle.general.proofs.Booleans.{cases}
 use Rattle.layout.proofs.Order.{Sorted, tail-in, before-in, before-out, before-none, before-count, sorted-of}
 
 -- record k is of a class before c where it stands before their end

@@ -1,21 +1,11 @@
 ghost use mathlib.Core.Path.{_≡_};
 ghost use Prim.Native.Nat.{_+_, _-_, _≤_, _<_};
 ghost use lib.ListN.{length, getD};
-<<<<<<< HEAD
 ghost use Rattle.format.specs.Record.{recordsOf};
 ghost use Rattle.tidy.specs.Tidy.{told};
 ghost use Rattle.tidy.specs.Work.Parts.{operandsIn, Fit};
 ghost use Rattle.tidy.specs.Work.Marks.{edgesIn, Kept};
 ghost use Rattle.tidy.specs.Work.Reads.{judged, judgedIn, step, steppedIn, lower as lowerBy, Five, allReads, rolesReads, readCount, readsAt, partReads, fileReads};
-=======
-ghost use Rattle.format.specs.Record.{recordsOf, recordAt};
-ghost use Rattle.read.specs.Work.{part};
-ghost use Rattle.codec.specs.Codec.{instOf, codeOf};
-ghost use Rattle.roles.specs.Roles.{readsOf};
-ghost use Rattle.lead.specs.Lead.{arcs, leading};
-ghost use Rattle.tidy.specs.Tidy.{placedIn, placedFrom, fieldsAt, reads, told};
-ghost use Rattle.tidy.specs.Work.{judged, judgedAll, step, stepped, lower as lowerBy, Kept, Five, allReads, readCount, operandsIn, blocksIn, Fit};
->>>>>>> 53ca93069b3b02b5bd3b413f747eef9582f6cfac
 use crate::Tidiness;
 use crate::lead;
 use inst::BlockId;

@@ -2,9 +2,8 @@ ghost use mathlib.Core.Path.{_≡_};
 ghost use mathlib.Core.List.{map};
 ghost use Prim.Native.Nat.{_+_, _≤_, _<_};
 ghost use lib.ListN.{length, take};
-<<<<<<< HEAD
 ghost use Rattle.format.specs.Record.{recordsOf};
-ghost use Rattle.read.specs.Parts.{part};
+ghost use Rattle.read.specs.Work.{part};
 ghost use Rattle.codec.specs.Codec.{codeOf};
 ghost use Rattle.roles.specs.Roles.{numbersOf};
 ghost use Rattle.tidy.specs.Tidy.{placedIn, placedFrom, written};
@@ -12,15 +11,6 @@ ghost use Rattle.tidy.specs.Work.Parts.{blocksIn, Fit};
 ghost use Rattle.tidy.specs.Work.Writers.{note, notes, noted, writtenAt};
 use inst::BlockId;
 use inst::Reg;
-=======
-ghost use Rattle.format.specs.Record.{recordsOf, recordAt};
-ghost use Rattle.read.specs.Work.{part};
-ghost use Rattle.codec.specs.Codec.{instOf, codeOf};
-ghost use Rattle.roles.specs.Roles.{defsOf};
-ghost use Rattle.tidy.specs.Tidy.{placedIn, placedFrom, fieldsAt, written};
-ghost use Rattle.tidy.specs.Work.{note, notes, noted, blocksIn, Fit};
-use inst::Inst;
->>>>>>> 53ca93069b3b02b5bd3b413f747eef9582f6cfac
 use layout::Layout;
 use roles::Roles;
 

@@ -7,12 +7,8 @@ use denote.Ref.{now}
 use lib.ListN.{length, drop}
 use Rattle.format.specs.Record.{recordsOf}
 use Rattle.format.proofs.Laws.{length-records}
-<<<<<<< HEAD
-use Rattle.read.specs.Parts.{part}
-use Rattle.read.proofs.Laws.{part-length}
-=======
 use Rattle.read.specs.Work.{part}
->>>>>>> 53ca93069b3b02b5bd3b413f747eef9582f6cfac
+use Rattle.read.proofs.Laws.{part-length}
 use Rattle.codec.specs.Codec.{codeOf}
 use Rattle.tidy.specs.Tidy.{written, placedIn}
 use Rattle.tidy.specs.Work.Writers.{noted}
