@@ -27,10 +27,18 @@ DEFINITION = "Rattle.steps.specs.Shorten.{Answer, shorten}"
 
 
 def claim(answer):
+    entry, _ = buffers(answer)
     numbers = answer.number, answer.record, answer.moved, answer.grown, answer.fresh, answer.rescued, answer.length
     fields = zip("number place moved grown fresh rescued length".split(), numbers)
     record = "; ".join(f"{field} = {value}" for field, value in fields)
-    return f"shorten {bytes_of(answer.input)} {answer.room} ≡ record {{ {record}; bytes = {bytes_of(answer.output)} }}"
+    return f"shorten {bytes_of(answer.input)} {len(entry)} ≡ record {{ {record}; bytes = {bytes_of(answer.output)} }}"
+
+
+def buffers(answer):
+    """A buffer at entry with which the answer is due, and the buffer at exit; no longer than need be."""
+    room = answer.room if answer.number == 9 else min(answer.room, answer.length + 7)
+    entry = bytes((7 * k + 0x5A) % 256 for k in range(room))
+    return entry, answer.output + entry[len(answer.output):]
 
 
 A_FILE = 20  # answers in one file of the scratch crate
