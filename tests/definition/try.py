@@ -3,10 +3,10 @@
 
     tests/definition/try.py [--all] [--list FILE] [NAME...]
 
-Takes the answers for files of at most 64 records, accepted with 6 to 24 instructions or refused,
-or those named; with --all every answer. For each it writes a claim, to be proved by `refl`, into
-a scratch crate in a temporary folder, has it checked, and says how many hold. With --all some of
-the largest files take more steps than antt allows one declaration; else that is a failure.
+Takes the answers for files of at most 150 records, or those named; with --all every answer. For
+each it writes a claim, to be proved by `refl`, into a scratch crate in a temporary folder, has it
+checked, and says how many hold. With --all some of the largest files take more steps than antt
+allows one declaration; else that is a failure.
 """
 
 import os
@@ -161,7 +161,7 @@ def main(words):
     if wanted:
         chosen = [a for a in stored if a.name in wanted]
     else:
-        chosen = [a for a in stored if every or (a.small or a.number > 0) and len(a.input) <= 2048]
+        chosen = [a for a in stored if every or len(a.input) <= 150 * 32]
 
     start = time.time()
     made = subprocess.run(["rt", "check", CRATE], cwd=ROOT, capture_output=True, text=True)
