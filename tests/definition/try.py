@@ -23,15 +23,16 @@ from answers import answers  # noqa: E402
 
 # All that is known here of the definition: where it stands, and how an answer is claimed of it.
 CRATE = "steps"
-DEFINITION = "Rattle.steps.specs.Shorten.{Answer, shorten}"
+DEFINITION = "Rattle.steps.specs.Shorten.{Outcome, shorten}"
 
 
 def claim(answer):
-    entry, _ = buffers(answer)
-    numbers = answer.number, answer.record, answer.moved, answer.grown, answer.fresh, answer.rescued, answer.length
-    fields = zip("number place moved grown fresh rescued length".split(), numbers)
+    entry, exit = buffers(answer)
+    numbers = answer.number, answer.record, answer.length, answer.moved, answer.grown, answer.fresh, answer.rescued
+    fields = zip("number place length moved grown fresh rescued".split(), numbers)
     record = "; ".join(f"{field} = {value}" for field, value in fields)
-    return f"shorten {bytes_of(answer.input)} {len(entry)} ≡ record {{ {record}; bytes = {bytes_of(answer.output)} }}"
+    outcome = f"record {{ answer = record {{ {record} }}; output = {bytes_of(exit)} }}"
+    return f"shorten {bytes_of(answer.input)} {bytes_of(entry)} ≡ {outcome}"
 
 
 def buffers(answer):
