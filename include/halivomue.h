@@ -12,8 +12,8 @@
  *          thread or a device changes during the call; nothing else is written,
  *          so nothing else can overlap them.
  * Stack    HALIVOMUE_READ_STACK and HALIVOMUE_TIDY_STACK bytes suffice below the
- *          caller's frame; signal handlers come on top. Without recursion, so
- *          the need is the same for every file.
+ *          caller's frame, for every file: there is no recursion. Signal handlers
+ *          come on top.
  * Errors   there are none: every function ends, on any bytes, with its answer.
  */
 #ifndef HALIVOMUE_H
