@@ -1,8 +1,7 @@
 #!/usr/bin/env python3
-"""Shows that docs/FORMAT.md is enough to answer Read and Tidy: it is written from that page alone.
+"""Read and Tidy as docs/FORMAT.md has them, held to the lists in tests/vectors.
 
-The limits and the table of instructions are taken from the page as it stands. The answers are held to the lists in
-tests/vectors.
+The limits and the table of instructions are taken from the page as it stands; the rest carries out its sentences.
 """
 import pathlib
 import re

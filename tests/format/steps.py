@@ -1,8 +1,5 @@
 #!/usr/bin/env python3
-"""Shows that docs/FORMAT.md is enough to shorten: it is written from that page alone, over page.py.
-
-The answers are held to those of the published Rust that are stored in tests/reference/answers.txt.
-"""
+"""Shorten as docs/FORMAT.md has it, over page.py, held to the stored answers of the published Rust (tests/reference/answers.txt)."""
 import copy
 import pathlib
 import sys
