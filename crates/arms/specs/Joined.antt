@@ -1,53 +1,55 @@
--- Equal arms over the bytes of the code.
-use Prim.Native.Nat.{ℕ, _/_}
-use mathlib.Core.Path.{_≡_}
+-- Document 01, "Equal arms", over the bytes of code and block table, for any blocks.
+use Prim.Native.Nat.{ℕ, zero, suc, _/_}
 use mathlib.Core.List.{List, []}
-use mathlib.Core.Bool.{Bool, false, cond}
+use mathlib.Core.Bool.{Bool, true, false}
 use lib.Dec.{eqb}
-use lib.ListN.{length, getD, set}
-use Rattle.format.specs.declared.Record.{Record}
-use Rattle.format.specs.Record.{recordsOf}
-use Rattle.inst.specs.declared.Code.{Code}
+use lib.ListN.{length, getD}
+use Rattle.format.specs.Record.{recordAt}
 use Rattle.inst.specs.declared.Inst.the-variants as i
 use Rattle.codec.specs.Codec.{blockOf}
-use Rattle.read.specs.Structure.{tiled}
-use Rattle.steps.specs.Ends as e
-use Rattle.steps.specs.EqualArms.{Arms, reachedFrom, joinArms}
 use Rattle.ends.specs.declared.End.{End}
-use Rattle.ends.specs.declared.End.the-variants as v
+use Rattle.ends.specs.declared.End.the-variants as e
+use Rattle.ends.specs.Ends.{endOf}
+use Rattle.blocks.specs.Blocks.{blocksOf}
+use Rattle.blocks.specs.Rewrite.{endRewritten}
+use Rattle.steps.specs.EqualArms.{Arms, reachedFrom}
 
--- "blocks tile the code", as Read has it
-abbrev pub Tiled : List ℕ → List ℕ → Type 0
-Tiled code blocks = tiled (length code / 32) (recordsOf blocks) ≡ length (recordsOf blocks)
+-- the code's bytes, and whether some CondBr was written over
+pub record Joined : Type 0 where
+  pub code : List ℕ
+  pub edited : Bool
 
--- from block b over a lone Br that doesn't target itself, by an end as the code has it
-abbrev pub pastShown : ℕ → End → ℕ
-pastShown b (v.Br t) = cond (eqb (t .0) b) b (t .0)
-pastShown b (v.CondBr c t f) = b
-pastShown b (v.Case n) = b
-pastShown b v.Other = b
+abbrev pub joined : List ℕ → Bool → Joined
+joined code edited = record { code = code; edited = edited }
 
--- a CondBr both of whose arms reach one block
-abbrev pub joinsEnd : List (List Code) → e.End → Bool
-joinsEnd P (e.br t) = false
-joinsEnd P (e.condBr c t f) = eqb (reachedFrom P t) (reachedFrom P f)
-joinsEnd P (e.case n) = false
-joinsEnd P e.other = false
+-- what the definition sees of them
+abbrev pub armsOf : List ℕ → Joined → Arms
+armsOf table s = record { blocks = blocksOf (s .code) table; edited = s .edited }
 
-abbrev pub joins : List (List Code) → ℕ → Bool
-joins P k = joinsEnd P (e.endOf (getD P k []))
+-- over a block table
+module _ (table : List ℕ) where
+  -- "write Br there"
+  abbrev pub joinIf : Bool → ℕ → ℕ → Joined → Joined
+  joinIf true k to s = joined (endRewritten (s .code) (recordAt table k) (i.Br (blockOf to))) true
+  joinIf false k to s = s
 
--- "18 Br to", with a statement
-abbrev pub brRecord : ℕ → ℕ → Record
-brRecord to stmt = record { class = 4; kind = 18; op = 0; zero = 0; stmt = stmt; p1 = to; p2 = 0; p3 = 0; p4 = 0; p5 = 0; p6 = 0 }
+  -- "if both reach one block"
+  abbrev pub joinEnd : End → ℕ → Joined → Joined
+  joinEnd (e.Br to) k s = s
+  joinEnd (e.CondBr c t f) k s =
+      let to = reachedFrom (blocksOf (s .code) table) (t .0) in
+      joinIf (eqb to (reachedFrom (blocksOf (s .code) table) (f .0))) k to s
+  joinEnd (e.Case n) k s = s
+  joinEnd e.Other k s = s
 
--- "write Br there"
-abbrev pub withBr : List (List Code) → ℕ → ℕ → List (List Code)
-withBr P k to = set P k (e.withEnd (i.Br (blockOf to)) (getD P k []))
+  -- block k
+  unfoldable pub joinArms : ℕ → Joined → Joined
+  joinArms k s = joinEnd (endOf (getD (blocksOf (s .code) table) k [])) k s
 
-abbrev pub armsOf : List (List Code) → Bool → Arms
-armsOf P edited = record { blocks = P; edited = edited }
+  -- "Blocks ascending, earlier edits seen": n blocks from block k on
+  unfoldable pub joinFrom : ℕ → ℕ → Joined → Joined
+  joinFrom zero k s = s
+  joinFrom (suc n) k s = joinFrom n (suc k) (joinArms k s)
 
--- the blocks once those of block k are joined
-abbrev pub joinedBlocks : List (List Code) → ℕ → List (List Code)
-joinedBlocks P k = joinArms k (armsOf P false) .blocks
+  abbrev pub equalArmsIn : List ℕ → Joined
+  equalArmsIn code = joinFrom (length table / 32) 0 (joined code false)

@@ -6,10 +6,10 @@ use mathlib.Core.Bool.{true}
 use lib.Dec.{ltb}
 use lib.ListN.{getD}
 use borrow.Author.Tests.{lt-ltb, ltb-true}
+use Rattle.general.proofs.Numbers.{below}
 use Rattle.real.proofs.Laws.{real-canonical}
 use Rattle.inst.specs.declared.Inst.the-variants as i
 use Rattle.ops.specs.Ops.{spaceOf, optOf, optArg}
-use Rattle.ops.proofs.Laws.{below}
 use Rattle.codec.specs.Codec.{wordOf, insts, spaceInRange, inRange}
 
 -- six fields of 32 bits

@@ -141,6 +141,14 @@ withStmt r n = record {
 abbrev pub recordOf : Code → Record
 recordOf c = withStmt (instRecord (c .inst)) (c .stmt .0)
 
+-- an instruction in place of a code's own: all else of it stays
+abbrev pub withInst : Inst → Code → Code
+withInst x c = record { inst = x; stmt = c .stmt }
+
+-- and in place of a record's
+abbrev pub rewrittenRecord : Record → Inst → Record
+rewrittenRecord r x = recordOf (withInst x (codeOf r))
+
 -- "32-bit fields"
 abbrev pub words : List ℕ → Bool
 words [] = true

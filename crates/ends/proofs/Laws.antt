@@ -14,8 +14,9 @@ use Rattle.inst.specs.declared.Inst.the-variants as i
 use Rattle.inst.specs.Inst.{kindOf}
 use Rattle.codec.specs.Codec.{codeOf}
 use Rattle.procedure.specs.Procedure.{codesOf}
-use Rattle.steps.specs.Ends.{End, other, viewOf, endOf, loneOf}
-use Rattle.ends.specs.Shown.{codeAt}
+use Rattle.ends.specs.declared.End.the-variants as v
+use Rattle.ends.specs.Forms.{formOf}
+use Rattle.ends.specs.Ends.{codeAt, viewOf, endOf, loneOf}
 
 -- there is one instruction for each record
 pub length-codes : (b : List ℕ) → length (codesOf b) ≡ length b / 32
@@ -28,8 +29,8 @@ code-at b k = List·getD-map codeOf (recordsOf b) k blank
 abbrev pub branchKind : ℕ → Bool
 branchKind k = eqb k 18 || (eqb k 19 || eqb k 20)
 
-pub other-view : (x : Inst) → branchKind (kindOf x) ≡ false → viewOf x ≡ other
-unfolding viewOf
+pub other-view : (x : Inst) → branchKind (kindOf x) ≡ false → viewOf x ≡ v.Other
+unfolding viewOf formOf
 other-view (i.Const d v) q = refl
 other-view (i.ConstF d v) q = refl
 other-view (i.Move d s) q = refl
@@ -64,7 +65,7 @@ end-last (x ∷ []) (suc n) e = absurd (omega arith)
 end-last (x ∷ (y ∷ c)) zero e = absurd (omega arith)
 end-last (x ∷ (y ∷ c)) (suc n) e = end-last (y ∷ c) n (omega arith)
 
-pub end-none : (c : List Code) → length c ≡ 0 → endOf c ≡ other
+pub end-none : (c : List Code) → length c ≡ 0 → endOf c ≡ v.Other
 unfolding endOf
 end-none [] e = refl
 end-none (x ∷ c) e = absurd (omega arith)
@@ -74,7 +75,7 @@ lone-one [] e = absurd (omega arith)
 lone-one (x ∷ []) e = refl
 lone-one (x ∷ (y ∷ c)) e = absurd (omega arith)
 
-pub lone-none : (c : List Code) → (length c ≡ 1 → ⊥) → loneOf c ≡ other
+pub lone-none : (c : List Code) → (length c ≡ 1 → ⊥) → loneOf c ≡ v.Other
 lone-none [] e = refl
 lone-none (x ∷ []) e = absurd (e refl)
 lone-none (x ∷ (y ∷ c)) e = refl

@@ -1,7 +1,6 @@
 ghost use mathlib.Core.Path.{_≡_};
 ghost use Rattle.procedure.specs.Procedure.{codesOf};
-ghost use Rattle.steps.specs.Ends as ends;
-ghost use Rattle.ends.specs.Shown.{shown, codeAt};
+ghost use Rattle.ends.specs.Ends.{codeAt, viewOf, endOf, loneOf};
 use inst::BlockId;
 use inst::Inst;
 use inst::Reg;
@@ -22,7 +21,7 @@ pub fn inst_at(code: &[u8], k: usize) -> Inst
 }
 
 pub fn view_of(i: Inst) -> End
-    ensures { λ r. ⌜ r ≡ shown (ends.viewOf i) ⌝ }
+    ensures { λ r. ⌜ r ≡ viewOf i ⌝ }
 {
     match i {
         Inst::Br { to } => End::Br(to),
@@ -34,7 +33,7 @@ pub fn view_of(i: Inst) -> End
 
 // The end of a block.
 pub fn end_of(code: &[u8]) -> End
-    ensures { λ r. ⌜ r ≡ shown (ends.endOf (codesOf (now (code .entry)))) ⌝ }
+    ensures { λ r. ⌜ r ≡ endOf (codesOf (now (code .entry))) ⌝ }
 {
     let n = code.len() / 32;
     if n == 0 {
@@ -45,7 +44,7 @@ pub fn end_of(code: &[u8]) -> End
 
 // The end of a block that holds nothing else.
 pub fn lone_of(code: &[u8]) -> End
-    ensures { λ r. ⌜ r ≡ shown (ends.loneOf (codesOf (now (code .entry)))) ⌝ }
+    ensures { λ r. ⌜ r ≡ loneOf (codesOf (now (code .entry))) ⌝ }
 {
     if code.len() / 32 == 1 {
         return view_of(inst_at(code, 0));

@@ -6,6 +6,8 @@ use mathlib.Core.Bool.{Bool, true, false, _&&_}
 use mathlib.Core.List.{[], _∷_}
 use lib.Dec.{ltb, eqb, lit<}
 use borrow.Author.Tests.{lt-ltb, ltb-true, eqb-true}
+use Rattle.general.proofs.Booleans.{and-first, and-second}
+use Rattle.general.proofs.Numbers.{below}
 use Rattle.format.specs.declared.Record.{Record}
 use Rattle.format.specs.Kinds.{right, fields, kindCount, places, allFit, zeros}
 use Rattle.inst.specs.declared.Reg.{Reg}
@@ -14,10 +16,10 @@ use Rattle.inst.specs.declared.BlockId.{BlockId}
 use Rattle.inst.specs.declared.Block.{Block}
 use Rattle.inst.specs.declared.Arm.{Arm}
 use Rattle.ops.specs.Ops.{regTyOf, regTyNum}
-use Rattle.ops.proofs.Laws.{below, reg-ty-num, reg-ty-back, reg-ty-lt}
+use Rattle.ops.proofs.Laws.{reg-ty-num, reg-ty-back, reg-ty-lt}
 use Rattle.store.specs.Store.{Fits}
 use Rattle.codec.specs.Codec.{wordOf, lowOf, highOf}
-use Rattle.codec.proofs.Read.{first, second, word-join}
+use Rattle.codec.proofs.Read.{word-join}
 use Rattle.codec.proofs.Write.{all-zero, low-word, high-word}
 use Rattle.items.specs.Items.{rowOf, registerOf, registerRecord, blockOf, blockRecord, bodyOf, bodyRecord, operandOf, operandRecord, armOf, armKind, armRecord, ArmInRange}
 
@@ -36,17 +38,17 @@ plain : (class : ℕ) (r : Record) → r .class ≡ class →
     && (ltb (r .op) 1 && (eqb (r .zero) 0 && (eqb (r .stmt) 0 && allFit (places class (r .kind) (r .op)) (fields r)))))
     ≡ true → Plain class r
 plain class r e a =
-    let b = second (ltb (r .kind) (kindCount class)) _ a in
-    let c = second (ltb (r .op) 1) _ b in
-    let d = second (eqb (r .zero) 0) _ c in
-    let o = ltb-true (r .op) 1 (first (ltb (r .op) 1) _ b) in
+    let b = and-second (ltb (r .kind) (kindCount class)) _ a in
+    let c = and-second (ltb (r .op) 1) _ b in
+    let d = and-second (eqb (r .zero) 0) _ c in
+    let o = ltb-true (r .op) 1 (and-first (ltb (r .op) 1) _ b) in
     record {
       class-is = e;
-      kind = ltb-true (r .kind) (kindCount class) (first (ltb (r .kind) (kindCount class)) _ a);
+      kind = ltb-true (r .kind) (kindCount class) (and-first (ltb (r .kind) (kindCount class)) _ a);
       op = omega arith;
-      zero = eqb-true (r .zero) 0 (first (eqb (r .zero) 0) _ c);
-      stmt = eqb-true (r .stmt) 0 (first (eqb (r .stmt) 0) _ d);
-      places = second (eqb (r .stmt) 0) _ d;
+      zero = eqb-true (r .zero) 0 (and-first (eqb (r .zero) 0) _ c);
+      stmt = eqb-true (r .stmt) 0 (and-first (eqb (r .stmt) 0) _ d);
+      places = and-second (eqb (r .stmt) 0) _ d;
     }
 
 abbrev fullOf : ℕ → ℕ → ℕ → ℕ → ℕ → ℕ → ℕ → ℕ → ℕ → ℕ → ℕ → Record

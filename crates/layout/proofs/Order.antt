@@ -10,21 +10,15 @@ use borrow.Author.Tests.{ltb-true, ltb-false, leb-true, leb-false, eqb-true, eqb
 use lib.Dec.{eqb, ltb, leb}
 use lib.ListN.{length, getD, take, drop, length-drop}
 use lib.Seq.{drop-drop}
+pub use Rattle.general.proofs.Booleans.{and-first, and-second}
+use Rattle.general.proofs.Booleans.{cases}
 use Rattle.format.specs.declared.Record.{Record}
 use Rattle.format.specs.Kinds.{right}
 use Rattle.shape.proofs.Laws.{no-class}
 use Rattle.layout.specs.Walk.{walk, lead}
 use Rattle.layout.specs.Classes.{inOrder, ordered, ofClass, before}
 use Rattle.layout.specs.Spans.{rightOf}
-use Rattle.layout.proofs.Walks.{cases, walk-pass, walk-stop, walk-head, walk-tail, lead-le}
-
-pub and-first : (a b : Bool) → (a && b) ≡ true → a ≡ true
-and-first true b e = refl
-and-first false b e = e
-
-pub and-second : (a b : Bool) → (a && b) ≡ true → b ≡ true
-and-second true b e = e
-and-second false b e = absurd (mathlib.Core.Bool.false≢true e)
+use Rattle.layout.proofs.Walks.{walk-pass, walk-stop, walk-head, walk-tail, lead-le}
 
 -- how many records are right and in order after one of class p
 pub Ordered : ℕ → List Record → ℕ

@@ -1,15 +1,4 @@
-pub mod Word
 pub mod Act
 pub mod Machine
-pub mod Kinds
 pub mod Single
-pub mod Words
 pub mod Demand
-pub mod Reading
-pub mod Exact
-pub mod Shorter
-pub mod Exchanged
-pub mod Printed
-pub mod Refuted
-pub mod Holds
-pub mod Given

@@ -11,8 +11,8 @@ use Rattle.inst.specs.declared.Inst.{Inst}
 use Rattle.inst.specs.declared.Inst.the-variants as i
 use Rattle.real.specs.Real.{bitsOf}
 use Rattle.roles.specs.Roles.{defsOf, readsOf}
-use Rattle.procedure.specs.Procedure.{Table, Procedure, firstOf}
-use Rattle.machine.specs.Word.{choose, compares, tests, targetOf}
+use Rattle.procedure.specs.Procedure.{Table, Procedure, tableAt, firstOf}
+use Rattle.word.specs.Word.{choose, compares, tests, targetOf}
 use Rattle.machine.specs.Act.{Act, actOf}
 
 -- each register's word
@@ -42,9 +42,6 @@ pub data Effect : Type 0 where
   goes : ℕ → Effect
   ends : End → Effect
   asks : Act → Effect
-
-abbrev pub tableAt : List Table → ℕ → Table
-tableAt ts n = getD ts n (record { arms = []; default = 0 })
 
 -- over the kinds of the registers read and their values, in the order of the roles
 module _ (address : Address) (tables : List Table) (statement : ℕ) (kinds values : List ℕ) where

@@ -8,10 +8,10 @@ use lib.Dec.{eqb}
 use Rattle.inst.specs.declared.Code.{Code}
 use Rattle.inst.specs.declared.Inst.{Inst}
 use Rattle.procedure.specs.Procedure.{Procedure, firstOf}
-use Rattle.steps.specs.Lists.{joined}
-use Rattle.steps.specs.Counts.{writesIn}
-use Rattle.steps.specs.Facts.{fixedOf, writes as names}
-use Rattle.steps.specs.Emit.{isFixed}
+use Rattle.procedure.specs.Lists.{joined}
+use Rattle.procedure.specs.Counts.{singly}
+use Rattle.ends.specs.Forms.{fixedOf, isFixed}
+use Rattle.steps.specs.Facts.{writes as names}
 use Rattle.machine.specs.Machine.{Regs, Address, Effect, writes, goes, ends, asks, effect}
 
 abbrev pub given : Effect → Option ℕ
@@ -31,7 +31,7 @@ constantIn address (c ∷ cs) r = cond (names r (c .inst)) (constantOf address (
 
 -- the value of a register that one field of some code writes, that of a Const, ConstF or AddrOf
 unfoldable pub singleIn : Address → List Code → ℕ → Option ℕ
-singleIn address cs r = cond (eqb (writesIn cs r) 1) (constantIn address cs r) none
+singleIn address cs r = cond (singly cs r) (constantIn address cs r) none
 
 -- the value of a single constant
 abbrev pub single : Address → Procedure → ℕ → Option ℕ
@@ -40,14 +40,3 @@ single address p r = singleIn address (joined (p .blocks)) r
 -- "already loaded"
 abbrev pub Loaded : Address → Procedure → Regs → Type 0
 Loaded address p g = (r v : ℕ) → single address p r ≡ some v → g r ≡ v
-
--- any registers with the single constants loaded
-abbrev orElse : Option ℕ → ℕ → ℕ
-orElse none w = w
-orElse (some v) w = v
-
-abbrev pub load : Address → Procedure → Regs → Regs
-load address p g = λ r. orElse (single address p r) (g r)
-
-pub load-loads : (address : Address) (p : Procedure) (g : Regs) → Loaded address p (load address p g)
-load-loads address p g r v e = rw e

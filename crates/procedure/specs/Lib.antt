@@ -1,1 +1,3 @@
 pub mod Procedure
+pub mod Lists
+pub mod Counts

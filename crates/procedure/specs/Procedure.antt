@@ -3,7 +3,7 @@ use Prim.Native.Nat.{ℕ, _+_}
 use mathlib.Core.List.{List, [], _∷_, _++_, map}
 use mathlib.Core.Option.{Option, none, some}
 use mathlib.Core.Bool.{Bool, cond}
-use lib.ListN.{length}
+use lib.ListN.{length, getD}
 use Rattle.format.specs.declared.Record.{Record}
 use Rattle.format.specs.Record.{recordsOf}
 use Rattle.layout.specs.Classes.{ofClass}
@@ -51,6 +51,10 @@ tablesFrom seen (r ∷ rs) =
 abbrev pub firstOf : List ℕ → Option ℕ
 firstOf [] = none
 firstOf (x ∷ xs) = some x
+
+-- table n; one that doesn't exist has default 0
+abbrev pub tableAt : List Table → ℕ → Table
+tableAt ts n = getD ts n (record { arms = []; default = 0 })
 
 -- the procedure of a file that Read accepts
 unfoldable pub procedureOf : List Record → Procedure

@@ -10,6 +10,7 @@ use borrow.Author.Tests.{lt-ltb, le-ltb, eq-eqb, ltb-true, ltb-false, leb-true, 
 use lib.Dec.{ltb, leb, eqb}
 use lib.ListN.{length, getD, take, drop}
 use lib.Seq.{take-all}
+use Rattle.general.proofs.Booleans.{and-first, and-second, cases}
 use Rattle.format.specs.declared.Record.{Record}
 use Rattle.format.specs.Record.{blank}
 use Rattle.shape.specs.declared.exist.Counts.{Counts}
@@ -18,8 +19,8 @@ use Rattle.shape.proofs.Laws.{no-names}
 use Rattle.layout.specs.declared.Layout.{Layout}
 use Rattle.layout.specs.Walk.{walk, lead}
 use Rattle.layout.specs.Classes.{inOrder, ordered, ofClass, before, layoutOf}
-use Rattle.layout.proofs.Walks.{cases, walk-pass, walk-head, walk-tail, walk-le, lead-le}
-use Rattle.layout.proofs.Order.{Sorted, sorted-of, before-none, before-count, before-end, ordered-end, of-part, tail-in, class-from, before-in, before-out, and-first, and-second}
+use Rattle.layout.proofs.Walks.{walk-pass, walk-head, walk-tail, walk-le, lead-le}
+use Rattle.layout.proofs.Order.{Sorted, sorted-of, before-none, before-count, before-end, ordered-end, of-part, tail-in, class-from, before-in, before-out}
 use Rattle.read.specs.declared.Reading.{Reading}
 use Rattle.read.specs.Structure.{State, tiles, nextBlock, tiled, ended, numbered, tables}
 use Rattle.read.specs.Reading.{answer, unless, countsOf, named, beyond, beyondLimit}

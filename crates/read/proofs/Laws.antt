@@ -10,11 +10,13 @@ use borrow.Author.Tests.{ltb-true, ltb-false, leb-true, leb-false, eqb-true, eqb
 use lib.Dec.{eqb, ltb, leb}
 use lib.ListN.{length, getD, take, drop, length-drop}
 use lib.Seq.{getD-take, getD-drop, length-take-le, take-suc, take-take, drop-drop, take-nil}
+use Rattle.general.proofs.Lists.{drop-take}
+pub use Rattle.general.proofs.Booleans.{either, otherwise}
+use Rattle.general.proofs.Booleans.{both, neither, told}
 use Rattle.format.specs.declared.Record.{Record}
 use Rattle.format.specs.Record.{blank}
-use Rattle.shape.proofs.Laws.{both, neither}
 use Rattle.layout.specs.Walk.{walk, lead}
-use Rattle.layout.proofs.Walks.{pass-at, stop-at, end-at, told}
+use Rattle.layout.proofs.Walks.{pass-at, stop-at, end-at}
 use Rattle.read.specs.Structure.{State, codeOf, tiles, terminator, numbers, isDefault, tables}
 use Rattle.read.specs.Parts.{part, InCode}
 
@@ -80,13 +82,6 @@ module _ (p : Record → Bool) (rs : List Record) (first count : ℕ) (h : first
   pub tests-end : count ≤ k → k ≡ k + lead p (drop k (part first count rs))
   tests-end = part-end (λ s r. p r) (λ s r. s) rs first count h k (tt {0})
 
--- a part of a part
-drop-take : {A : Type 0} (m n : ℕ) (l : List A) → drop m (take n l) ≡ take (n - m) (drop m l)
-drop-take zero n l = let e : n ≡ n - 0 = omega arith in ap (λ (k : ℕ). take k l) e
-drop-take (suc m) zero l = let e : 0 ≡ 0 - suc m = omega arith in ap (λ (k : ℕ). take k (drop (suc m) l)) e
-drop-take (suc m) (suc n) [] = sym (take-nil (suc n - suc m))
-drop-take (suc m) (suc n) (x ∷ l) = let e : n - m ≡ suc n - suc m = omega arith in drop-take m n l ∙ ap (λ (k : ℕ). take k (drop m l)) e
-
 -- the code of a block
 pub code-part : (rs : List Record) (code n : ℕ) (r : Record) → r .p1 < r .p2 → r .p2 ≤ n → part (code + r .p1) (r .p2 - r .p1) rs ≡ codeOf (part code n rs) r
 code-part rs code n r h i =
@@ -117,10 +112,3 @@ pub tables-next : (rs : List Record) (first count k : ℕ) (h : first + count �
 tables-next rs first count k h r i e {t} {d} f g =
     rw (f, g, e ∙ sym (part-at rs first count h k i), add-one k, take-suc (part first count rs) k blank (rw (part-length rs first count h) i))
     (sym (tables-snoc (take k (part first count rs)) (getD (part first count rs) k blank)))
-
--- what a disjunction comes to once its first part is known
-pub either : (b : Bool) {a : Bool} → a ≡ true → true ≡ (a || b)
-either b e = ap (λ (y : Bool). y || b) (sym e)
-
-pub otherwise : {a b x : Bool} → a ≡ false → x ≡ b → x ≡ (a || b)
-otherwise {a} {b} e f = f ∙ ap (λ (y : Bool). y || b) (sym e)

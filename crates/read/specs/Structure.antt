@@ -22,9 +22,12 @@ nextBlock s r = (r .p2, s .1 - 1)
 abbrev pub tiled : ℕ → List Record → ℕ
 tiled n blocks = walk (tiles n) nextBlock (0, length blocks) blocks
 
--- "kinds 18 to 22"
+-- "terminator (kinds 18 to 22)"
+abbrev pub terminatorKind : ℕ → Bool
+terminatorKind k = leb 18 k && leb k 22
+
 abbrev pub terminator : Record → Bool
-terminator r = leb 18 (r .kind) && leb (r .kind) 22
+terminator r = terminatorKind (r .kind)
 
 -- "each ending in its only terminator": the first terminator of a block's code is its last instruction
 abbrev pub endsWell : List Record → Bool

@@ -9,37 +9,14 @@ use mathlib.Core.List.{List, [], _∷_}
 use lib.Dec.{leb, ltb, eqb, leb·suc-suc, leb·zero, leb·suc-zero, eqb·suc-zero}
 use borrow.Author.Tests.{lt-ltb, le-ltb, lt-leb, ne-eqb, eq-eqb}
 use lib.ListN.{length, getD, drop, drop-of-length-le, List·getD-eq-default}
+use Rattle.general.proofs.Lists.{at-rest}
+pub use Rattle.general.proofs.Booleans.{both, neither}
+pub use Rattle.general.proofs.Lists.{at-key}
 use Rattle.format.specs.declared.Record.{Record}
 use Rattle.format.specs.Kinds.{Place, spaceNumber, unused, register, optional, zeros, fields, allFit, places, kindCount, opCount, statementFits, instructionPlaces, right}
 use Rattle.shape.specs.Parts.{plain, below, listedPlaces}
 use Rattle.shape.specs.declared.exist.Counts.{Counts}
 use Rattle.shape.specs.Exist.{exist, allExist, namesExist}
-
--- what the default of a `match` with the keys 0, 1, .., n - 1 knows
-abbrev pub None : ℕ → ℕ → Type 0
-None zero x = Unit {0}
-None (suc n) x = None n x × (x ≡ n → ⊥)
-
-next : (n x : ℕ) → n ≤ x → (x ≡ n → ⊥) → suc n ≤ x
-next n x a b = omega arith
-
-pub past : (n x : ℕ) → None n x → n ≤ x
-past zero x h = omega arith
-past (suc n) x h = next n x (past n x (h .0)) (h .1)
-
--- what a list has at a known index, and past its end
-pub at-key {ℓ} : {A : Type ℓ} (l : List A) (d : A) {x k : ℕ} → x ≡ k → getD l k d ≡ getD l x d
-at-key l d e = ap (λ n. getD l n d) (sym e)
-
-pub at-rest {ℓ} : {A : Type ℓ} (l : List A) (d : A) {x : ℕ} → length l ≤ x → d ≡ getD l x d
-at-rest l d h = sym (List·getD-eq-default l d h)
-
--- what a conjunction comes to once its first part is known
-pub both : {h a b x : Bool} → h ≡ a → h ≡ true → x ≡ b → x ≡ (a && b)
-both {h} {a} {b} i t f = f ∙ ap (λ (y : Bool). y && b) (sym t ∙ i)
-
-pub neither : (b : Bool) {h a : Bool} → h ≡ a → h ≡ false → false ≡ (a && b)
-neither b i t = ap (λ (y : Bool). y && b) (sym t ∙ i)
 
 -- a sum is zero where each part is
 eqb-add : (a s : ℕ) → eqb (a + s) 0 ≡ (eqb a 0 && eqb s 0)

@@ -9,23 +9,23 @@ use Rattle.inst.specs.declared.StmtId.{StmtId}
 use Rattle.inst.specs.declared.Inst.the-variants as i
 use Rattle.codec.specs.Codec.{blockOf}
 use Rattle.roles.specs.Roles.{defsOf}
-use Rattle.procedure.specs.Procedure.{Table}
-use Rattle.steps.specs.Lists.{anyOf}
-use Rattle.steps.specs.Ends.{End, br, condBr, case, other, endOf}
-use Rattle.steps.specs.Facts.{Facts, Fixed, word, real, address, varying, fixedOf}
-
-abbrev pub noTable : Table
-noTable = record { arms = []; default = 0 }
+use Rattle.procedure.specs.Procedure.{Table, tableAt}
+use Rattle.procedure.specs.Lists.{anyOf}
+use Rattle.ends.specs.declared.End.{End}
+use Rattle.ends.specs.declared.End.the-variants as e
+use Rattle.ends.specs.Forms.{fixedOf, isFixed}
+use Rattle.ends.specs.Ends.{endOf}
+use Rattle.steps.specs.Facts.{Facts}
 
 abbrev pub armTargets : Table → List ℕ
 armTargets t = map (λ a. a .target) (t .arms) ++ (t .default ∷ [])
 
 -- "over Br, CondBr and arms"
 abbrev pub leads : List Table → End → List ℕ
-leads tables (br l) = l ∷ []
-leads tables (condBr c t f) = t ∷ f ∷ []
-leads tables (case n) = armTargets (getD tables n noTable)
-leads tables other = []
+leads tables (e.Br l) = l .0 ∷ []
+leads tables (e.CondBr c t f) = t .0 ∷ f .0 ∷ []
+leads tables (e.Case n) = armTargets (tableAt tables n)
+leads tables e.Other = []
 
 -- where the end of each block leads
 abbrev pub edgesOf : List Table → List (List Code) → List (List ℕ)
@@ -55,10 +55,10 @@ unfoldable pub reached : List Table → List (List Code) → List Bool
 reached tables P = walkAll (edgesOf tables P)
 
 abbrev pub isJump : End → Bool
-isJump (br l) = true
-isJump (condBr c t f) = true
-isJump (case n) = false
-isJump other = false
+isJump (e.Br l) = true
+isJump (e.CondBr c t f) = true
+isJump (e.Case n) = false
+isJump e.Other = false
 
 abbrev pub isLast : List (List Code) → Bool
 isLast [] = true
@@ -82,15 +82,9 @@ emptyFrom b marks [] = []
 emptyFrom b [] (c ∷ cs) = c ∷ cs
 emptyFrom b (m ∷ ms) (c ∷ cs) = cond (stays m cs c) c (emptied b c) ∷ emptyFrom (suc b) ms cs
 
-abbrev pub isFixed : Fixed → Bool
-isFixed (word v) = true
-isFixed real = true
-isFixed (address up) = true
-isFixed varying = false
-
 -- "their singly written Const, ConstF and AddrOf"
 abbrev pub isRescued : Facts → Code → Bool
-isRescued f x = isFixed (fixedOf (x .inst)) && anyOf (λ d. eqb (f .defs d) 1) (defsOf (x .inst))
+isRescued f x = isFixed (fixedOf (x .inst)) && anyOf (f .single) (defsOf (x .inst))
 
 unfoldable pub rescuedOf : Facts → List Code → List Code
 rescuedOf f [] = []

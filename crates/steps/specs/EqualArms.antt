@@ -7,14 +7,16 @@ use lib.ListN.{length, getD, set}
 use Rattle.inst.specs.declared.Code.{Code}
 use Rattle.inst.specs.declared.Inst.the-variants as i
 use Rattle.codec.specs.Codec.{blockOf}
-use Rattle.steps.specs.Ends.{End, br, condBr, case, other, endOf, loneOf, withEnd}
+use Rattle.ends.specs.declared.End.{End}
+use Rattle.ends.specs.declared.End.the-variants as e
+use Rattle.ends.specs.Ends.{endOf, loneOf, withEnd}
 
 -- from block b over a lone Br that doesn't target itself
 abbrev pub past : ℕ → End → ℕ
-past b (br to) = cond (eqb to b) b to
-past b (condBr c t f) = b
-past b (case n) = b
-past b other = b
+past b (e.Br to) = cond (eqb (to .0) b) b (to .0)
+past b (e.CondBr c t f) = b
+past b (e.Case n) = b
+past b e.Other = b
 
 unfoldable pub follow : ℕ → List (List Code) → ℕ → ℕ
 follow zero P b = b
@@ -34,10 +36,12 @@ joinIf true k to s = record { blocks = set (s .blocks) k (withEnd (i.Br (blockOf
 joinIf false k to s = s
 
 abbrev pub joinEnd : End → ℕ → Arms → Arms
-joinEnd (br to) k s = s
-joinEnd (condBr c t f) k s = joinIf (eqb (reachedFrom (s .blocks) t) (reachedFrom (s .blocks) f)) k (reachedFrom (s .blocks) t) s
-joinEnd (case n) k s = s
-joinEnd other k s = s
+joinEnd (e.Br to) k s = s
+joinEnd (e.CondBr c t f) k s =
+    let to = reachedFrom (s .blocks) (t .0) in
+    joinIf (eqb to (reachedFrom (s .blocks) (f .0))) k to s
+joinEnd (e.Case n) k s = s
+joinEnd e.Other k s = s
 
 -- block k
 unfoldable pub joinArms : ℕ → Arms → Arms

@@ -5,8 +5,10 @@ use mathlib.Core.Bool.{Bool, true, false, _&&_, _||_, not}
 use lib.Dec.{eqb, leb}
 use lib.ListN.{getD}
 use Rattle.inst.specs.declared.Code.{Code}
-use Rattle.steps.specs.Lists.{anyOf}
-use Rattle.steps.specs.Ends.{End, br, condBr, case, other, endOf, loneOf, targets}
+use Rattle.procedure.specs.Lists.{anyOf}
+use Rattle.ends.specs.declared.End.{End}
+use Rattle.ends.specs.declared.End.the-variants as e
+use Rattle.ends.specs.Ends.{endOf, loneOf, targets}
 use Rattle.steps.specs.Small.{small, latch}
 
 -- of the blocks from block b on
@@ -18,10 +20,10 @@ abbrev pub hasBackEdge : List (List Code) → Bool
 hasBackEdge P = backEdgeFrom 0 P
 
 abbrev pub isCondBr : End → Bool
-isCondBr (br to) = false
-isCondBr (condBr c t f) = true
-isCondBr (case n) = false
-isCondBr other = false
+isCondBr (e.Br to) = false
+isCondBr (e.CondBr c t f) = true
+isCondBr (e.Case n) = false
+isCondBr e.Other = false
 
 -- a block that is small and no latch, as Thread copies it; wide where there is a body
 unfoldable pub copied : Bool → List (List Code) → ℕ → Bool
@@ -29,10 +31,10 @@ copied wide P l = small (getD P l []) && not (latch (getD P l []) (getD P (suc l
 
 -- `may_thread`: a Br of block a to a block that is copied, or a CondBr to a lone CondBr
 abbrev pub mayHop : Bool → List (List Code) → ℕ → End → Bool
-mayHop wide P a (br l) = not (eqb l a) && copied wide P l
-mayHop wide P a (condBr c t f) = isCondBr (loneOf (getD P t [])) || isCondBr (loneOf (getD P f []))
-mayHop wide P a (case n) = false
-mayHop wide P a other = false
+mayHop wide P a (e.Br l) = not (eqb (l .0) a) && copied wide P (l .0)
+mayHop wide P a (e.CondBr c t f) = isCondBr (loneOf (getD P (t .0) [])) || isCondBr (loneOf (getD P (f .0) []))
+mayHop wide P a (e.Case n) = false
+mayHop wide P a e.Other = false
 
 -- of the blocks from block a on
 unfoldable pub mayThreadFrom : Bool → List (List Code) → ℕ → List (List Code) → Bool

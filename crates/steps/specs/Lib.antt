@@ -1,16 +1,11 @@
-pub mod Lists
-pub mod Ends
 pub mod Small
-pub mod Counts
 pub mod Facts
 pub mod Note
 pub mod EqualArms
 pub mod Gate
 pub mod Copy
 pub mod Thread
-pub mod Edits
 pub mod Emit
 pub mod Run
 pub mod Write
 pub mod Shorten
-pub mod Table

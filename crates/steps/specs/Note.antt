@@ -2,16 +2,17 @@
 use Prim.Native.Nat.{ℕ}
 use mathlib.Core.List.{List, [], _∷_, _++_}
 use mathlib.Core.Option.{Option, none, some}
-use mathlib.Core.Bool.{Bool, true, false, _&&_, _||_, not, cond}
+use mathlib.Core.Bool.{Bool, true, false, _&&_, _||_, cond}
 use lib.Dec.{eqb}
 use lib.ListN.{getD}
 use Rattle.inst.specs.declared.Code.{Code}
 use Rattle.inst.specs.declared.BoolOp.{BoolOp}
 use Rattle.inst.specs.declared.BoolOp.the-variants as b
 use Rattle.inst.specs.declared.Inst.{Inst}
-use Rattle.inst.specs.declared.Inst.the-variants as i
 use Rattle.roles.specs.Roles.{defsOf}
-use Rattle.steps.specs.Lists.{found, orElse, valueOr}
+use Rattle.procedure.specs.Lists.{found, orElse, valueOr}
+use Rattle.word.specs.Word.{tests}
+use Rattle.ends.specs.Forms.{Form, const, constF, addrOf, move, bool, bin, jump, other, formOf}
 use Rattle.steps.specs.Facts.{Facts}
 
 -- each a list of entries, the register first; the first entry of a register counts
@@ -72,53 +73,32 @@ noteMove f d s k =
     let k′ = withValueIf d (valueOf f k s) k in
     cond (alike f d s) (withCopy d s k′) k′
 
-abbrev pub isTrue : ℕ → Bool
-isTrue v = not (eqb v 0)
+-- Bool of one known operand: Not reads the first alone
+abbrev pub boolOfOne : BoolOp → ℕ → Option ℕ
+boolOfOne b.And x = none
+boolOfOne b.Or x = none
+boolOfOne b.Xor x = none
+boolOfOne b.Not x = some (tests b.Not x 0)
 
-abbrev pub bit : Bool → ℕ
-bit true = 1
-bit false = 0
-
--- Bool, of what is known of its operands
+-- Bool, of what is known of its operands, by the machine's rule
 abbrev pub boolOf : BoolOp → Option ℕ → Option ℕ → Option ℕ
-boolOf b.Not (some x) y = some (bit (not (isTrue x)))
-boolOf b.Not none y = none
-boolOf b.And (some x) (some y) = some (bit (isTrue x && isTrue y))
-boolOf b.And (some x) none = none
-boolOf b.And none y = none
-boolOf b.Or (some x) (some y) = some (bit (isTrue x || isTrue y))
-boolOf b.Or (some x) none = none
-boolOf b.Or none y = none
-boolOf b.Xor (some x) (some y) = some (bit (cond (isTrue x) (not (isTrue y)) (isTrue y)))
-boolOf b.Xor (some x) none = none
-boolOf b.Xor none y = none
+boolOf op none y = none
+boolOf op (some x) none = boolOfOne op x
+boolOf op (some x) (some y) = some (tests op x y)
 
 -- what an instruction adds, once what it writes is forgotten: "Const, Move, Bool"
+abbrev pub learnt : Facts → Known → Form → Known
+learnt f k (const d v) = withValue (d .0) v k
+learnt f k (constF d) = k
+learnt f k (addrOf d up) = k
+learnt f k (move d s) = cond (eqb (d .0) (s .0)) k (noteMove f (d .0) (sourceOf k (s .0)) k)
+learnt f k (bool op d x y) = withValueIf (d .0) (boolOf op (valueOf f k (x .0)) (valueOf f k (y .0))) k
+learnt f k (bin ranged op) = k
+learnt f k (jump e) = k
+learnt f k other = k
+
 unfoldable pub learn : Facts → Known → Inst → Known
-learn f k (i.Const d v) = withValue (d .0) v k
-learn f k (i.ConstF d v) = k
-learn f k (i.Move d s) = cond (eqb (d .0) (s .0)) k (noteMove f (d .0) (sourceOf k (s .0)) k)
-learn f k (i.AddrOf d s o) = k
-learn f k (i.Select d c x y) = k
-learn f k (i.Cmp op d x y) = k
-learn f k (i.Bool op d x y) = withValueIf (d .0) (boolOf op (valueOf f k (x .0)) (valueOf f k (y .0))) k
-learn f k (i.Bin op d x y) = k
-learn f k (i.BinRange op d x y l h w) = k
-learn f k (i.Load d a w) = k
-learn f k (i.Store a s w) = k
-learn f k (i.Check c v l h w) = k
-learn f k (i.MakeDope a p) = k
-learn f k (i.DopeLen d p n) = k
-learn f k (i.BoundsLen d l r e) = k
-learn f k (i.Alloc d s) = k
-learn f k (i.TakeBounds l r e) = k
-learn f k (i.CallNative n a d) = k
-learn f k (i.Br t) = k
-learn f k (i.CondBr c t e) = k
-learn f k (i.Case v t) = k
-learn f k (i.Ret v) = k
-learn f k (i.Unreachable w) = k
-learn f k i.Stmt = k
+learn f k x = learnt f k (formOf x)
 
 -- `note`
 abbrev pub note : Facts → Known → Inst → Known

@@ -1,18 +1,19 @@
--- Document 01, "Steps", and its counts: the `run` part.
+-- Document 01, "Steps", and its counts: the `run` part, made of its stages.
 use Prim.Native.Nat.{ℕ}
-use mathlib.Core.List.{List, [], _++_}
+use mathlib.Core.List.{List, _++_}
 use mathlib.Core.Bool.{Bool, true, false, _&&_}
 use lib.Dec.{ltb}
 use lib.ListN.{length}
 use Rattle.inst.specs.declared.Code.{Code}
 use Rattle.procedure.specs.Procedure.{Procedure}
-use Rattle.steps.specs.Lists.{joined, present}
+use Rattle.procedure.specs.Lists.{joined, present}
 use Rattle.steps.specs.Facts.{Facts, factsOf}
 use Rattle.steps.specs.EqualArms.{Arms, equalArms}
 use Rattle.steps.specs.Gate.{hasBackEdge, mayThread}
 use Rattle.steps.specs.Thread.{Work, thread}
 use Rattle.steps.specs.Emit.{reached, emptyFrom, rescues, ontoFront}
 
+-- what a stage of `run` leaves
 pub record Shortened : Type 0 where
   pub procedure : Procedure
   -- "what `run` returns then"
@@ -24,16 +25,28 @@ pub record Shortened : Type 0 where
   -- "that of instructions moved to the front of block 0"
   pub rescued : ℕ
 
-abbrev pub withCode : Procedure → List ℕ → List (List Code) → Procedure
-withCode p kinds P = record { registers = p .registers ++ kinds; blocks = P; body = p .body; operands = p .operands; tables = p .tables }
+abbrev pub withBlocks : Procedure → List (List Code) → Procedure
+withBlocks p P = record { registers = p .registers; blocks = P; body = p .body; operands = p .operands; tables = p .tables }
 
--- the equal-arms step alone
-abbrev pub armsOnly : Procedure → Arms → Shortened
-armsOnly p s = record { procedure = withCode p [] (s .blocks); moved = s .edited; grown = 0; fresh = 0; rescued = 0 }
+-- with new registers
+abbrev pub withRegisters : Procedure → List ℕ → Procedure
+withRegisters p kinds =
+    record { registers = p .registers ++ kinds; blocks = p .blocks; body = p .body; operands = p .operands; tables = p .tables }
 
+abbrev pub unchanged : Procedure → Shortened
+unchanged p = record { procedure = p; moved = false; grown = 0; fresh = 0; rescued = 0 }
+
+-- "Equal arms."
+abbrev pub withArms : Procedure → Arms → Shortened
+withArms p s = record { procedure = withBlocks p (s .blocks); moved = s .edited; grown = 0; fresh = 0; rescued = 0 }
+
+abbrev pub armsJoined : Procedure → Shortened
+armsJoined p = withArms p (equalArms (p .blocks))
+
+-- "Emit.": with the rescued instructions and the other blocks
 abbrev pub written : Procedure → Work → List Code → List (List Code) → Shortened
 written p w kept P = record {
-  procedure = withCode p (w .kinds) (ontoFront kept P);
+  procedure = withBlocks (withRegisters p (w .kinds)) (ontoFront kept P);
   moved = true;
   grown = w .grown;
   fresh = length (w .kinds);
@@ -48,27 +61,37 @@ unfoldable pub emit : Facts → Procedure → Work → Shortened
 emit f p w = emitMarked f p w (reached (p .tables) (w .blocks))
 
 -- "Only if threading edited some block."
-abbrev pub emitIf : Bool → Facts → Procedure → Arms → Work → Shortened
-emitIf true f p s w = emit f p w
-emitIf false f p s w = armsOnly p s
+abbrev pub emitIf : Bool → Facts → Shortened → Work → Shortened
+emitIf true f s w = emit f (s .procedure) w
+emitIf false f s w = s
 
-abbrev pub threaded : Facts → Procedure → Arms → Work → Shortened
-threaded f p s w = emitIf (w .edited) f p s w
+abbrev pub emitted : Facts → Shortened → Work → Shortened
+emitted f s w = emitIf (w .edited) f s w
 
-abbrev pub threadBy : Facts → Procedure → Arms → Shortened
-threadBy f p s = threaded f p s (thread f (s .blocks))
+-- "Thread."
+abbrev pub threadBy : Facts → Shortened → Shortened
+threadBy f s = emitted f s (thread f (s .procedure .blocks))
 
-abbrev pub threadIf : Bool → Procedure → Arms → Shortened
-threadIf true p s = threadBy (factsOf (p .registers) (p .operands) (p .body) (joined (s .blocks))) p s
-threadIf false p s = armsOnly p s
+-- "Definitions (saturating at 255) and uses are counted then."
+abbrev pub countedIn : Procedure → Facts
+countedIn p = factsOf (p .registers) (p .operands) (p .body) (joined (p .blocks))
 
-abbrev pub gated : Procedure → Arms → Shortened
-gated p s = threadIf (hasBackEdge (s .blocks) && mayThread (present (p .body)) (s .blocks)) p s
+abbrev pub threadIf : Bool → Shortened → Shortened
+threadIf true s = threadBy (countedIn (s .procedure)) s
+threadIf false s = s
+
+-- "Gate.", of `looped`, which is asked once
+abbrev pub threaded : Bool → Shortened → Shortened
+threaded looped s = threadIf (looped && mayThread (present (s .procedure .body)) (s .procedure .blocks)) s
+
+-- the stages after the equal-arms step
+abbrev pub fromArms : Shortened → Shortened
+fromArms s = threaded (hasBackEdge (s .procedure .blocks)) s
 
 -- "Fewer than 6 instructions: unchanged."
 abbrev pub runIf : Bool → Procedure → Shortened
-runIf true p = armsOnly p (record { blocks = p .blocks; edited = false })
-runIf false p = gated p (equalArms (p .blocks))
+runIf true p = unchanged p
+runIf false p = fromArms (armsJoined p)
 
 unfoldable pub run : Procedure → Shortened
 run p = runIf (ltb (length (joined (p .blocks))) 6) p

@@ -1,6 +1,6 @@
 -- Document 01, "Operations": "Shorten. The same seven; 8 above the shortening limits; 9 output shorter than the result, record 0 for both."
 use Prim.Native.Nat.{ℕ}
-use mathlib.Core.List.{List, [], _++_}
+use mathlib.Core.List.{List, _++_}
 use mathlib.Core.Bool.{Bool, true, false, _||_}
 use lib.Dec.{eqb, ltb}
 use lib.ListN.{length, drop}
@@ -10,74 +10,69 @@ use Rattle.layout.specs.Classes.{ofClass}
 use Rattle.read.specs.declared.Reading.{Reading}
 use Rattle.read.specs.Reading.{reading}
 use Rattle.procedure.specs.Procedure.{procedureOf}
-use Rattle.steps.specs.Note.{bit}
+use Rattle.word.specs.Word.{bit}
+use Rattle.steps.specs.declared.Answer.{Answer}
 use Rattle.steps.specs.Run.{Shortened, run}
 use Rattle.steps.specs.Write.{recordsFor, bytesOf}
 
-pub record Answer : Type 0 where
-  pub number : ℕ
-  -- the offending record
-  pub place : ℕ
-  pub moved : ℕ
-  pub grown : ℕ
-  pub fresh : ℕ
-  pub rescued : ℕ
-  -- "Success gives the byte length"
-  pub length : ℕ
-  -- the bytes written
-  pub bytes : List ℕ
+-- the answer, and the output buffer at exit
+pub record Outcome : Type 0 where
+  pub answer : Answer
+  pub output : List ℕ
 
 -- "A refusal gives zero counts and alters no output byte."
-abbrev pub refusal : ℕ → ℕ → Answer
-refusal number place = record { number = number; place = place; moved = 0; grown = 0; fresh = 0; rescued = 0; length = 0; bytes = [] }
+abbrev pub refusal : ℕ → ℕ → List ℕ → Outcome
+refusal number place out = record {
+  answer = record { number = number; place = place; length = 0; moved = 0; grown = 0; fresh = 0; rescued = 0 };
+  output = out;
+}
 
-abbrev pub success : Shortened → List ℕ → Answer
-success s b = record {
-  number = 0;
-  place = 0;
-  moved = bit (s .moved);
-  grown = s .grown;
-  fresh = s .fresh;
-  rescued = s .rescued;
-  length = length b;
-  bytes = b;
+-- "Success gives the byte length and leaves bytes past it."
+abbrev pub success : Shortened → List ℕ → List ℕ → Outcome
+success s b out = record {
+  answer = record {
+    number = 0;
+    place = 0;
+    length = length b;
+    moved = bit (s .moved);
+    grown = s .grown;
+    fresh = s .fresh;
+    rescued = s .rescued;
+  };
+  output = b ++ drop (length b) out;
 }
 
 -- 9 "output shorter than the result"
-abbrev pub fitIf : Bool → Shortened → List ℕ → Answer
-fitIf true s b = refusal 9 0
-fitIf false s b = success s b
+abbrev pub fitIf : Bool → Shortened → List ℕ → List ℕ → Outcome
+fitIf true s b out = refusal 9 0 out
+fitIf false s b out = success s b out
 
-abbrev pub fit : ℕ → Shortened → List ℕ → Answer
-fit room s b = fitIf (ltb room (length b)) s b
+abbrev pub fit : Shortened → List ℕ → List ℕ → Outcome
+fit s b out = fitIf (ltb (length out) (length b)) s b out
 
-abbrev pub shortened : ℕ → Shortened → Answer
-shortened room s = fit room s (bytesOf (recordsFor (s .procedure)))
+abbrev pub shortened : Shortened → List ℕ → Outcome
+shortened s out = fit s (bytesOf (recordsFor (s .procedure))) out
 
 -- 8 "above the shortening limits"
 abbrev pub above : ℕ → ℕ → List Record → Bool
 above registers code rs = ltb registers (length (ofClass 1 rs)) || ltb code (length (ofClass 4 rs))
 
-abbrev pub runUnless : Bool → ℕ → List Record → Answer
-runUnless true room rs = refusal 8 0
-runUnless false room rs = shortened room (run (procedureOf rs))
+abbrev pub runUnless : Bool → List Record → List ℕ → Outcome
+runUnless true rs out = refusal 8 0 out
+runUnless false rs out = shortened (run (procedureOf rs)) out
 
 -- "The same seven"
-abbrev pub acceptIf : Bool → Reading → ℕ → ℕ → ℕ → List Record → Answer
-acceptIf true r registers code room rs = runUnless (above registers code rs) room rs
-acceptIf false r registers code room rs = refusal (r .number) (r .place)
+abbrev pub acceptIf : Bool → Reading → ℕ → ℕ → List Record → List ℕ → Outcome
+acceptIf true r registers code rs out = runUnless (above registers code rs) rs out
+acceptIf false r registers code rs out = refusal (r .number) (r .place) out
 
-abbrev pub accept : Reading → ℕ → ℕ → ℕ → List ℕ → Answer
-accept r registers code room b = acceptIf (eqb (r .number) 0) r registers code room (recordsOf b)
+abbrev pub accept : Reading → ℕ → ℕ → List ℕ → List ℕ → Outcome
+accept r registers code b out = acceptIf (eqb (r .number) 0) r registers code (recordsOf b) out
 
--- with limits for registers and instructions
-unfoldable pub shortenWithin : ℕ → ℕ → List ℕ → ℕ → Answer
-shortenWithin registers code b room = accept (reading b) registers code room b
+-- with limits for registers and instructions, of a file's bytes and the output buffer at entry
+unfoldable pub shortenWithin : ℕ → ℕ → List ℕ → List ℕ → Outcome
+shortenWithin registers code b out = accept (reading b) registers code b out
 
--- "Shortening: 480 registers, 480 instructions.": of a file's bytes and the room for the output
-abbrev pub shorten : List ℕ → ℕ → Answer
-shorten b room = shortenWithin 480 480 b room
-
--- the output afterwards: "alters no output byte", "leaves bytes past it"
-abbrev pub outputOf : Answer → List ℕ → List ℕ
-outputOf a out = a .bytes ++ drop (a .length) out
+-- "Shortening: 480 registers, 480 instructions."
+abbrev pub shorten : List ℕ → List ℕ → Outcome
+shorten b out = shortenWithin 480 480 b out

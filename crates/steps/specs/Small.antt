@@ -9,10 +9,12 @@ use Rattle.inst.specs.declared.Code.{Code}
 use Rattle.inst.specs.declared.IntOp.{IntOp}
 use Rattle.inst.specs.declared.IntOp.the-variants as n
 use Rattle.inst.specs.declared.Inst.{Inst}
-use Rattle.inst.specs.declared.Inst.the-variants as i
 use Rattle.roles.specs.Roles.{defsOf, usesOf}
-use Rattle.steps.specs.Lists.{anyOf}
-use Rattle.steps.specs.Ends.{End, br, condBr, case, other, endOf}
+use Rattle.procedure.specs.Lists.{anyOf}
+use Rattle.ends.specs.declared.End.{End}
+use Rattle.ends.specs.declared.End.the-variants as e
+use Rattle.ends.specs.Forms.{Form, const, constF, addrOf, move, bool, bin, jump, other, formOf}
+use Rattle.ends.specs.Ends.{endOf}
 
 -- `dupable`: Const, ConstF, Move; Select, Cmp, Bool
 abbrev pub dupableKind : ℕ → Bool
@@ -46,58 +48,47 @@ addOrSub n.Rem = false
 addOrSub n.Mod = false
 addOrSub n.Pow = false
 
+abbrev pub stepIn : Bool → Form → Bool
+stepIn wide (const d v) = false
+stepIn wide (constF d) = false
+stepIn wide (addrOf d up) = false
+stepIn wide (move d s) = false
+stepIn wide (bool op d x y) = false
+stepIn wide (bin false op) = addOrSub op
+stepIn wide (bin true op) = wide && addOrSub op
+stepIn wide (jump x) = false
+stepIn wide other = false
+
 -- `latch`, step: a Bin, or where wide a BinRange, that adds or subtracts
 unfoldable pub stepBy : Bool → Inst → Bool
-stepBy wide (i.Const d v) = false
-stepBy wide (i.ConstF d v) = false
-stepBy wide (i.Move d s) = false
-stepBy wide (i.AddrOf d s f) = false
-stepBy wide (i.Select d c x y) = false
-stepBy wide (i.Cmp op d x y) = false
-stepBy wide (i.Bool op d x y) = false
-stepBy wide (i.Bin op d x y) = addOrSub op
-stepBy wide (i.BinRange op d x y l h w) = wide && addOrSub op
-stepBy wide (i.Load d a w) = false
-stepBy wide (i.Store a s w) = false
-stepBy wide (i.Check c v l h w) = false
-stepBy wide (i.MakeDope a p) = false
-stepBy wide (i.DopeLen d p n) = false
-stepBy wide (i.BoundsLen d l r e) = false
-stepBy wide (i.Alloc d s) = false
-stepBy wide (i.TakeBounds l r e) = false
-stepBy wide (i.CallNative n a d) = false
-stepBy wide (i.Br t) = false
-stepBy wide (i.CondBr c t f) = false
-stepBy wide (i.Case v t) = false
-stepBy wide (i.Ret v) = false
-stepBy wide (i.Unreachable w) = false
-stepBy wide i.Stmt = false
+stepBy wide x = stepIn wide (formOf x)
 
 -- a CondBr with an arm to block l
 abbrev pub testsInto : ℕ → End → Bool
-testsInto l (br t) = false
-testsInto l (condBr c t f) = eqb t l || eqb f l
-testsInto l (case n) = false
-testsInto l other = false
+testsInto l (e.Br t) = false
+testsInto l (e.CondBr c t f) = eqb (t .0) l || eqb (f .0) l
+testsInto l (e.Case n) = false
+testsInto l e.Other = false
 
 -- a Br to block l or before
 abbrev pub jumpsBack : ℕ → End → Bool
-jumpsBack l (br t) = leb t l
-jumpsBack l (condBr c t f) = false
-jumpsBack l (case n) = false
-jumpsBack l other = false
+jumpsBack l (e.Br t) = leb (t .0) l
+jumpsBack l (e.CondBr c t f) = false
+jumpsBack l (e.Case n) = false
+jumpsBack l e.Other = false
 
 abbrev pub isBr : End → Bool
-isBr (br t) = true
-isBr (condBr c t f) = false
-isBr (case n) = false
-isBr other = false
+isBr (e.Br t) = true
+isBr (e.CondBr c t f) = false
+isBr (e.Case n) = false
+isBr e.Other = false
 
 -- `latch`: "[Bin add/sub, Br]"; "any short block that jumps back with an add or subtract" where wide
+abbrev pub stepShape : Bool → ℕ → List Code → Bool
+stepShape wide l c = eqb (length c) 2 && isBr (endOf c) || wide && leb (length c) 4 && jumpsBack l (endOf c)
+
 unfoldable pub stepBlock : Bool → ℕ → List Code → Bool
-stepBlock wide l c =
-    (eqb (length c) 2 && isBr (endOf c) || wide && leb (length c) 4 && jumpsBack l (endOf c))
-    && anyOf (λ x. stepBy wide (x .inst)) c
+stepBlock wide l c = stepShape wide l c && anyOf (λ x. stepBy wide (x .inst)) c
 
 -- `latch`: block l tests, and the next one, [] if there is none, is its step block; wide where there is a body
 unfoldable pub latch : List Code → List Code → ℕ → Bool → Bool

@@ -8,8 +8,11 @@ use lib.ListN.{length, getD, set}
 use Rattle.inst.specs.declared.Code.{Code}
 use Rattle.inst.specs.declared.Inst.the-variants as i
 use Rattle.codec.specs.Codec.{regOf, blockOf}
-use Rattle.steps.specs.Lists.{present, holds}
-use Rattle.steps.specs.Ends.{End, br, condBr, case, other, endOf, loneOf, front, withEnd}
+use Rattle.procedure.specs.Lists.{present, holds}
+use Rattle.word.specs.Word.{choose}
+use Rattle.ends.specs.declared.End.{End}
+use Rattle.ends.specs.declared.End.the-variants as e
+use Rattle.ends.specs.Ends.{endOf, loneOf, front, withEnd}
 use Rattle.steps.specs.Small.{readsKonst}
 use Rattle.steps.specs.Facts.{Facts}
 use Rattle.steps.specs.Note.{Known, nothing, notes, sourceOf, valueOf}
@@ -41,10 +44,10 @@ pub data Hop : Type 0 where
 
 -- CondBr: the arm of a lone CondBr on c that matches
 abbrev pub matching : Bool → ℕ → ℕ → End → ℕ
-matching truth c l (br to) = l
-matching truth c l (condBr c′ t f) = cond (eqb c′ c) (cond truth t f) l
-matching truth c l (case n) = l
-matching truth c l other = l
+matching truth c l (e.Br to) = l
+matching truth c l (e.CondBr c′ t f) = cond (eqb (c′ .0) c) (cond truth (t .0) (f .0)) l
+matching truth c l (e.Case n) = l
+matching truth c l e.Other = l
 
 -- "an arm whose target is a lone CondBr on the same c, neither this block nor the body, takes that block's matching arm"
 unfoldable pub armOf : Facts → Work → ℕ → ℕ → Bool → ℕ → ℕ
@@ -60,7 +63,7 @@ rewrite w a c t e c′ t′ e′ = rewriteIf (eqb c′ c && eqb t′ t && eqb e�
 
 -- "A known value makes a Br; the next hop follows."
 abbrev pub decide : Facts → Work → ℕ → ℕ → ℕ → ℕ → ℕ → Option ℕ → Hop
-decide f w a c t e c′ (some v) = next (edit w a (withEnd (i.Br (blockOf (cond (eqb v 0) e t))) (blockAt w a)) [] 0)
+decide f w a c t e c′ (some v) = next (edit w a (withEnd (i.Br (blockOf (choose v t e))) (blockAt w a)) [] 0)
 decide f w a c t e c′ none = rewrite w a c t e c′ (armOf f w a c′ true t) (armOf f w a c′ false e)
 
 -- "c becomes its copy's source."
@@ -97,10 +100,10 @@ unfoldable pub hopBr : Facts → Work → ℕ → ℕ → Hop
 hopBr f w a l = appendIf (stops f w a l) f w a l
 
 abbrev pub hopAt : Facts → Work → ℕ → End → Hop
-hopAt f w a (br l) = hopBr f w a l
-hopAt f w a (condBr c t e) = hopCondBr f w a c t e
-hopAt f w a (case n) = stay
-hopAt f w a other = stay
+hopAt f w a (e.Br l) = hopBr f w a (l .0)
+hopAt f w a (e.CondBr c t f′) = hopCondBr f w a (c .0) (t .0) (f′ .0)
+hopAt f w a (e.Case n) = stay
+hopAt f w a e.Other = stay
 
 -- a hop of block a
 unfoldable pub hop : Facts → Work → ℕ → Hop

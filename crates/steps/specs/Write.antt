@@ -11,7 +11,7 @@ use Rattle.ops.specs.Ops.{regTyOf}
 use Rattle.codec.specs.Codec.{recordOf, regOf, blockOf}
 use Rattle.items.specs.Items.{registerRecord, blockRecord, bodyRecord, operandRecord, armRecord}
 use Rattle.procedure.specs.Procedure.{Procedure, Arm, Table}
-use Rattle.steps.specs.Lists.{joined}
+use Rattle.procedure.specs.Lists.{joined}
 
 -- blocks whose code starts at a place
 unfoldable pub blockRecords : ℕ → List (List Code) → List Record

@@ -1,1 +1,12 @@
-// Definitions alone: document 01's steps and its Shorten.
+// Document 01's steps and its Shorten, defined; of the code only Shorten's answer.
+
+// number is 0 on success, and place the offending record on a refusal; length is that of the result in bytes.
+pub struct Answer {
+    pub number: u32,
+    pub place: u32,
+    pub length: usize,
+    pub moved: u32,
+    pub grown: u32,
+    pub fresh: u32,
+    pub rescued: u32,
+}

@@ -9,6 +9,7 @@ use lib.ListN.{length, getD, take, drop, set, length-append, length-drop, length
 use lib.Seq.{sets, sets-eq, length-sets, drop-cons, drop-append-le, drop-append-add, drop-drop, length-take-le, getD-set-same, getD-set-other, ext-getD, getD-drop}
 use lib.Dec.{ltb, eqb}
 use borrow.Author.Tests.{lt-ltb, le-ltb, ltb-true, ltb-false, eqb-true, eqb-false}
+use Rattle.general.proofs.Numbers.{order}
 use Rattle.format.specs.declared.Record.{Record}
 use Rattle.format.specs.Record.{recordIn, recordAt, recordsOf, wordAt, blank}
 use Rattle.format.proofs.Laws.{record-drop, record-at, record-past, length-records}
@@ -169,13 +170,6 @@ fits-in b at h = record {
   p5 = word-fits b (at + 24) h;
   p6 = word-fits b (at + 28) h;
 }
-
-pub order : (a b : ℕ) → (a < b) ⊎ (b ≤ a)
-order a b = go (ltb a b) refl
-  where
-    go : (t : Bool) → ltb a b ≡ t → (a < b) ⊎ (b ≤ a)
-    go true e = inl (ltb-true a b e)
-    go false e = inr (ltb-false a b e)
 
 fits-blank : Fits blank
 fits-blank = record { class = omega arith; kind = omega arith; op = omega arith; zero = omega arith; stmt = omega arith; p1 = omega arith; p2 = omega arith; p3 = omega arith; p4 = omega arith; p5 = omega arith; p6 = omega arith }

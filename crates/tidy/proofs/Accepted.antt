@@ -7,7 +7,7 @@ use mathlib.Core.List.{List, [], map}
 use mathlib.Core.Logic.{_⊎_, inl, inr}
 use borrow.Author.Tests.{ltb-false, eq-eqb, ne-eqb}
 use lib.Dec.{eqb, ltb}
-use lib.ListN.{length, getD, replicate, length-map, length-replicate, getD-replicate}
+use lib.ListN.{length, getD, replicate, length-map, length-replicate, getD-replicate, List·getD-map}
 use Rattle.format.specs.declared.Record.{Record}
 use Rattle.format.specs.Record.{recordsOf}
 use Rattle.format.proofs.Laws.{length-records}
@@ -21,13 +21,18 @@ use Rattle.read.specs.Parts.{part, InCode, LaidOut}
 use Rattle.read.proofs.Laid.{sizes, class-part, laid-of, end-is, in-tiles}
 use Rattle.codec.specs.Codec.{codeOf}
 use Rattle.procedure.specs.Procedure.{procedureOf}
-use Rattle.lead.specs.Lead.{arcs}
+use Rattle.ends.specs.Ends.{endOf, targets}
+use Rattle.paths.specs.Paths.{reachedFrom}
 use Rattle.inst.specs.declared.Code.{Code}
 use Rattle.tidy.specs.declared.Tidiness.{Tidiness}
-use Rattle.tidy.specs.Tidy.{placedFrom, placed, written, reads, writers, targetsOf, lastOf, offenders, verdict, told, tidiness}
-use Rattle.tidy.specs.Work.{noted, judgedAll, Pair, TargetsIn, blockRecords, blockCode, codeRecords, blocksIn, operandsIn, Fit}
+use Rattle.tidy.specs.Tidy.{placedFrom, placed, written, reads, writers, edgesOf, leads, offenders, verdict, told, tidiness}
+use Rattle.tidy.specs.Work.Writers.{noted}
+use Rattle.tidy.specs.Work.Reads.{judgedAll, judgedIn, readsIn}
+use Rattle.tidy.specs.Work.Marks.{edgesIn, PairAt, TargetsIn}
+use Rattle.tidy.specs.Work.Parts.{blockRecords, blockCode, codeRecords, blocksIn, operandsIn, Fit}
 use Rattle.tidy.proofs.Tables.{blocks-length}
-use Rattle.tidy.proofs.Answers.{tally, tally-at, arcs-same, answer-is}
+use Rattle.tidy.proofs.Answers.{tally, tally-at, answer-is}
+use Rattle.tidy.proofs.Edges.{table-leads}
 
 -- the procedure of the file, part by part
 module _ {rs : List Record} {l : Layout} (h : LaidOut rs l) where
@@ -117,17 +122,30 @@ module _ {rs : List Record} {l : Layout} (h : LaidOut rs l) (f : Fit rs l) (n : 
       ∙ ap (λ (m : ℕ). tally m (writers r (written (placedFrom 0 (blocksIn rs l))))) (getD-replicate {A = ℕ} n r 0 0 k)
       ∙ ap (λ (bs : List (List Code)). tally 0 (writers r (written (placedFrom 0 bs)))) (sym (the-blocks h))
 
-  targets-are : (a : ℕ) → a < 160 → Pair (targetsOf (lastOf (getD (procedureOf rs .blocks) a []))) (getD ts (2 * a) 0) (getD ts (2 * a + 1) 0)
-  targets-are a i = subst (λ (bs : List (List Code)). Pair (targetsOf (lastOf (getD bs a []))) (getD ts (2 * a) 0) (getD ts (2 * a + 1) 0)) (sym (the-blocks h)) (t a i)
+  abbrev edges : List (List ℕ)
+  edges = edgesOf (procedureOf rs)
 
-  pub judge-is : {s : Tidiness} → s ≡ judgedAll (arcs ts) (l .blocks) ws (told 0 0 1 0) (reads (operandsIn rs l) (placedFrom 0 (blocksIn rs l))) → s ≡ verdict (offenders (procedureOf rs))
+  edges-few : length edges ≤ 160
+  edges-few = rw (length-map (procedureOf rs .blocks) (λ c. targets (endOf c))) few-blocks
+
+  edges-are : (a : ℕ) → a < 160 → PairAt (getD edges a []) ts a
+  unfolding endOf
+  edges-are a i =
+      subst (λ (es : List ℕ). PairAt es ts a)
+      (sym (ap (λ (bs : List (List Code)). getD (map (λ c. targets (endOf c)) bs) a []) (the-blocks h) ∙ List·getD-map (λ (c : List Code). targets (endOf c)) (blocksIn rs l) a []))
+      (t .each a i)
+
+  pub judge-is : {s : Tidiness} → s ≡ judgedIn ts ws l (told 0 0 1 0) (readsIn rs l (placedFrom 0 (blocksIn rs l))) → s ≡ verdict (offenders (procedureOf rs))
   judge-is i =
       let p = procedureOf rs in
+      let same : (a t : ℕ) → t < length (p .blocks) → getD (reachedFrom (edgesIn ts) a) t false ≡ leads p a t =
+      λ a x k. table-leads edges ts (t .size) edges-few edges-are a x (rw (length-map (p .blocks) (λ c. targets (endOf c))) k)
+      in
       i
-      ∙ ap (λ (m : ℕ). judgedAll (arcs ts) m ws (told 0 0 1 0) (reads (operandsIn rs l) (placedFrom 0 (blocksIn rs l)))) (sym (the-registers h))
-      ∙ ap (λ (ops : List ℕ). judgedAll (arcs ts) (length (p .registers)) ws (told 0 0 1 0) (reads ops (placedFrom 0 (blocksIn rs l)))) (sym (the-operands h))
-      ∙ ap (λ (bs : List (List Code)). judgedAll (arcs ts) (length (p .registers)) ws (told 0 0 1 0) (reads (p .operands) (placedFrom 0 bs))) (sym (the-blocks h))
-      ∙ answer-is p (arcs ts) ws few-blocks (arcs-same p ts targets-are) table-is
+      ∙ ap (λ (m : ℕ). judgedAll (edgesIn ts) m ws (told 0 0 1 0) (readsIn rs l (placedFrom 0 (blocksIn rs l)))) (sym (the-registers h))
+      ∙ ap (λ (ops : List ℕ). judgedAll (edgesIn ts) (length (p .registers)) ws (told 0 0 1 0) (reads ops (placedFrom 0 (blocksIn rs l)))) (sym (the-operands h))
+      ∙ ap (λ (bs : List (List Code)). judgedAll (edgesIn ts) (length (p .registers)) ws (told 0 0 1 0) (reads (p .operands) (placedFrom 0 bs))) (sym (the-blocks h))
+      ∙ answer-is p (edgesIn ts) ws few-blocks same table-is
 
 -- the answer by Read's number
 module _ (b : List ℕ) {r : Reading} (e : r ≡ reading b) where

@@ -1,9 +1,10 @@
-pub mod Accepted
-pub mod Answers
-pub mod Arcs
-pub mod Clauses
-pub mod Fields
-pub mod Judging
-pub mod Rows
 pub mod Tables
+pub mod Fields
+pub mod Ending
+pub mod Edges
+pub mod Search
+pub mod Judging
 pub mod Verdicts
+pub mod Answers
+pub mod Accepted
+pub mod Clauses

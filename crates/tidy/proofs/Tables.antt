@@ -18,7 +18,8 @@ use Rattle.inst.specs.declared.Code.{Code}
 use Rattle.codec.specs.Codec.{codeOf, instOf}
 use Rattle.roles.specs.Roles.{defsOf, readsOf}
 use Rattle.tidy.specs.Tidy.{Placed, Field, placedIn, placedFrom, fieldsAt, written, reads}
-use Rattle.tidy.specs.Work.{pack, note, notes, noted, blockRecords, blockCode, Fit}
+use Rattle.tidy.specs.Work.Writers.{pack, note, notes, noted}
+use Rattle.tidy.specs.Work.Parts.{placedAt, blockRecords, blockCode, Fit}
 
 -- one writer more
 module _ (ws : List ℕ) (r v : ℕ) where
@@ -70,10 +71,6 @@ pub reads-append : (ops : List ℕ) (xs ys : List Placed) → reads ops (xs ++ y
 unfolding reads
 reads-append ops [] ys = refl
 reads-append ops (x ∷ xs) ys = ap (λ (l : List Field). fieldsAt x (readsOf ops (x .inst)) ++ l) (reads-append ops xs ys) ∙ sym (append-assoc (fieldsAt x (readsOf ops (x .inst))) (reads ops xs) (reads ops ys))
-
--- the instruction of a record, in its block
-abbrev pub placedAt : ℕ → ℕ → Record → Placed
-placedAt b k r = record { block = b; place = k; inst = instOf r }
 
 -- one instruction more of a block
 pub placed-step : (l : List Record) (b k : ℕ) → k < length l → placedIn b k (drop k (map codeOf l)) ≡ placedAt b k (getD l k blank) ∷ placedIn b (k + 1) (drop (k + 1) (map codeOf l))

@@ -1,17 +1,10 @@
-use mathlib.Core.Bool.{Bool, true, false, cond}
-use mathlib.Core.Path.{_≡_, sym, ap, _∙_}
-use mathlib.Core.Bool.{Bool, false, cond}
+use mathlib.Core.Path.{ap, _∙_}
+use mathlib.Core.Bool.{true}
 use mathlib.Core.List.{List}
-use borrow.Author.Tests.{eq-eqb, ne-eqb}
+use Prim.Native.Nat.{ℕ}
 use denote.Ref.{now}
-use lib.Dec.{eqb}
-use Rattle.inst.specs.declared.Code.{Code}
-use Rattle.steps.specs.Ends.{endOf}
-use Rattle.steps.specs.EqualArms.{reachedFrom}
-use Rattle.ends.specs.Shown.{shown}
-use Rattle.gate.specs.Blocks.{blocksOf}
-use Rattle.arms.specs.Joined.{withBr}
-use Rattle.arms.proofs.Laws.{joinsBy, joins-by, joinedBy, joined-by}
+use Rattle.arms.specs.Joined.{joined}
+use Rattle.arms.proofs.Laws.{by-end, arms-differ, arms-meet}
 use borrow.Author.Needs.{needs}
 use Rattle.arms.proofs.join_arms.Statement.{statement}
 use Rattle.arms.proofs.join_arms.Tie as tie
@@ -38,18 +31,19 @@ same-length : tie.Need-same-length
 same-length c = search needs
 
 returns : tie.Need-returns
-returns c = let a = c .before .before .before .before .before .before .before .before .before .before .before .before .before .args in
-    let p = blocksOf (now (a .code)) (now (a .blocks)) in
-    let x = c .before .before .before .before .before .before .before .before .end-of .ensures ∙ ap (λ (m : List Code). shown (endOf m)) (c .before .before .before .before .before .before .before .before .before .block .ensures) in
-    let u = c .before .follow2 .ensures in
-    let v = c .before .before .before .follow .ensures in
-    let t′ = c .before .before .before .before .before .before .e .given .0 .1 .0 .0 in
-    let f′ = c .before .before .before .before .before .before .e .given .0 .1 .1 .0 .0 in
-    let n : eqb (reachedFrom p t′) (reachedFrom p f′) ≡ false = ne-eqb (reachedFrom p t′) (reachedFrom p f′) (λ i. c .if1 .taken (v ∙ i ∙ sym u)) in
-    (sym n ∙ sym (ap (joinsBy p (a .k)) (c .before .before .before .before .before .before .e .given .1)) ∙ joins-by p (a .k) x, λ t h. sym (ap (λ (b : Bool). cond b (withBr p (a .k) (reachedFrom p t′)) p) n) ∙ sym (ap (joinedBy p (a .k)) (c .before .before .before .before .before .before .e .given .1)) ∙ joined-by p (a .k) x)
+returns c =
+    let t = c .before .before .before .before .before .before .before .before in
+    let x = t .e .given .0 in
+    let f = t .before .before in
+    let a = f .before .before .before .before .before .args in
+    let table = now (a .table) in
+    let s = joined (now (a .code)) (a .edited) in
+    arms-differ table (a .k) s (x .0) (x .1 .0) (x .1 .1 .0)
+    (c .before .before .before .before .before .follow .ensures) (c .before .before .before .follow2 .ensures) (c .if1 .taken)
+    ∙ by-end table (a .k) s (f .before .block .ensures) (f .end-of .ensures) (t .e .given .1)
 
-write-br-requires : tie.Need-write-br-requires
-write-br-requires c κs = search needs
+rewrite-end-requires : tie.Need-rewrite-end-requires
+rewrite-end-requires c κs = search needs
 
 enum-told-2 : tie.Need-enum-told-2
 enum-told-2 c = search needs
@@ -61,42 +55,51 @@ same-length-2 : tie.Need-same-length-2
 same-length-2 c = search needs
 
 returns-2 : tie.Need-returns-2
-returns-2 c = let a = c .before .before .before .before .before .before .before .args in
-    let p = blocksOf (now (a .code)) (now (a .blocks)) in
-    let x = c .before .before .end-of .ensures ∙ ap (λ (m : List Code). shown (endOf m)) (c .before .before .before .block .ensures) in
-    (sym (ap (joinsBy p (a .k)) (c .enum-told .given .1)) ∙ joins-by p (a .k) x, λ t h. sym (ap (joinedBy p (a .k)) (c .enum-told .given .1)) ∙ joined-by p (a .k) x)
+returns-2 c =
+    let f = c .before .before in
+    let a = f .before .before .before .before .before .args in
+    let table = now (a .table) in
+    let s = joined (now (a .code)) (a .edited) in
+    by-end table (a .k) s (f .before .block .ensures) (f .end-of .ensures) (c .enum-told .given .1)
 
 same-length-3 : tie.Need-same-length-3
 same-length-3 c = search needs
 
 returns-3 : tie.Need-returns-3
-returns-3 c = let a = c .before .before .before .before .before .before .before .before .before .before .before .before .before .before .before .before .before .args in
-    let p = blocksOf (now (a .code)) (now (a .blocks)) in
-    let x = c .before .before .before .before .before .before .before .before .before .before .before .before .end-of .ensures ∙ ap (λ (m : List Code). shown (endOf m)) (c .before .before .before .before .before .before .before .before .before .before .before .before .before .block .ensures) in
-    let u = c .before .before .before .before .before .follow2 .ensures in
-    let v = c .before .before .before .before .before .before .before .follow .ensures in
-    let t′ = c .before .before .before .before .before .before .before .before .before .before .e .given .0 .1 .0 .0 in
-    let f′ = c .before .before .before .before .before .before .before .before .before .before .e .given .0 .1 .1 .0 .0 in
-    let y : eqb (reachedFrom p t′) (reachedFrom p f′) ≡ true = eq-eqb (reachedFrom p t′) (reachedFrom p f′) (sym v ∙ c .before .before .before .before .if1 .left ∙ u) in
-    (sym y ∙ sym (ap (joinsBy p (a .k)) (c .before .before .before .before .before .before .before .before .before .before .e .given .1)) ∙ joins-by p (a .k) x, λ t h. (c .before .before .write-br .ensures t h) ∙ ap (withBr p (a .k)) v ∙ sym (ap (λ (b : Bool). cond b (withBr p (a .k) (reachedFrom p t′)) p) y) ∙ sym (ap (joinedBy p (a .k)) (c .before .before .before .before .before .before .before .before .before .before .e .given .1)) ∙ joined-by p (a .k) x)
+returns-3 c =
+    let d = c .before .before .before .before in
+    let t = d .before .before .before .before .before .before .before .before in
+    let x = t .e .given .0 in
+    let f = t .before .before in
+    let a = f .before .before .before .before .before .args in
+    let table = now (a .table) in
+    let s = joined (now (a .code)) (a .edited) in
+    ap (λ (b : List ℕ). joined b true) (c .before .before .rewrite-end .ensures)
+    ∙ arms-meet table (a .k) s (x .0) (x .1 .0) (x .1 .1 .0)
+    (d .before .before .before .before .before .follow .ensures) (d .before .before .before .follow2 .ensures) (d .if1 .left)
+    ∙ by-end table (a .k) s (f .before .block .ensures) (f .end-of .ensures) (t .e .given .1)
 
 same-length-4 : tie.Need-same-length-4
 same-length-4 c = search needs
 
 returns-4 : tie.Need-returns-4
-returns-4 c = let a = c .before .before .before .before .before .before .before .args in
-    let p = blocksOf (now (a .code)) (now (a .blocks)) in
-    let x = c .before .before .end-of .ensures ∙ ap (λ (m : List Code). shown (endOf m)) (c .before .before .before .block .ensures) in
-    (sym (ap (joinsBy p (a .k)) (c .enum-told2 .given .1)) ∙ joins-by p (a .k) x, λ t h. sym (ap (joinedBy p (a .k)) (c .enum-told2 .given .1)) ∙ joined-by p (a .k) x)
+returns-4 c =
+    let f = c .before .before in
+    let a = f .before .before .before .before .before .args in
+    let table = now (a .table) in
+    let s = joined (now (a .code)) (a .edited) in
+    by-end table (a .k) s (f .before .block .ensures) (f .end-of .ensures) (c .enum-told2 .given .1)
 
 same-length-5 : tie.Need-same-length-5
 same-length-5 c = search needs
 
 returns-5 : tie.Need-returns-5
-returns-5 c = let a = c .before .before .before .before .before .before .before .args in
-    let p = blocksOf (now (a .code)) (now (a .blocks)) in
-    let x = c .before .before .end-of .ensures ∙ ap (λ (m : List Code). shown (endOf m)) (c .before .before .before .block .ensures) in
-    (sym (ap (joinsBy p (a .k)) (c .enum-told3 .given .1)) ∙ joins-by p (a .k) x, λ t h. sym (ap (joinedBy p (a .k)) (c .enum-told3 .given .1)) ∙ joined-by p (a .k) x)
+returns-5 c =
+    let f = c .before .before in
+    let a = f .before .before .before .before .before .args in
+    let table = now (a .table) in
+    let s = joined (now (a .code)) (a .edited) in
+    by-end table (a .k) s (f .before .block .ensures) (f .end-of .ensures) (c .enum-told3 .given .1)
 
 pub join-arms-spec : {M : Type 1} → statement M
 join-arms-spec =
@@ -110,7 +113,7 @@ join-arms-spec =
     follow-requires-2
     same-length
     returns
-    write-br-requires
+    rewrite-end-requires
     enum-told-2
     enum-told-3
     same-length-2

@@ -4,16 +4,14 @@ use Prim.Native.Nat.{_-_, _/_}
 use native.Mathlib.Omega.{arith}
 use lib.ListN.{length}
 use denote.Ref.{now}
-use Rattle.inst.specs.declared.Inst.{Inst}
 use Rattle.procedure.specs.Procedure.{codesOf}
-use Rattle.steps.specs.Ends.{viewOf}
-use Rattle.ends.specs.Shown.{shown}
+use Rattle.ends.specs.Ends.{viewOf}
 use borrow.Author.Needs.{needs}
 use Rattle.ends.proofs.end_of.Statement.{statement}
 use Rattle.ends.proofs.end_of.Tie as tie
 
 returns : tie.Need-returns
-returns c = sym (ap shown (end-none (codesOf (now (c .before .before .args .code))) (length-codes (now (c .before .before .args .code)) ∙ c .if1 .taken)))
+returns c = let b = now (c .before .before .args .code) in sym (end-none (codesOf b) (length-codes b ∙ c .if1 .taken))
 
 sub-inst-at : tie.Need-sub-inst-at
 sub-inst-at c = search needs
@@ -26,7 +24,7 @@ view-of-requires c κs = search needs
 
 returns-2 : tie.Need-returns-2
 returns-2 c = let b = now (c .before .before .before .before .args .code) in
-    c .view-of .ensures ∙ ap (λ (x : Inst). shown (viewOf x)) (c .before .inst-at .ensures) ∙ sym (ap shown (end-last (codesOf b) (length b / 32 - 1) (length-codes b ∙ omega arith)))
+    c .view-of .ensures ∙ ap viewOf (c .before .inst-at .ensures) ∙ sym (end-last (codesOf b) (length b / 32 - 1) (length-codes b ∙ omega arith))
 
 pub end-of-spec : {M : Type 1} → statement M
 end-of-spec = tie.close (tie.spec returns sub-inst-at inst-at-requires view-of-requires returns-2)

@@ -1,10 +1,8 @@
 use mathlib.Core.Path.{sym, ap, _∙_}
 use Rattle.ends.proofs.Laws.{length-codes, lone-one, lone-none}
 use denote.Ref.{now}
-use Rattle.inst.specs.declared.Inst.{Inst}
 use Rattle.procedure.specs.Procedure.{codesOf}
-use Rattle.steps.specs.Ends.{viewOf}
-use Rattle.ends.specs.Shown.{shown}
+use Rattle.ends.specs.Ends.{viewOf}
 use borrow.Author.Needs.{needs}
 use Rattle.ends.proofs.lone_of.Statement.{statement}
 use Rattle.ends.proofs.lone_of.Tie as tie
@@ -17,10 +15,10 @@ view-of-requires c κs = search needs
 
 returns : tie.Need-returns
 returns c = let b = now (c .before .before .before .before .args .code) in
-    c .view-of .ensures ∙ ap (λ (x : Inst). shown (viewOf x)) (c .before .inst-at .ensures) ∙ sym (ap shown (lone-one (codesOf b) (length-codes b ∙ c .before .before .if1 .taken)))
+    c .view-of .ensures ∙ ap viewOf (c .before .inst-at .ensures) ∙ sym (lone-one (codesOf b) (length-codes b ∙ c .before .before .if1 .taken))
 
 returns-2 : tie.Need-returns-2
-returns-2 c = let b = now (c .before .before .args .code) in sym (ap shown (lone-none (codesOf b) (λ e. c .if1 .left (sym (length-codes b) ∙ e))))
+returns-2 c = let b = now (c .before .before .args .code) in sym (lone-none (codesOf b) (λ e. c .if1 .left (sym (length-codes b) ∙ e)))
 
 pub lone-of-spec : {M : Type 1} → statement M
 lone-of-spec = tie.close (tie.spec inst-at-requires view-of-requires returns returns-2)

@@ -5,11 +5,12 @@ use native.Mathlib.Omega.{arith}
 use borrow.Author.Needs.{needs}
 use denote.Ref.{now}
 use lib.ListN.{length, drop}
+use Rattle.general.proofs.Booleans.{told}
 use Rattle.format.specs.Record.{recordsOf, blank}
 use Rattle.format.proofs.Laws.{length-records}
 use Rattle.layout.specs.Walk.{lead}
 use Rattle.layout.specs.Spans.{rightOf}
-use Rattle.layout.proofs.Walks.{lead-pass, lead-stop, lead-end, told}
+use Rattle.layout.proofs.Walks.{lead-pass, lead-stop, lead-end}
 use Rattle.layout.proofs.span.Statement.{statement}
 use Rattle.layout.proofs.span.Tie as tie
 

@@ -1,6 +1,6 @@
 use mathlib.Core.Path.{refl}
-use Rattle.read.proofs.Laws.{either, otherwise}
 use borrow.Author.Tests.{lt-ltb, le-ltb, eq-eqb, ne-eqb}
+use Rattle.general.proofs.Booleans.{either, otherwise}
 use Rattle.read.proofs.beyond.Statement.{statement}
 use Rattle.read.proofs.beyond.Tie as tie
 

@@ -5,11 +5,12 @@ use borrow.Author.Needs.{needs}
 use borrow.Author.Tests.{not-true, not-false}
 use denote.Ref.{now}
 use lib.ListN.{length, drop}
+use Rattle.general.proofs.Booleans.{told}
 use Rattle.format.specs.Record.{recordsOf, blank}
 use Rattle.format.proofs.Laws.{length-records}
 use Rattle.shape.specs.Exist.{namesExist}
 use Rattle.layout.specs.Walk.{lead}
-use Rattle.layout.proofs.Walks.{lead-pass, lead-stop, lead-end, told}
+use Rattle.layout.proofs.Walks.{lead-pass, lead-stop, lead-end}
 use Rattle.read.proofs.names.named_records.Statement.{statement}
 use Rattle.read.proofs.names.named_records.Tie as tie
 

@@ -1,7 +1,9 @@
 use mathlib.Core.Path.{refl, sym, ap, _∙_}
 use mathlib.Core.Bool.{and-true}
 use borrow.Author.Tests.{lt-ltb, le-ltb}
-use Rattle.shape.proofs.Laws.{exist-at, address-exists, both, neither, optional-some, past, past-kinds}
+use Rattle.general.proofs.Booleans.{both, neither}
+use Rattle.general.proofs.Numbers.{past}
+use Rattle.shape.proofs.Laws.{exist-at, address-exists, optional-some, past-kinds}
 use mathlib.Core.List.{List}
 use Rattle.format.specs.Kinds.{Place, fields}
 use Rattle.shape.specs.Exist.{allExist}

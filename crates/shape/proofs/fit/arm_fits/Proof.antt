@@ -1,6 +1,7 @@
 use mathlib.Core.Path.{ap, _∙_}
-use Rattle.shape.proofs.Laws.{at-rest, past}
 use mathlib.Core.List.{List, []}
+use Rattle.general.proofs.Lists.{at-rest}
+use Rattle.general.proofs.Numbers.{past}
 use Rattle.format.specs.Kinds.{Place, allFit, armPlaces, fields}
 use borrow.Author.Needs.{needs}
 use Rattle.shape.proofs.fit.arm_fits.Statement.{statement}

@@ -1,7 +1,8 @@
 use mathlib.Core.Path.{refl, ap, _∙_}
 use Prim.Native.Nat.{ℕ}
 use lib.ListN.{drop}
-use Rattle.shape.proofs.Laws.{row-at, both, neither, optional-some, plain-row}
+use Rattle.general.proofs.Booleans.{both, neither}
+use Rattle.shape.proofs.Laws.{row-at, optional-some, plain-row}
 use borrow.Author.Tests.{lt-ltb, le-ltb}
 use Rattle.format.specs.Kinds.{zeros, fields}
 use borrow.Author.Needs.{needs}

@@ -1,0 +1,63 @@
+use Prim.Native.Nat.{_-_}
+use mathlib.Core.Path.{ap, _∙_}
+use denote.Ref.{now}
+use Rattle.format.specs.declared.Record.{Record}
+use Rattle.store.specs.Store.{putOf}
+use Rattle.blocks.specs.Rewrite.{rewritten, endRewritten}
+use Rattle.blocks.proofs.Rewrites.{end-rewritten, end-kept}
+use borrow.Author.Needs.{needs}
+use Rattle.blocks.proofs.rewrite_end.Statement.{statement}
+use Rattle.blocks.proofs.rewrite_end.Tie as tie
+
+record-at-requires : tie.Need-record-at-requires
+record-at-requires c κs = search needs
+
+cast-last : tie.Need-cast-last
+cast-last c = search needs
+
+sub-last : tie.Need-sub-last
+sub-last c = search needs
+
+record-at-requires-2 : tie.Need-record-at-requires-2
+record-at-requires-2 c κs = search needs
+
+rewritten-requires : tie.Need-rewritten-requires
+rewritten-requires c κs = search needs
+
+put-record-requires : tie.Need-put-record-requires
+put-record-requires c κs = search needs
+
+same-length : tie.Need-same-length
+same-length c = search needs
+
+returns : tie.Need-returns
+returns c =
+    let t = c .before .before .before .before .before .before .before .before .before .before in
+    let a = t .before .before .before .args in
+    let code = now (a .code) in
+    let old = ap (λ (r : Record). rewritten r (a .i)) (c .before .before .before .before .before .record-at2 .ensures) in
+    c .before .before .put-record .ensures
+    ∙ ap (putOf code (t .record-at .result .p2 - 1)) (c .before .before .before .rewritten .ensures ∙ old)
+    ∙ end-rewritten code (t .record-at .result) (a .i) (c .before .before .before .before .before .before .before .before .if1 .taken)
+    ∙ ap (λ (r : Record). endRewritten code r (a .i)) (t .record-at .ensures)
+
+returns-2 : tie.Need-returns-2
+returns-2 c =
+    let t = c .before .before in
+    let a = t .before .before .before .args in
+    let code = now (a .code) in
+    end-kept code (t .record-at .result) (a .i) (c .if1 .left) ∙ ap (λ (r : Record). endRewritten code r (a .i)) (t .record-at .ensures)
+
+pub rewrite-end-spec : {M : Type 1} → statement M
+rewrite-end-spec =
+    tie.close
+    (tie.spec
+    record-at-requires
+    cast-last
+    sub-last
+    record-at-requires-2
+    rewritten-requires
+    put-record-requires
+    same-length
+    returns
+    returns-2)

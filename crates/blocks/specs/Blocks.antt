@@ -1,0 +1,39 @@
+-- Document 01, "Class 2, block": "Each block's records are a part of the code slice from start to end", over the bytes of code and block table.
+use Prim.Native.Nat.{ℕ, _*_, _-_, _/_, min}
+use mathlib.Core.Path.{_≡_}
+use mathlib.Core.List.{List, map}
+use lib.ListN.{length, take, drop}
+use Rattle.format.specs.declared.Record.{Record}
+use Rattle.format.specs.Record.{recordsOf, recordAt}
+use Rattle.inst.specs.declared.Code.{Code}
+use Rattle.codec.specs.Codec.{codeOf, recordOf}
+use Rattle.read.specs.Structure.{codeOf as recordsOfBlock}
+
+-- the records of each block of a table
+abbrev pub blockRecordsIn : List ℕ → List ℕ → List (List Record)
+blockRecordsIn code table = map (recordsOfBlock (recordsOf code)) (recordsOf table)
+
+-- the instructions of each
+abbrev pub blocksOf : List ℕ → List ℕ → List (List Code)
+blocksOf code table = map (map codeOf) (blockRecordsIn code table)
+
+-- the blocks hold the records that their instructions are written as
+abbrev pub Canonical : List ℕ → List ℕ → Type 0
+Canonical code table = blockRecordsIn code table ≡ map (map recordOf) (blocksOf code table)
+
+-- "p1 start, p2 end (exclusive)", kept within a code of n records
+abbrev pub endIn : ℕ → Record → ℕ
+endIn n r = min (r .p2) n
+
+abbrev pub startIn : ℕ → Record → ℕ
+startIn n r = min (r .p1) (endIn n r)
+
+-- the bytes of a block, by its record
+abbrev pub bytesOfBlock : List ℕ → Record → List ℕ
+bytesOfBlock code r =
+    let n = length code / 32 in
+    take (32 * endIn n r - 32 * startIn n r) (drop (32 * startIn n r) code)
+
+-- the bytes of block k; none past the last block
+abbrev pub blockBytes : List ℕ → List ℕ → ℕ → List ℕ
+blockBytes code table k = bytesOfBlock code (recordAt table k)

@@ -1,0 +1,46 @@
+-- A block without its last record, and with its last record rewritten, over the bytes.
+use Prim.Native.Nat.{ℕ, _*_, _-_, _/_, _≤_, _<_}
+use mathlib.Core.Path.{_≡_}
+use mathlib.Core.Bool.{cond}
+use mathlib.Core.List.{List, [], _∷_}
+use lib.Dec.{ltb}
+use lib.ListN.{length, take}
+use Rattle.format.specs.declared.Record.{Record}
+use Rattle.format.specs.Record.{recordsOf, recordAt}
+use Rattle.store.specs.Store.{putOf}
+use Rattle.read.specs.Structure.{tiled}
+use Rattle.inst.specs.declared.Inst.{Inst}
+use Rattle.codec.specs.Codec.{instRecord, withStmt}
+
+-- all whole records but the last
+abbrev pub frontBytes : List ℕ → List ℕ
+frontBytes code = take (32 * (length code / 32 - 1)) code
+
+-- a record whose instruction is rewritten: all else is kept
+abbrev pub rewritten : Record → Inst → Record
+rewritten old i = withStmt (instRecord i) (old .stmt)
+
+-- the code with the last record of a block rewritten; nothing is where the block is empty or ends past the code
+unfoldable pub endRewritten : List ℕ → Record → Inst → List ℕ
+endRewritten code r i =
+    cond (ltb (r .p1) (r .p2)) (putOf code (r .p2 - 1) (rewritten (recordAt code (r .p2 - 1)) i)) code
+
+-- the last element of a list exchanged
+unfoldable pub lastBy : {A : Type 0} → (A → A) → List A → List A
+lastBy f [] = []
+lastBy f (x ∷ []) = f x ∷ []
+lastBy f (x ∷ y ∷ l) = x ∷ lastBy f (y ∷ l)
+
+-- place x of the code is one of a block's
+pub record Holds (r : Record) (x : ℕ) : Type 0 where
+  pub from : r .p1 ≤ x
+  pub to : x < r .p2
+
+-- the blocks of a table end within n records, and no place is of two blocks
+pub record Apart (n : ℕ) (table : List ℕ) : Type 0 where
+  pub within : (k : ℕ) → recordAt table k .p2 ≤ n
+  pub alone : (j k x : ℕ) → Holds (recordAt table j) x → Holds (recordAt table k) x → j ≡ k
+
+-- "blocks tile the code", as Read has it
+abbrev pub Tiled : List ℕ → List ℕ → Type 0
+Tiled code table = tiled (length code / 32) (recordsOf table) ≡ length (recordsOf table)

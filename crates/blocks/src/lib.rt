@@ -1,0 +1,56 @@
+ghost use mathlib.Core.Path.{_≡_};
+ghost use Prim.Native.Nat.{ℕ, min};
+ghost use Rattle.format.specs.Record.{recordAt};
+ghost use Rattle.blocks.specs.Blocks.{blockBytes};
+ghost use Rattle.blocks.specs.Rewrite as spec;
+use format::Record;
+use inst::Code;
+use inst::Inst;
+use inst::StmtId;
+
+fn least(a: usize, b: usize) -> usize
+    ensures { λ r. ⌜ r ≡ min a b ⌝ }
+{
+    if a <= b { a } else { b }
+}
+
+// The code of block k; none past the last block.
+pub fn block<'a>(code: &'a [u8], table: &[u8], k: usize) -> &'a [u8]
+    ensures { λ r. ⌜ now r ≡ blockBytes (now (code .entry)) (now (table .entry)) k ⌝ }
+{
+    let r = format::record_at(table, k);
+    let end = least(r.p2 as usize, code.len() / 32);
+    let start = least(r.p1 as usize, end);
+    &code[32 * start..32 * end]
+}
+
+// A block's code without its last instruction.
+pub fn front<'a>(code: &'a [u8]) -> &'a [u8]
+    ensures { λ r. ⌜ now r ≡ spec.frontBytes (now (code .entry)) ⌝ }
+{
+    let n = code.len() / 32;
+    let last = least(1, n);
+    &code[..32 * (n - last)]
+}
+
+// A record's instruction is rewritten, all else kept.
+pub fn rewritten(old: Record, i: Inst) -> Record
+    ensures { λ r. ⌜ r ≡ spec.rewritten old i ⌝ }
+{
+    codec::record_of(Code {
+        inst: i,
+        stmt: StmtId(old.stmt),
+    })
+}
+
+// The last instruction of block k is rewritten; nothing is where block k is empty or ends past the code.
+pub fn rewrite_end(code: &mut [u8], table: &[u8], k: usize, i: Inst)
+    ensures { λ u. ⌜ now (code .exit) ≡ spec.endRewritten (now (code .entry)) (recordAt (now (table .entry)) k) i ⌝ }
+{
+    let r = format::record_at(table, k);
+    if r.p1 < r.p2 {
+        let last = r.p2 as usize - 1;
+        let old = format::record_at(code, last);
+        store::put_record(code, last, rewritten(old, i));
+    }
+}

@@ -1,0 +1,16 @@
+pub mod Basics
+pub mod Effects
+pub mod Stretches
+pub mod Edit
+pub mod Codes
+pub mod Branches
+pub mod Noted
+pub mod Jumps
+pub mod Rewrites
+pub mod Copied
+pub mod Joined
+pub mod CopyKept
+pub mod Counted
+pub mod CopySparse
+pub mod Sparse
+pub mod Join

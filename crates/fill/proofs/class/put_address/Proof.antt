@@ -1,0 +1,27 @@
+use mathlib.Core.Path.{_≡_, sym, _∙_}
+use mathlib.Core.Bool.{false}
+use Rattle.ends.specs.Forms.{isUp}
+use borrow.Author.Needs.{needs}
+use Rattle.fill.proofs.class.put_address.Statement.{statement}
+use Rattle.fill.proofs.class.put_address.Tie as tie
+
+is-up-requires : tie.Need-is-up-requires
+is-up-requires c κs = search needs
+
+returns : tie.Need-returns
+returns c = search needs
+
+put-konst-requires : tie.Need-put-konst-requires
+put-konst-requires c κs = search needs
+
+same-length : tie.Need-same-length
+same-length c = search needs
+
+returns-2 : tie.Need-returns-2
+returns-2 c =
+    let up : isUp (c .before .before .before .before .before .before .before .args .space) ≡ false = sym (c .before .before .before .before .before .is-up .ensures) ∙ c .before .before .before .before .if1 .left in
+    rw up (c .before .before .put-konst .ensures)
+
+pub put-address-spec : {M : Type 1} → statement M
+put-address-spec =
+    tie.close (tie.spec is-up-requires returns put-konst-requires same-length returns-2)

@@ -1,0 +1,11 @@
+pub mod Loaded
+pub mod EachKind
+pub mod Words
+pub mod Reading
+pub mod Exact
+pub mod Shorter
+pub mod Exchanged
+pub mod Printed
+pub mod Refuted
+pub mod Holds
+pub mod Given
