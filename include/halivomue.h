@@ -30,7 +30,7 @@ extern "C" {
 
 /* Bytes of stack that suffice for a call. tests/stack/run measures them. */
 #define HALIVOMUE_READ_STACK 1024
-#define HALIVOMUE_TIDY_STACK 40960
+#define HALIVOMUE_TIDY_STACK 8192
 
 /* Why a file is refused: the first of these that applies, in this order.
  * docs/FORMAT.md describes the file, docs/MENDING.md how to mend one.
