@@ -72,6 +72,9 @@ small-record r =
 pub bytes-part : (n s : ℕ) (b : List ℕ) → Bytes b → Bytes (take n (drop s b))
 bytes-part n s b h = small-bytes (take n (drop s b)) (small-take n (drop s b) (small-drop s b (bytes-small b h)))
 
+pub bytes-drop : (n : ℕ) (b : List ℕ) → Bytes b → Bytes (drop n b)
+bytes-drop n b h = small-bytes (drop n b) (small-drop n b (bytes-small b h))
+
 -- and what is copied to them
 pub bytes-paste : (d : List ℕ) (at : ℕ) (s : List ℕ) (n : ℕ) → Bytes d → Bytes s → Bytes (paste d at s n)
 bytes-paste d at s n h g =

@@ -1,1 +1,0 @@
--- Where the blocks lie apart, moving a block changes none; a pop and a push change the last instruction of one.
