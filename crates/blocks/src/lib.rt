@@ -8,7 +8,8 @@ use inst::Code;
 use inst::Inst;
 use inst::StmtId;
 
-fn least(a: usize, b: usize) -> usize
+// The lesser of two numbers.
+pub fn least(a: usize, b: usize) -> usize
     ensures { λ r. ⌜ r ≡ min a b ⌝ }
 {
     if a <= b { a } else { b }
