@@ -21,3 +21,4 @@ pub mod Rescued
 pub mod Sums
 pub mod Arms
 pub mod Original
+pub mod Started

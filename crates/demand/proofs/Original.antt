@@ -50,7 +50,7 @@ in-names : (r : ℕ) (x : Code) → In r (defsAt x) → names r (x .inst) ≡ tr
 in-names r x k = in-any (eqb r) (defsAt x) r (eqb-true r r refl) k
 
 -- "singly written"
-singly-one : (cs : List Code) (r : ℕ) → singly cs r ≡ true → writesIn cs r ≡ 1
+pub singly-one : (cs : List Code) (r : ℕ) → singly cs r ≡ true → writesIn cs r ≡ 1
 singly-one cs r q = let z : min 255 (writesIn cs r) ≡ 1 = eqb-eq (min 255 (writesIn cs r)) 1 q in omega arith
 
 one-singly : (cs : List Code) (r : ℕ) → writesIn cs r ≡ 1 → singly cs r ≡ true
@@ -100,7 +100,7 @@ module _ (address : Address) where
       by other s z q = clash-some q refl
 
   -- a Const that writes r
-  const-fine : (F : Code → Type 0) (cs : List Code) (r v : ℕ) → Each F cs → constIn cs r ≡ some v
+  pub const-fine : (F : Code → Type 0) (cs : List Code) (r v : ℕ) → Each F cs → constIn cs r ≡ some v
       → (x : Code) × F x × In r (defsAt x) × (constantOf address (x .inst) ≡ some v)
   unfolding constIn
   const-fine F [] r v p q = clash-some q refl
@@ -114,8 +114,15 @@ module _ (address : Address) where
       by false z o y q ih = ih q
 
 -- a test of an order
-ltb-true : (a b : ℕ) → ltb a b ≡ true → a < b
+pub ltb-true : (a b : ℕ) → ltb a b ≡ true → a < b
 ltb-true a b q = ltb→lt a b (subst T (sym q) tt)
+
+pub lt-yes : (a b : ℕ) → a < b → ltb a b ≡ true
+lt-yes a b l = by (ltb a b) (lt→ltb a b l)
+  where
+    by : (t : Bool) → T t → t ≡ true
+    by true t = refl
+    by false t = absurd t
 
 module _ (outside : Outside) (address : Address) (p : Procedure) (whole : Whole p) where
   abbrev P₀ : List (List Code)
@@ -139,19 +146,12 @@ module _ (outside : Outside) (address : Address) (p : Procedure) (whole : Whole 
   written-low (x ∷ c) q r (inl k) = q .0 r (inl k)
   written-low (x ∷ c) q r (inr k) = written-low c (q .1) r k
 
-  ltb-yes : (r : ℕ) → r < n → ltb r n ≡ true
-  ltb-yes r l = by (ltb r n) (lt→ltb r n l)
-    where
-      by : (b : Bool) → T b → b ≡ true
-      by true t = refl
-      by false t = absurd t
-
   pub single-one : (r v : ℕ) → single address p r ≡ some v → one r ≡ true
   unfolding singleIn
   single-one r v q = by (singly cs r) refl q
     where
       by : (b : Bool) → singly cs r ≡ b → cond b (constantIn address cs r) none ≡ some v → one r ≡ true
-      by true z q = rw (ltb-yes r (written-low cs (each-joined _ P₀ (whole .exist)) r (constant-written address cs r v q)), z)
+      by true z q = rw (lt-yes r n (written-low cs (each-joined _ P₀ (whole .exist)) r (constant-written address cs r v q)), z)
       by false z q = clash-some q refl
 
   pub single-shared : (r v : ℕ) → single address p r ≡ some v → isLocal r ≡ false
@@ -231,13 +231,13 @@ module _ (outside : Outside) (address : Address) (p : Procedure) (whole : Whole 
         low = read-low (getD P₀ b []) (whole .exist b) r (exposed-read (p .operands) (getD P₀ b []) r z)
 
         by : (t : Bool) → one r ≡ t → (o : Option ℕ) → single address p r ≡ o → isLocal r ≡ false
-        by false q o y = rw (ltb-yes r low) (from (singly cs r) refl)
+        by false q o y = rw (lt-yes r n low) (from (singly cs r) refl)
           where
             from : (s : Bool) → singly cs r ≡ s → (s && not (present (single address p r))) ≡ false
             from true i = clash (one-of i) q
               where
                 one-of : singly cs r ≡ true → one r ≡ true
-                one-of i = rw (ltb-yes r low, i)
+                one-of i = rw (lt-yes r n low, i)
             from false i = refl
         by true q (some v) y = single-shared r v y
         by true q none y =
