@@ -22,3 +22,4 @@ pub mod Sums
 pub mod Arms
 pub mod Original
 pub mod Started
+pub mod Theorem

@@ -183,6 +183,23 @@ module _ (outside : Outside) (address : Address) (p : Procedure) (whole : Whole 
           is-one l i = rw (lt-yes r n l, i)
       by false z q = clash-some q refl
 
+  -- a register that is counted as singly written is an original's
+  pub counted-one : (r : ℕ) → counted .single r ≡ true → E .one r ≡ true
+  unfolding factsOf
+  counted-one r q = by (dec-written (joined P₁) r)
+    where
+      writes : writesIn (joined P₁) r ≡ 1
+      writes = singly-one (joined P₁) r q
+
+      low : (c : List Code) → Each (Low E n) c → Written c r → r < n
+      low [] p k = absurd k
+      low (x ∷ c) p (inl k) = p .0 r (inl k)
+      low (x ∷ c) p (inr k) = low c (p .1) k
+
+      by : Dec (Written (joined P₁) r) → E .one r ≡ true
+      by (yes k) = rw (lt-yes r n (low (joined P₁) (each-joined (Low E n) P₁ (arms .good .low)) k), sym (singly-same r) ∙ q)
+      by (no k) = absurd (omega (arith, unwritten (joined P₁) r k, writes))
+
   all-sparse : AllSparse E counted same-one P₁
   unfolding factsOf
   all-sparse d one-d local-d =

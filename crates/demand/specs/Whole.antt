@@ -13,9 +13,8 @@ use Rattle.ends.specs.Forms.{fixedOf, isFixed}
 use Rattle.ends.specs.Ends.{terminatorOf}
 use Rattle.demand.specs.Setting.{In, Each, Front, defsAt, readsAt, Exposed}
 
--- there is a block, every register exists, and each block ends "in its only terminator"
+-- every register exists, and each block ends "in its only terminator"
 pub record Whole (p : Procedure) : Type 0 where
-  pub some-block : 0 < length (p .blocks)
   pub exist : (b : ℕ) → Each (λ x. (r : ℕ) → In r (defsAt x) ⊎ In r (readsAt (p .operands) x) → r < length (p .registers)) (getD (p .blocks) b [])
   pub formed : (b : ℕ) → Front (λ x. terminatorOf (x .inst) ≡ false) (getD (p .blocks) b [])
   pub ends : (b : ℕ) (c : List Code) (x : Code) → getD (p .blocks) b [] ≡ c ++ (x ∷ []) → terminatorOf (x .inst) ≡ true
