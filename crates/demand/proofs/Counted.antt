@@ -82,6 +82,13 @@ front-read ops (x ∷ []) d k = absurd k
 front-read ops (x ∷ y ∷ c) d (inl k) = inl k
 front-read ops (x ∷ y ∷ c) d (inr k) = inr (front-read ops (y ∷ c) d k)
 
+pub front-exposed : (ops : List ℕ) (c : List Code) (d : ℕ) → Exposed ops (front c) d → Exposed ops c d
+unfolding front
+front-exposed ops [] d k = absurd k
+front-exposed ops (x ∷ []) d k = absurd k
+front-exposed ops (x ∷ y ∷ c) d (inl k) = inl k
+front-exposed ops (x ∷ y ∷ c) d (inr k) = inr (k .0, front-exposed ops (y ∷ c) d (k .1))
+
 -- yes to the first and no to the second
 abbrev alone : {A B : Type 0} → Dec A → Dec B → ℕ
 alone (yes a) (yes b) = 0

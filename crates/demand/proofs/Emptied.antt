@@ -35,6 +35,13 @@ kept-block n [] (c ∷ P) b q = refl
 kept-block n (m ∷ ms) (c ∷ P) zero q = rw q
 kept-block n (m ∷ ms) (c ∷ P) (suc b) q = kept-block (suc n) ms P b q
 
+-- there is a block, or nothing to rescue
+pub some-or-none : (f : Facts) (marks : List Bool) (P : List (List Code)) → (0 < length (emptyFrom 0 marks P)) ⊎ (rescues f marks P ≡ [])
+unfolding emptyFrom rescues
+some-or-none f marks [] = inr refl
+some-or-none f [] (c ∷ P) = inl (omega arith)
+some-or-none f (m ∷ ms) (c ∷ P) = inl (omega arith)
+
 module _ (F : Code → Type 0) where
   -- of the instructions of all blocks, and of a Br
   pub emptied-each : ((l : ℕ) (s : StmtId) → F (record { inst = i.Br (blockOf l); stmt = s })) → (n : ℕ) (marks : List Bool) (P : List (List Code))

@@ -21,3 +21,5 @@ pub mod Rescued
 pub mod Sums
 pub mod Arms
 pub mod Original
+pub mod Started
+pub mod Theorem

@@ -7,7 +7,7 @@ use mathlib.Core.Option.{Option, none, some}
 use mathlib.Core.Bool.{Bool, true, false, _&&_, _||_, not, cond}
 use native.Mathlib.Omega.{arith}
 use native.Mathlib.Decide.{ℕ-discrete}
-use lib.Dec.{T, eqb, ltb, ltb→lt}
+use lib.Dec.{T, eqb, ltb, ltb→lt, lt→ltb}
 use lib.ListN.{length, getD}
 use Rattle.inst.specs.declared.Code.{Code}
 use Rattle.inst.specs.declared.Inst.{Inst}
@@ -21,7 +21,9 @@ use Rattle.steps.specs.EqualArms.{equalArms}
 use Rattle.machine.specs.Machine.{Address, Outside, writes, effect}
 use Rattle.machine.specs.Single.{given, constantOf, constantIn, singleIn, single}
 use Rattle.demand.specs.Setting.{In, Each, Front, Setting, defsAt, readsAt, Written, Read, Exposed, Hidden, Fine}
+use Rattle.demand.specs.Whole.{Whole, Inside}
 use Rattle.demand.proofs.Basics.{clash, clash-some, eqb-eq, eqb-true, and-both, any-in}
+use Rattle.demand.proofs.Effects.{fixed-constant}
 use Rattle.demand.proofs.Noted.{Says, says}
 use Rattle.demand.proofs.Codes.{each-map, exposed-read, exposed-left, read-exposed, read-split, dec-read, dec-written, Ended, ended}
 use Rattle.demand.proofs.Branches.{Low, NoEnd, Good}
@@ -48,7 +50,7 @@ in-names : (r : ℕ) (x : Code) → In r (defsAt x) → names r (x .inst) ≡ tr
 in-names r x k = in-any (eqb r) (defsAt x) r (eqb-true r r refl) k
 
 -- "singly written"
-singly-one : (cs : List Code) (r : ℕ) → singly cs r ≡ true → writesIn cs r ≡ 1
+pub singly-one : (cs : List Code) (r : ℕ) → singly cs r ≡ true → writesIn cs r ≡ 1
 singly-one cs r q = let z : min 255 (writesIn cs r) ≡ 1 = eqb-eq (min 255 (writesIn cs r)) 1 q in omega arith
 
 one-singly : (cs : List Code) (r : ℕ) → writesIn cs r ≡ 1 → singly cs r ≡ true
@@ -98,7 +100,7 @@ module _ (address : Address) where
       by other s z q = clash-some q refl
 
   -- a Const that writes r
-  const-fine : (F : Code → Type 0) (cs : List Code) (r v : ℕ) → Each F cs → constIn cs r ≡ some v
+  pub const-fine : (F : Code → Type 0) (cs : List Code) (r v : ℕ) → Each F cs → constIn cs r ≡ some v
       → (x : Code) × F x × In r (defsAt x) × (constantOf address (x .inst) ≡ some v)
   unfolding constIn
   const-fine F [] r v p q = clash-some q refl
@@ -110,3 +112,136 @@ module _ (address : Address) where
       by true z none y q ih = ih q
       by true z (some w) y q ih = (x, p .0, names-in r x z, word-constant (x .inst) v (y ∙ q))
       by false z o y q ih = ih q
+
+-- a test of an order
+pub ltb-true : (a b : ℕ) → ltb a b ≡ true → a < b
+ltb-true a b q = ltb→lt a b (subst T (sym q) tt)
+
+pub lt-yes : (a b : ℕ) → a < b → ltb a b ≡ true
+lt-yes a b l = by (ltb a b) (lt→ltb a b l)
+  where
+    by : (t : Bool) → T t → t ≡ true
+    by true t = refl
+    by false t = absurd t
+
+module _ (outside : Outside) (address : Address) (p : Procedure) (whole : Whole p) where
+  abbrev P₀ : List (List Code)
+  P₀ = p .blocks
+
+  abbrev cs : List Code
+  cs = joined P₀
+
+  abbrev n : ℕ
+  n = length (p .registers)
+
+  -- an original's register that one field writes
+  abbrev pub one : ℕ → Bool
+  one r = ltb r n && singly cs r
+
+  abbrev pub isLocal : ℕ → Bool
+  isLocal r = cond (ltb r n) (one r && not (present (single address p r))) true
+
+  written-low : (c : List Code) → Each (λ x. (r : ℕ) → In r (defsAt x) ⊎ In r (readsAt (p .operands) x) → r < n) c → (r : ℕ) → Written c r → r < n
+  written-low [] q r k = absurd k
+  written-low (x ∷ c) q r (inl k) = q .0 r (inl k)
+  written-low (x ∷ c) q r (inr k) = written-low c (q .1) r k
+
+  pub single-one : (r v : ℕ) → single address p r ≡ some v → one r ≡ true
+  unfolding singleIn
+  single-one r v q = by (singly cs r) refl q
+    where
+      by : (b : Bool) → singly cs r ≡ b → cond b (constantIn address cs r) none ≡ some v → one r ≡ true
+      by true z q = rw (lt-yes r n (written-low cs (each-joined _ P₀ (whole .exist)) r (constant-written address cs r v q)), z)
+      by false z q = clash-some q refl
+
+  pub single-shared : (r v : ℕ) → single address p r ≡ some v → isLocal r ≡ false
+  single-shared r v q = let t = and-both (ltb r n) (singly cs r) (single-one r v q) in rw (t .0, t .1, q)
+
+  pub one-local : (r : ℕ) → one r ≡ true → single address p r ≡ none → isLocal r ≡ true
+  one-local r z q = let t = and-both (ltb r n) (singly cs r) z in rw (t .0, t .1, q)
+
+  pub one-old : (r : ℕ) → one r ≡ true → r < n
+  one-old r z = ltb-true r n ((and-both (ltb r n) (singly cs r) z) .0)
+
+  pub shared-old : (r : ℕ) → isLocal r ≡ false → r < n
+  shared-old r q = by (ltb r n) refl q
+    where
+      by : (b : Bool) → ltb r n ≡ b → cond b (one r && not (present (single address p r))) true ≡ false → r < n
+      by true z q = ltb-true r n z
+      by false z q = clash refl q
+
+  -- the original's setting: its single constants are loaded
+  abbrev pub setting : Setting
+  setting =
+      record {
+        outside = outside;
+        address = address;
+        body = p .body;
+        operands = p .operands;
+        tables = p .tables;
+        size = n;
+        one = one;
+        single = single address p;
+        local = isLocal;
+        single-one = single-one;
+        single-shared = single-shared;
+        one-local = one-local;
+        one-old = one-old;
+        shared-old = shared-old;
+      }
+
+  abbrev E : Setting
+  E = setting
+
+  single-in : (r : ℕ) → singly cs r ≡ true → single address p r ≡ constantIn address cs r
+  unfolding singleIn
+  single-in r t = rw t
+
+  -- what writes a register that one field writes
+  fine-in : Each (Fine E) cs
+  fine-in = gather cs one-is
+    where
+      one-is : (r : ℕ) → one r ≡ true → Each (λ x. In r (defsAt x) → single address p r ≡ constantOf address (x .inst)) cs
+      one-is r o =
+          let t = (and-both (ltb r n) (singly cs r) o) .1 in
+          let w = singly-one cs r t in
+          each-map _ _ (λ x f k. single-in r t ∙ f k) cs (first-is address cs r (omega arith))
+
+      gather : (c : List Code) → ((r : ℕ) → one r ≡ true → Each (λ x. In r (defsAt x) → single address p r ≡ constantOf address (x .inst)) c) → Each (Fine E) c
+      gather [] q = tt
+      gather (x ∷ c) q = (λ r k o. (q r o) .0 k, gather c (λ r o. (q r o) .1))
+
+  varied : (x : Inst) → constantOf address x ≡ none → isFixed (fixedOf x) ≡ false
+  varied x q = by (isFixed (fixedOf x)) refl
+    where
+      by : (b : Bool) → isFixed (fixedOf x) ≡ b → b ≡ false
+      by true z = clash-some ((fixed-constant address x z) .1) q
+      by false z = refl
+
+  read-low : (c : List Code) → Each (λ x. (r : ℕ) → In r (defsAt x) ⊎ In r (readsAt (p .operands) x) → r < n) c → (r : ℕ) → Read (p .operands) c r → r < n
+  read-low [] q r k = absurd k
+  read-low (x ∷ c) q r (inl k) = q .0 r (inr k)
+  read-low (x ∷ c) q r (inr k) = read-low c (q .1) r k
+
+  module _ (inside : Inside p) where
+    hidden-in : (b : ℕ) → Hidden E (getD P₀ b [])
+    hidden-in b r z = by (one r) refl (single address p r) refl
+      where
+        low : r < n
+        low = read-low (getD P₀ b []) (whole .exist b) r (exposed-read (p .operands) (getD P₀ b []) r z)
+
+        by : (t : Bool) → one r ≡ t → (o : Option ℕ) → single address p r ≡ o → isLocal r ≡ false
+        by false q o y = rw (lt-yes r n low) (from (singly cs r) refl)
+          where
+            from : (s : Bool) → singly cs r ≡ s → (s && not (present (single address p r))) ≡ false
+            from true i = clash (one-of i) q
+              where
+                one-of : singly cs r ≡ true → one r ≡ true
+                one-of i = rw (lt-yes r n low, i)
+            from false i = refl
+        by true q (some v) y = single-shared r v y
+        by true q none y =
+            absurd (inside r low ((and-both (ltb r n) (singly cs r) q) .1) (each-map _ _ (λ x f k. varied (x .inst) (sym (f r k q) ∙ y)) cs fine-in) b z)
+
+    pub good : Good E n P₀
+    good = record { fine = joined-each (Fine E) P₀ fine-in; hidden = hidden-in; low = whole .exist; formed = whole .formed }

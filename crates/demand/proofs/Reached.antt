@@ -173,7 +173,7 @@ module _ (tables : List Table) (P : List (List Code)) where
   abbrev pub leadsFrom : ℕ → List ℕ
   leadsFrom b = leads tables (endOf (getD P b []))
 
-  edges-at : (b : ℕ) → getD (edgesOf tables P) b [] ≡ leadsFrom b
+  pub edges-at : (b : ℕ) → getD (edgesOf tables P) b [] ≡ leadsFrom b
   unfolding endOf
   edges-at b = List·getD-map (λ c. leads tables (endOf c)) P b []
 

@@ -1,6 +1,7 @@
 -- Single constants written once more at the front of block 0: they hold already, and each entry into block 0 pays for them.
 use Prim.Native.Nat.{ℕ, zero, suc, _+_, _*_, _≤_, _<_}
 use mathlib.Core.Path.{_≡_, refl, sym, ap, subst, subst₂, _∙_, fun-ext}
+use mathlib.Core.Logic.{_⊎_, inl, inr}
 use mathlib.Core.List.{List, [], _∷_, _++_}
 use mathlib.Core.Option.{Option, none, some}
 use native.Mathlib.Omega.{arith}
@@ -57,7 +58,7 @@ module _ (E : Setting) where
         ap (λ s. shown (run (E .outside) (E .address) (code E qs Q) j s)) (idle x (p .0) (k ++ c) g h l) ∙ idle-quiet k (p .1) c g h l j (omega arith)
 
   module _ (rs rs′ : List ℕ) (P : List (List Code)) (k : List Code) (constants : Each Constant k) (fine : (b : ℕ) → Each (Fine E) (getD P b []))
-      (some-block : 0 < length P) where
+      (some-block : (0 < length P) ⊎ (k ≡ [])) where
     abbrev P′ : List (List Code)
     P′ = ontoFront k P
 
@@ -67,14 +68,15 @@ module _ (E : Setting) where
     abbrev m′ : Mach
     m′ = mach (E .outside) (E .address) 0 (code E rs′ P′)
 
-    at-front : getD P′ 0 [] ≡ k ++ getD P 0 []
+    pub at-front : getD P′ 0 [] ≡ k ++ getD P 0 []
     at-front = by P some-block
       where
-        by : (P : List (List Code)) → 0 < length P → getD (ontoFront k P) 0 [] ≡ k ++ getD P 0 []
-        by [] l = absurd (omega arith)
+        by : (P : List (List Code)) → (0 < length P) ⊎ (k ≡ []) → getD (ontoFront k P) 0 [] ≡ k ++ getD P 0 []
+        by [] (inl l) = absurd (omega arith)
+        by [] (inr q) = rw q
         by (c ∷ P) l = refl
 
-    elsewhere : (b : ℕ) → getD P′ (suc b) [] ≡ getD P (suc b) []
+    pub elsewhere : (b : ℕ) → getD P′ (suc b) [] ≡ getD P (suc b) []
     elsewhere b = by P
       where
         by : (P : List (List Code)) → getD (ontoFront k P) (suc b) [] ≡ getD P (suc b) []
