@@ -2,10 +2,10 @@
 use Prim.Native.Nat.{ℕ, _+_, _-_, _*_, _/_, _≤_, _<_, _^_}
 use native.Mathlib.Omega.{arith}
 use mathlib.Core.Path.{_≡_, refl, sym, ap, subst, _∙_}
-use mathlib.Core.Bool.{Bool, true, false, _&&_, not}
+use mathlib.Core.Bool.{Bool, true, false, _&&_}
 use mathlib.Core.List.{List, [], _++_, append-assoc}
 use borrow.Author.Tests.{leb-true, le-leb, eqb-true}
-use lib.Dec.{eqb, leb}
+use lib.Dec.{leb}
 use lib.ListN.{length, getD, take, drop, length-drop}
 use lib.Seq.{paste, take-paste, length-paste, take-take, take-at, drop-at, length-take-le, set-getD}
 use Rattle.format.specs.declared.Record.{Record}
@@ -16,9 +16,9 @@ use Rattle.read.specs.Structure.{codeOf as recordsOfBlock}
 use Rattle.blocks.specs.Blocks.{blockRecordsIn}
 use Rattle.blocks.specs.Rewrite.{Holds, Apart}
 use Rattle.blocks.proofs.Parts.{records-part, records-at}
-use Rattle.blocks.proofs.Bytes.{bytes-part, bytes-paste, bytes-drop, put-bytes}
+use Rattle.blocks.proofs.Bytes.{bytes-paste, bytes-drop, put-bytes}
 use Rattle.blocks.proofs.Apart.{last-place}
-use Rattle.arena.specs.Arena.{Arena, arena, sizeOf, isLast, room, pointed, copied, moves, moveIf, toEnd}
+use Rattle.arena.specs.Arena.{Arena, sizeOf, isLast, room, pointed, copied, moves, moveIf, toEnd}
 use Rattle.arena.proofs.Laws.{Moving, moving, moves-by, by-moves}
 use Rattle.arena.proofs.Pointed.{blockAt, pointed-there, pointed-other, pointed-length, blocks-with, apart-with, part-below}
 
@@ -93,14 +93,14 @@ module _ (s : Arena) (w : Sound s) (k : ℕ) (h : k < length (s .table) / 32) wh
         let z : top + sizeOf r - top ≡ sizeOf r = omega arith in
         blocks-with (s .work) work′ (s .table) table′ k (getD P k []) (pointed-length (s .table) k top (top + sizeOf r))
         (λ j ne.
-            let q = recordAt (s .table) j in
-            ap (recordsOfBlock (recordsOf work′)) (pointed-other (s .table) k top (top + sizeOf r) j ne)
-            ∙ part-below top (q .p1) (q .p2) (recordsOf work′) (recordsOf (s .work)) (copied-before (s .work) r top m)
-                (λ lt. let x = w .apart .within j (q .p2 - 1) (last-place q lt) in omega arith))
+        let q = recordAt (s .table) j in
+        ap (recordsOfBlock (recordsOf work′)) (pointed-other (s .table) k top (top + sizeOf r) j ne)
+        ∙ part-below top (q .p1) (q .p2) (recordsOf work′) (recordsOf (s .work)) (copied-before (s .work) r top m)
+        (λ lt. let x = w .apart .within j (q .p2 - 1) (last-place q lt) in omega arith))
         (ap (recordsOfBlock (recordsOf work′)) there
-            ∙ ap (λ (x : ℕ). take x (drop top (recordsOf work′))) z
-            ∙ copied-there (s .work) r top m
-            ∙ sym (records-at (s .work) (s .table) k))
+        ∙ ap (λ (x : ℕ). take x (drop top (recordsOf work′))) z
+        ∙ copied-there (s .work) r top m
+        ∙ sym (records-at (s .work) (s .table) k))
         ∙ set-getD P k []
 
     moved-apart : Apart (s .top + sizeOf (recordAt (s .table) k)) (pointed (s .table) k (s .top) (s .top + sizeOf (recordAt (s .table) k)))
@@ -111,8 +111,8 @@ module _ (s : Arena) (w : Sound s) (k : ℕ) (h : k < length (s .table) / 32) wh
         apart-with top (top + n) (s .table) table′ k (w .apart) (pointed-other (s .table) k top (top + n))
         (λ x g. subst (λ (r : Record). Holds r x) there g .to)
         (λ j x ne g.
-            let b = w .apart .within j x g in
-            (omega arith, λ i. let f = subst (λ (r : Record). Holds r x) there i .from in omega arith))
+        let b = w .apart .within j x g in
+        (omega arith, λ i. let f = subst (λ (r : Record). Holds r x) there i .from in omega arith))
 
     moved : Ready s (moveIf true k (recordAt (s .table) k) s) k
     moved =
@@ -122,13 +122,13 @@ module _ (s : Arena) (w : Sound s) (k : ℕ) (h : k < length (s .table) / 32) wh
         record {
           same = moved-same;
           sound =
-            record {
-              work-bytes = bytes-paste work (32 * s .top) (drop (32 * r .p1) work) (32 * sizeOf r) (w .work-bytes) (bytes-drop (32 * r .p1) work (w .work-bytes));
-              table-bytes = put-bytes (s .table) k (blockAt (s .top) (s .top + sizeOf r)) (w .table-bytes);
-              fit = omega (arith, m .fits);
-              word = m .word;
-              apart = moved-apart;
-            };
+              record {
+                work-bytes = bytes-paste work (32 * s .top) (drop (32 * r .p1) work) (32 * sizeOf r) (w .work-bytes) (bytes-drop (32 * r .p1) work (w .work-bytes));
+                table-bytes = put-bytes (s .table) k (blockAt (s .top) (s .top + sizeOf r)) (w .table-bytes);
+                fit = omega (arith, m .fits);
+                word = m .word;
+                apart = moved-apart;
+              };
           last = record { ordered = rw there (omega arith); end = ap (λ (q : Record). q .p2) there };
         }
 
@@ -153,5 +153,5 @@ module _ (s : Arena) (w : Sound s) (k : ℕ) (h : k < length (s .table) / 32) wh
           let b = w .apart .within k (q .p2 - 1) (last-place q g) in
           let below : true ≡ leb (q .p1 + sizeOf q) (s .top) = sym (le-leb (q .p1 + sizeOf q) (s .top) (omega arith)) in
           let goes : true ≡ moves (s .work) q (s .top) =
-              sym free ∙ ap (λ (t : Bool). t && room (s .work) (s .top) (sizeOf q)) below ∙ moves-by (s .work) q (s .top) (sym e) refl in
+          sym free ∙ ap (λ (t : Bool). t && room (s .work) (s .top) (sizeOf q)) below ∙ moves-by (s .work) q (s .top) (sym e) refl in
           subst (λ (t : Arena). Ready s t k) (by-moves k s refl goes) (moved (moving (s .work) q (s .top) (sym goes)))

@@ -1,18 +1,18 @@
 -- A block table with one block pointed elsewhere: the other blocks stay where they were.
-use Prim.Native.Nat.{ℕ, zero, suc, _+_, _-_, _*_, _/_, _≤_, _<_, _^_}
+use Prim.Native.Nat.{ℕ, zero, suc, _-_, _/_, _≤_, _<_, _^_}
 use native.Mathlib.Omega.{arith}
 use mathlib.Core.Path.{_≡_, refl, sym, ap, subst, _∙_}
 use mathlib.Core.Bool.{Bool, true, false}
-use mathlib.Core.List.{List, [], _∷_, map}
+use mathlib.Core.List.{List, [], _∷_}
 use mathlib.Core.Logic.{_⊎_, inl, inr}
 use borrow.Author.Tests.{eqb-true, eqb-false}
 use lib.Dec.{eqb, lit<}
-use lib.ListN.{length, getD, take, drop, set}
+use lib.ListN.{length, take, drop, set}
 use lib.Seq.{take-take, take-nil}
 use Rattle.format.specs.declared.Record.{Record}
-use Rattle.format.specs.Record.{recordsOf, recordAt, blank}
+use Rattle.format.specs.Record.{recordsOf, recordAt}
 use Rattle.format.proofs.Laws.{length-records}
-use Rattle.store.specs.Store.{Fits, putOf}
+use Rattle.store.specs.Store.{Fits}
 use Rattle.store.proofs.Laws.{order, put-same, put-other, put-length}
 use Rattle.read.specs.Structure.{codeOf as recordsOfBlock}
 use Rattle.items.specs.Items.{blockRecord}
@@ -50,38 +50,38 @@ blocks-with work work′ table table′ k v e o s =
 
 -- blocks stay apart where all but block k stay, lie below m and clear of it
 module _
-  (n m : ℕ)
-  (table table′ : List ℕ)
-  (k : ℕ)
-  (a : Apart n table)
-  (o : (j : ℕ) → (j ≡ k → ⊥) → recordAt table′ j ≡ recordAt table j)
-  (w : (x : ℕ) → Holds (recordAt table′ k) x → x < m)
-  (c : (j x : ℕ) → (j ≡ k → ⊥) → Holds (recordAt table j) x → (x < m) × (Holds (recordAt table′ k) x → ⊥))
+    (n m : ℕ)
+    (table table′ : List ℕ)
+    (k : ℕ)
+    (a : Apart n table)
+    (o : (j : ℕ) → (j ≡ k → ⊥) → recordAt table′ j ≡ recordAt table j)
+    (w : (x : ℕ) → Holds (recordAt table′ k) x → x < m)
+    (c : (j x : ℕ) → (j ≡ k → ⊥) → Holds (recordAt table j) x → (x < m) × (Holds (recordAt table′ k) x → ⊥))
   where
-  old : (j x : ℕ) → (j ≡ k → ⊥) → Holds (recordAt table′ j) x → Holds (recordAt table j) x
-  old j x ne h = subst (λ (r : Record). Holds r x) (o j ne) h
+    old : (j x : ℕ) → (j ≡ k → ⊥) → Holds (recordAt table′ j) x → Holds (recordAt table j) x
+    old j x ne h = subst (λ (r : Record). Holds r x) (o j ne) h
 
-  here : {j : ℕ} (x : ℕ) → j ≡ k → Holds (recordAt table′ j) x → Holds (recordAt table′ k) x
-  here x e h = subst (λ (i : ℕ). Holds (recordAt table′ i) x) e h
+    here : {j : ℕ} (x : ℕ) → j ≡ k → Holds (recordAt table′ j) x → Holds (recordAt table′ k) x
+    here x e h = subst (λ (i : ℕ). Holds (recordAt table′ i) x) e h
 
-  within′ : (j x : ℕ) → Holds (recordAt table′ j) x → x < m
-  within′ j x h = go (eqb j k) refl
-    where
-      go : (t : Bool) → eqb j k ≡ t → x < m
-      go true e = w x (here x (eqb-true j k e) h)
-      go false e = c j x (eqb-false j k e) (old j x (eqb-false j k e) h) .0
+    within′ : (j x : ℕ) → Holds (recordAt table′ j) x → x < m
+    within′ j x h = go (eqb j k) refl
+      where
+        go : (t : Bool) → eqb j k ≡ t → x < m
+        go true e = w x (here x (eqb-true j k e) h)
+        go false e = c j x (eqb-false j k e) (old j x (eqb-false j k e) h) .0
 
-  alone′ : (i j x : ℕ) → Holds (recordAt table′ i) x → Holds (recordAt table′ j) x → i ≡ j
-  alone′ i j x g h = go (eqb i k) (eqb j k) refl refl
-    where
-      go : (t u : Bool) → eqb i k ≡ t → eqb j k ≡ u → i ≡ j
-      go true true e f = eqb-true i k e ∙ sym (eqb-true j k f)
-      go true false e f = absurd (c j x (eqb-false j k f) (old j x (eqb-false j k f) h) .1 (here x (eqb-true i k e) g))
-      go false true e f = absurd (c i x (eqb-false i k e) (old i x (eqb-false i k e) g) .1 (here x (eqb-true j k f) h))
-      go false false e f = a .alone i j x (old i x (eqb-false i k e) g) (old j x (eqb-false j k f) h)
+    alone′ : (i j x : ℕ) → Holds (recordAt table′ i) x → Holds (recordAt table′ j) x → i ≡ j
+    alone′ i j x g h = go (eqb i k) (eqb j k) refl refl
+      where
+        go : (t u : Bool) → eqb i k ≡ t → eqb j k ≡ u → i ≡ j
+        go true true e f = eqb-true i k e ∙ sym (eqb-true j k f)
+        go true false e f = absurd (c j x (eqb-false j k f) (old j x (eqb-false j k f) h) .1 (here x (eqb-true i k e) g))
+        go false true e f = absurd (c i x (eqb-false i k e) (old i x (eqb-false i k e) g) .1 (here x (eqb-true j k f) h))
+        go false false e f = a .alone i j x (old i x (eqb-false i k e) g) (old j x (eqb-false j k f) h)
 
-  pub apart-with : Apart m table′
-  apart-with = record { within = within′; alone = alone′ }
+    pub apart-with : Apart m table′
+    apart-with = record { within = within′; alone = alone′ }
 
 -- a part below a place where two lists agree
 part-first : {A : Type 0} (s e : ℕ) (l : List A) → s ≤ e → take (e - s) (drop s l) ≡ drop s (take e l)
