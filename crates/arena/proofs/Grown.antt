@@ -83,7 +83,8 @@ module _ (s : Arena) (w : Sound s) (k : ℕ) (h : k < length (s .table) / 32) (l
         let v = w .word in
         pointed-there (s .table) k (r .p1) (r .p2 - 1) h start (omega arith)
 
-    pop-records : blockRecordsIn (s .work) table-popped ≡ set (blockRecordsIn (s .work) (s .table)) k (frontRecords (getD (blockRecordsIn (s .work) (s .table)) k []))
+    pop-records : blockRecordsIn (s .work) table-popped
+        ≡ set (blockRecordsIn (s .work) (s .table)) k (frontRecords (getD (blockRecordsIn (s .work) (s .table)) k []))
     unfolding table-popped
     pop-records =
         let r = recordAt (s .table) k in
@@ -180,7 +181,8 @@ module _ (s : Arena) (w : Sound s) (k : ℕ) (h : k < length (s .table) / 32) (l
     unfolding work-pushed
     push-work = let i = space .0 in put-records (s .work) (s .top) (recordOf c) (omega arith) (written-fits c range)
 
-    grown-part : (cs : List Record) → s .top < length cs → take (s .top + 1 - recordAt (s .table) k .p1) (drop (recordAt (s .table) k .p1) (set cs (s .top) (recordOf c)))
+    grown-part : (cs : List Record) → s .top < length cs
+        → take (s .top + 1 - recordAt (s .table) k .p1) (drop (recordAt (s .table) k .p1) (set cs (s .top) (recordOf c)))
         ≡ recordsOfBlock cs (recordAt (s .table) k) ++ (recordOf c ∷ [])
     grown-part cs i =
         let r = recordAt (s .table) k in
@@ -217,6 +219,9 @@ module _ (s : Arena) (w : Sound s) (k : ℕ) (h : k < length (s .table) / 32) (l
         ∙ grown-part cs (omega arith)
         ∙ ap (λ (b : List Record). b ++ (recordOf c ∷ [])) (sym (records-at (s .work) (s .table) k)))
 
+    grown-holds : (x : ℕ) → Holds (blockAt (recordAt (s .table) k .p1) (s .top + 1)) x → x < s .top → Holds (recordAt (s .table) k) x
+    grown-holds x o b = let e = l .end in record { from = o .from; to = omega arith }
+
     push-apart : Apart (s .top + 1) table-pushed
     unfolding table-pushed
     push-apart =
@@ -227,7 +232,7 @@ module _ (s : Arena) (w : Sound s) (k : ℕ) (h : k < length (s .table) / 32) (l
         (λ x i. subst (λ (q : Record). Holds q x) push-there i .to)
         (λ j x ne i.
         let b = w .apart .within j x i in
-        (omega arith, λ o. let f = subst (λ (q : Record). Holds q x) push-there o .from in ne (w .apart .alone j k x i (record { from = f; to = omega arith }))))
+        (omega arith, λ o. ne (w .apart .alone j k x i (grown-holds x (subst (λ (q : Record). Holds q x) push-there o) b))))
 
     -- block k with one instruction more
     pub pushed-last : Grown s (push k c s) k
@@ -273,7 +278,8 @@ module _ (s : Arena) (k : ℕ) (c : Canonical (s .work) (s .table)) where
   block-canonical : getD (blockRecordsIn (s .work) (s .table)) k [] ≡ map recordOf (getD (blocksOf (s .work) (s .table)) k [])
   block-canonical = ap (λ (R : List (List Record)). getD R k []) c ∙ List·getD-map (map recordOf) (blocksOf (s .work) (s .table)) k []
 
-  pub pop-canonical : {t : Arena} → Grown s t k (frontRecords (getD (blockRecordsIn (s .work) (s .table)) k [])) (front (getD (blocksOf (s .work) (s .table)) k []))
+  pub pop-canonical : {t : Arena}
+      → Grown s t k (frontRecords (getD (blockRecordsIn (s .work) (s .table)) k [])) (front (getD (blocksOf (s .work) (s .table)) k []))
       → Canonical (t .work) (t .table)
   pop-canonical {t} g =
       let b = getD (blocksOf (s .work) (s .table)) k [] in
@@ -283,7 +289,10 @@ module _ (s : Arena) (k : ℕ) (c : Canonical (s .work) (s .table)) where
       ∙ sym (map-take recordOf (length b - 1) b)
       ∙ ap (map recordOf) (front-take b))
 
-  pub push-canonical : {t : Arena} (x : Code) → Grown s t k (getD (blockRecordsIn (s .work) (s .table)) k [] ++ (recordOf x ∷ [])) (getD (blocksOf (s .work) (s .table)) k [] ++ (x ∷ []))
+  pub push-canonical : {t : Arena} (x : Code)
+      → Grown s t k
+      (getD (blockRecordsIn (s .work) (s .table)) k [] ++ (recordOf x ∷ []))
+      (getD (blocksOf (s .work) (s .table)) k [] ++ (x ∷ []))
       → Canonical (t .work) (t .table)
   push-canonical {t} x g =
       let b = getD (blocksOf (s .work) (s .table)) k [] in

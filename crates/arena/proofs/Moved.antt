@@ -119,11 +119,12 @@ module _ (s : Arena) (w : Sound s) (k : ℕ) (h : k < length (s .table) / 32) wh
         let r = recordAt (s .table) k in
         let work = s .work in
         let l = copied-length work r (s .top) m in
+        let rest = bytes-drop (32 * r .p1) work (w .work-bytes) in
         record {
           same = moved-same;
           sound =
               record {
-                work-bytes = bytes-paste work (32 * s .top) (drop (32 * r .p1) work) (32 * sizeOf r) (w .work-bytes) (bytes-drop (32 * r .p1) work (w .work-bytes));
+                work-bytes = bytes-paste work (32 * s .top) (drop (32 * r .p1) work) (32 * sizeOf r) (w .work-bytes) rest;
                 table-bytes = put-bytes (s .table) k (blockAt (s .top) (s .top + sizeOf r)) (w .table-bytes);
                 fit = omega (arith, m .fits);
                 word = m .word;

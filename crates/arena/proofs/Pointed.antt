@@ -25,7 +25,19 @@ abbrev pub blockAt : ℕ → ℕ → Record
 blockAt start end = blockRecord (record { start = start; end = end })
 
 fits-block : (start end : ℕ) → start < 2 ^ 32 → end < 2 ^ 32 → Fits (blockAt start end)
-fits-block start end s e = record { class = lit< tt; kind = lit< tt; op = lit< tt; zero = lit< tt; stmt = lit< tt; p1 = s; p2 = e; p3 = lit< tt; p4 = lit< tt; p5 = lit< tt; p6 = lit< tt }
+fits-block start end s e = record {
+  class = lit< tt;
+  kind = lit< tt;
+  op = lit< tt;
+  zero = lit< tt;
+  stmt = lit< tt;
+  p1 = s;
+  p2 = e;
+  p3 = lit< tt;
+  p4 = lit< tt;
+  p5 = lit< tt;
+  p6 = lit< tt;
+}
 
 module _ (table : List ℕ) (k start end : ℕ) where
   pub pointed-there : k < length table / 32 → start < 2 ^ 32 → end < 2 ^ 32 → recordAt (pointed table k start end) k ≡ blockAt start end
