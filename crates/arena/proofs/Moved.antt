@@ -124,11 +124,7 @@ module _ (s : Arena) (w : Sound s) (k : ℕ) (h : k < length (s .table) / 32) wh
           same = moved-same;
           sound =
               record {
-<<<<<<< HEAD
-                work-bytes = bytes-paste work (32 * s .top) (drop (32 * r .p1) work) (32 * sizeOf r) (w .work-bytes) (bytes-drop (32 * r .p1) work (w .work-bytes));
-=======
                 work-bytes = bytes-paste work (32 * s .top) (drop (32 * r .p1) work) (32 * sizeOf r) (w .work-bytes) rest;
->>>>>>> 617a8d5e8559fb9217fea7460ab4ed067247131a
                 table-bytes = put-bytes (s .table) k (blockAt (s .top) (s .top + sizeOf r)) (w .table-bytes);
                 fit = omega (arith, m .fits);
                 word = m .word;

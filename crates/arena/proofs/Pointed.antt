@@ -10,17 +10,11 @@ use lib.Dec.{eqb, lit<}
 use lib.ListN.{length, take, drop, set}
 use lib.Seq.{take-take, take-nil}
 use Rattle.general.proofs.Numbers.{order}
-use Rattle.general.proofs.Numbers.{order}
 use Rattle.format.specs.declared.Record.{Record}
 use Rattle.format.specs.Record.{recordsOf, recordAt}
 use Rattle.format.proofs.Laws.{length-records}
-<<<<<<< HEAD
-use Rattle.store.specs.Store.{Fits, putOf}
-use Rattle.store.proofs.Laws.{put-same, put-other, put-length}
-=======
 use Rattle.store.specs.Store.{Fits}
 use Rattle.store.proofs.Laws.{put-same, put-other, put-length}
->>>>>>> 617a8d5e8559fb9217fea7460ab4ed067247131a
 use Rattle.read.specs.Structure.{codeOf as recordsOfBlock}
 use Rattle.items.specs.Items.{blockRecord}
 use Rattle.blocks.specs.Blocks.{blockRecordsIn}
