@@ -9,7 +9,7 @@ use borrow.Author.Tests.{le-ltb, ne-eqb, eqb-true, eqb-false, ltb-true}
 use lib.Dec.{eqb, ltb}
 use lib.ListN.{length, getD, length-map}
 use lib.Seq.{getD-set-same, getD-set-other}
-use Rattle.layout.proofs.Walks.{cases}
+use Rattle.general.proofs.Booleans.{cases}
 use Rattle.inst.specs.Inst.{kindOf}
 use Rattle.inst.specs.declared.Code.{Code}
 use Rattle.procedure.specs.Procedure.{Procedure}

@@ -9,7 +9,8 @@ use borrow.Author.Tests.{ltb-true, ltb-false, lt-ltb, le-ltb}
 use lib.Dec.{ltb}
 use lib.ListN.{length, getD, List·getD-eq-default}
 use Rattle.paths.specs.Paths.{isIn, Path, Leads, reachedFrom}
-use Rattle.paths.proofs.Paths.{cases, false-true, in-cons, in-here, in-left, in-right, in-append, leads-inside, reached-is}
+use Rattle.general.proofs.Booleans.{cases}
+use Rattle.paths.proofs.Paths.{false-true, in-cons, in-here, in-left, in-right, in-append, leads-inside, reached-is}
 use Rattle.tidy.specs.Work.Marks.{edge, edgesIn, Pair, PairAt}
 
 pub edges-length : (n : ℕ) (ts : List ℕ) → length ts ≡ 2 * n → length (edgesIn ts) ≡ n

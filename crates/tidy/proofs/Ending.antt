@@ -12,7 +12,8 @@ use lib.Seq.{getD-set-same, getD-set-other}
 use Rattle.format.specs.declared.Record.{Record}
 use Rattle.format.specs.Record.{blank}
 use Rattle.layout.specs.declared.Layout.{Layout}
-use Rattle.layout.proofs.Walks.{cases}
+use Rattle.general.proofs.Booleans.{cases}
+use Rattle.general.proofs.Lists.{getD-any}
 use Rattle.read.specs.Parts.{part}
 use Rattle.read.proofs.Laws.{part-length, part-at}
 use Rattle.inst.specs.declared.Code.{Code}
@@ -22,11 +23,6 @@ use Rattle.ends.proofs.Laws.{end-last}
 use Rattle.tidy.specs.Work.Parts.{blockRecords, blockCode, blocksIn, Fit}
 use Rattle.tidy.specs.Work.Marks.{Pair, PairAt, targetsAt, TargetsIn}
 use Rattle.tidy.proofs.Tables.{blocks-length, block-in, block-code}
-
-getD-any : {A : Type 0} (l : List A) (k : ℕ) (d e : A) → k < length l → getD l k d ≡ getD l k e
-getD-any [] k d e h = absurd (omega arith)
-getD-any (x ∷ l) zero d e h = refl
-getD-any (x ∷ l) (suc k) d e h = getD-any l k d e (omega arith)
 
 -- the end of a block is that of its last record
 module _ {rs : List Record} {l : Layout} (h : Fit rs l) (k : ℕ) {r : Record} (i : k < l .bodies - l .blocks) (e : r ≡ getD rs (l .blocks + k) blank) where

@@ -8,7 +8,7 @@ use mathlib.Core.Logic.{⊎-elim}
 use borrow.Author.Tests.{lt-ltb, le-ltb, le-leb, lt-leb, eq-eqb, ne-eqb, ltb-true, ltb-false}
 use lib.Dec.{ltb, leb}
 use lib.ListN.{getD}
-use Rattle.layout.proofs.Walks.{cases}
+use Rattle.general.proofs.Booleans.{cases}
 use Rattle.paths.specs.Paths.{reachedFrom}
 use Rattle.tidy.specs.declared.Tidiness.{Tidiness}
 use Rattle.tidy.specs.Tidy.{told}

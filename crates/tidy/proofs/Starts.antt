@@ -11,7 +11,7 @@ use lib.ListN.{length, getD}
 use Rattle.format.specs.declared.Record.{Record}
 use Rattle.format.specs.Record.{blank}
 use Rattle.layout.specs.Classes.{ordered, before}
-use Rattle.layout.proofs.Walks.{cases}
+use Rattle.general.proofs.Booleans.{cases}
 use Rattle.layout.proofs.Order.{Sorted, tail-in, before-in, before-out, before-none, before-count, sorted-of}
 
 -- record k is of a class before c where it stands before their end
