@@ -1,7 +1,7 @@
 -- The marks of a walk are exactly the blocks that a path reaches.
 use Prim.Native.Nat.{ℕ, zero, suc, _+_, _≤_, _<_}
 use native.Mathlib.Omega.{arith}
-use mathlib.Core.Path.{_≡_, refl, sym, ap, subst, _∙_}
+use mathlib.Core.Path.{_≡_, refl, sym, ap, _∙_}
 use mathlib.Core.Bool.{Bool, true, false, _||_, cond}
 use mathlib.Core.List.{List, [], _∷_, _++_}
 use mathlib.Core.Logic.{_⊎_, inl, inr, ⊎-elim, _↔_}
@@ -81,11 +81,6 @@ set-marked m b x e = by (cases (eqb x b))
     by : (eqb x b ≡ true) ⊎ (eqb x b ≡ false) → (x ≡ b) ⊎ (getD m x false ≡ true)
     by (inl i) = inl (eqb-true x b i)
     by (inr i) = inr (sym (getD-set-other m b x true false (eqb-false x b i)) ∙ e)
-
-unmarked-inside : (m : List Bool) (b : ℕ) → getD m b true ≡ false → getD m b false ≡ false
-unmarked-inside [] b e = refl
-unmarked-inside (x ∷ m) zero e = e
-unmarked-inside (x ∷ m) (suc b) e = unmarked-inside m b e
 
 -- edges of the blocks that are not marked
 due : List Bool → List (List ℕ) → ℕ

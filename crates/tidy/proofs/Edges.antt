@@ -5,12 +5,12 @@ use mathlib.Core.Path.{_≡_, refl, sym, ap, subst, _∙_}
 use mathlib.Core.Bool.{Bool, true, false, cond}
 use mathlib.Core.List.{List, [], _∷_, _++_}
 use mathlib.Core.Logic.{_⊎_, inl, inr, ⊎-elim}
-use borrow.Author.Tests.{ltb-true, ltb-false, lt-ltb, le-ltb}
+use borrow.Author.Tests.{ltb-true, lt-ltb}
 use lib.Dec.{ltb}
-use lib.ListN.{length, getD, List·getD-eq-default}
-use Rattle.paths.specs.Paths.{isIn, Path, Leads, reachedFrom}
+use lib.ListN.{length, getD}
+use Rattle.paths.specs.Paths.{isIn, Path, reachedFrom}
 use Rattle.general.proofs.Booleans.{cases}
-use Rattle.paths.proofs.Paths.{false-true, in-cons, in-here, in-left, in-right, in-append, leads-inside, reached-is}
+use Rattle.paths.proofs.Paths.{in-cons, in-here, in-left, in-right, in-append, leads-inside, reached-is}
 use Rattle.tidy.specs.Work.Marks.{edge, edgesIn, Pair, PairAt}
 
 pub edges-length : (n : ℕ) (ts : List ℕ) → length ts ≡ 2 * n → length (edgesIn ts) ≡ n

@@ -1,9 +1,9 @@
 -- Laws of the targets noted block by block.
-use Prim.Native.Nat.{ℕ, zero, suc, _+_, _*_, _-_, _≤_, _<_}
+use Prim.Native.Nat.{ℕ, _+_, _*_, _-_, _≤_, _<_}
 use native.Mathlib.Omega.{arith}
-use mathlib.Core.Path.{_≡_, refl, sym, ap, subst, _∙_}
+use mathlib.Core.Path.{_≡_, sym, ap, subst, _∙_}
 use mathlib.Core.Bool.{true, false}
-use mathlib.Core.List.{List, [], _∷_, map}
+use mathlib.Core.List.{List, [], map}
 use mathlib.Core.Logic.{⊎-elim}
 use borrow.Author.Tests.{eqb-true, eqb-false, ltb-true, ltb-false}
 use lib.Dec.{eqb, ltb}
@@ -18,7 +18,7 @@ use Rattle.read.specs.Parts.{part}
 use Rattle.read.proofs.Laws.{part-length, part-at}
 use Rattle.inst.specs.declared.Code.{Code}
 use Rattle.codec.specs.Codec.{codeOf}
-use Rattle.ends.specs.Ends.{codeAt, viewOf, endOf, targets}
+use Rattle.ends.specs.Ends.{viewOf, endOf, targets}
 use Rattle.ends.proofs.Laws.{end-last}
 use Rattle.tidy.specs.Work.Parts.{blockRecords, blockCode, blocksIn, Fit}
 use Rattle.tidy.specs.Work.Marks.{Pair, PairAt, targetsAt, TargetsIn}
