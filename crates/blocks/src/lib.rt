@@ -37,10 +37,11 @@ pub fn front<'a>(code: &'a [u8]) -> &'a [u8]
 pub fn rewritten(old: Record, i: Inst) -> Record
     ensures { λ r. ⌜ r ≡ spec.rewritten old i ⌝ }
 {
-    codec::record_of(Code {
+    let code = Code {
         inst: i,
         stmt: StmtId(old.stmt),
-    })
+    };
+    codec::record_of(code)
 }
 
 // The last instruction of block k is rewritten; nothing is where block k is empty or ends past the code.

@@ -16,10 +16,10 @@ use Rattle.roles.specs.Roles.{defsOf, readsOf, noList}
 use Rattle.word.specs.Word.{choose}
 use Rattle.ends.specs.declared.End.{End}
 use Rattle.ends.specs.declared.End.the-variants as e
-use Rattle.ends.specs.Ends.{viewOf, endOf, front, withEnd}
+use Rattle.ends.specs.Ends.{terminatorOf, viewOf, endOf, front, withEnd}
 use Rattle.codec.specs.Codec.{withInst}
 use Rattle.machine.specs.Machine.{Regs, effect, goes}
-use Rattle.demand.specs.Setting.{terminatorOf, In, Each, Front, Setting, does, defsAt, readsAt, Written, Read, Exposed, Hidden, Fine, Loaded, Behind}
+use Rattle.demand.specs.Setting.{In, Each, Front, Setting, does, defsAt, readsAt, Written, Read, Exposed, Hidden, Fine, Loaded, Behind}
 use Rattle.demand.proofs.Basics.{clash}
 use Rattle.demand.proofs.Effects.{Shape, constant, computed, acting, going, testing, casing, ending, shape}
 use Rattle.demand.proofs.Codes.{each-append, each-left, each-right, front-each, each-front, exposed-left, exposed-right, exposed-split, read-exposed, Ended, set-block}

@@ -17,13 +17,17 @@ use Rattle.roles.specs.Roles.{defsOf, usesOf, listOf, readsOf, noList}
 use Rattle.procedure.specs.Lists.{found, valueOr}
 use Rattle.ends.specs.Forms.{Fixed, word, real, address, varying, formOf, fixedOf, isFixed}
 use Rattle.codec.specs.Codec.{withInst}
+use Rattle.read.specs.Structure.{terminatorKind}
+use Rattle.ends.specs.Ends.{terminatorOf}
 use Rattle.steps.specs.Small.{dupable, smallEndKind, smallEnd, copyable}
 use Rattle.steps.specs.Facts.{Facts}
-use Rattle.steps.specs.Copy.{exchanged, How, leftOut, renumbered, kept, howFixed, howSingle, howWritten, howOf, readThrough, renamed}
+use Rattle.roles.specs.Exchange.{exchanged}
+use Rattle.roles.proofs.Exchanged.{defs-exchanged, uses-exchanged, list-exchanged}
+use Rattle.steps.specs.Copy.{How, leftOut, renumbered, kept, howFixed, howSingle, howWritten, howOf, readThrough, renamed}
 use Rattle.machine.specs.Machine.{Regs, Effect, writes, goes, ends, asks, effect}
 use Rattle.machine.specs.Single.{given, constantOf}
-use Rattle.machine.proofs.Exchanged.{defs-exchanged, uses-exchanged, list-exchanged, effect-exchanged}
-use Rattle.demand.specs.Setting.{terminatorKind, terminatorOf, In, Setting, does, defsAt, readsAt}
+use Rattle.machine.proofs.Exchanged.{effect-exchanged}
+use Rattle.demand.specs.Setting.{In, Setting, does, defsAt, readsAt}
 use Rattle.demand.proofs.Basics.{clash, eqb-eq, and-both}
 use Rattle.demand.proofs.Effects.{Shape, constant, computed, acting, going, testing, casing, ending, shape, plain, varies, fixed-constant}
 

@@ -18,7 +18,7 @@ use Rattle.roles.specs.Roles.{defsOf, usesOf, listOf, noList}
 use Rattle.procedure.specs.Procedure.{Arm, Table, tableAt, firstOf}
 use Rattle.ends.specs.declared.End.the-variants as e
 use Rattle.ends.specs.Forms.{Fixed, word, real, address, varying, formOf, fixedOf, isFixed}
-use Rattle.ends.specs.Ends.{viewOf}
+use Rattle.ends.specs.Ends.{terminatorOf, viewOf}
 use Rattle.steps.specs.Small.{dupable}
 use Rattle.steps.specs.Emit.{leads}
 use Rattle.word.specs.Word.{choose, compares, tests, within, armOf, targetOf}
@@ -27,10 +27,10 @@ use Rattle.inst.specs.declared.Code.{Code}
 use Rattle.machine.specs.Machine.{Address, Outside, Regs, End, Effect, writes, goes, ends, asks, returned, unreachable, effect, effectOf, stores, upd}
 use Rattle.machine.specs.Single.{given, constantOf}
 use Rattle.demand.proofs.Basics.{clash, clash-some, dec-in, upd-same, upd-other, stores-other}
-use Rattle.demand.specs.Setting.{terminatorOf, In, Setting, code, does, defsAt, readsAt, Fine, Loaded, Passes}
+use Rattle.demand.specs.Setting.{In, Setting, code, does, defsAt, readsAt, Fine, Loaded, Passes}
 
 -- an arm is one of the table's targets
-arm-in : (arms : List Arm) (d v : ℕ) → In (armOf arms d v) (map (λ a. a .target) arms ++ (d ∷ []))
+pub arm-in : (arms : List Arm) (d v : ℕ) → In (armOf arms d v) (map (λ a. a .target) arms ++ (d ∷ []))
 arm-in [] d v = inl refl
 arm-in (arm ∷ arms) d v = by (within arm v) (arm-in arms d v)
   where
@@ -39,7 +39,7 @@ arm-in (arm ∷ arms) d v = by (within arm v) (arm-in arms d v)
     by true m = inl refl
     by false m = inr m
 
-choose-in : (v t f : ℕ) → In (choose v t f) (t ∷ f ∷ [])
+pub choose-in : (v t f : ℕ) → In (choose v t f) (t ∷ f ∷ [])
 choose-in zero t f = inr (inl refl)
 choose-in (suc v) t f = inl refl
 
@@ -68,6 +68,7 @@ module _ (address : Address) where
     pub varies : isFixed (fixedOf x) ≡ false
     pub no-copy : dupable x ≡ false
     pub few : length (usesOf x) ≤ 1
+    pub ends-block : terminatorOf x ≡ true
 
   pub data Shape (x : Inst) : Type 0 where
     -- Const, ConstF, AddrOf
@@ -89,8 +90,8 @@ module _ (address : Address) where
   inner : (x : Inst) (b : Bool) → isFixed (fixedOf x) ≡ b → terminatorOf x ≡ false → viewOf x ≡ e.Other → Inner x b
   inner x b p q r = record { is-fixed = p; no-end = q; view = r }
 
-  outer : (x : Inst) → defsOf x ≡ [] → listOf x ≡ noList → isFixed (fixedOf x) ≡ false → dupable x ≡ false → length (usesOf x) ≤ 1 → Outer x
-  outer x p q r s t = record { none = p; unlisted = q; varies = r; no-copy = s; few = t }
+  outer : (x : Inst) → defsOf x ≡ [] → listOf x ≡ noList → isFixed (fixedOf x) ≡ false → dupable x ≡ false → length (usesOf x) ≤ 1 → terminatorOf x ≡ true → Outer x
+  outer x p q r s t u = record { none = p; unlisted = q; varies = r; no-copy = s; few = t; ends-block = u }
 
   pub shape : (x : Inst) → Shape x
   unfolding effect opOf fixedOf formOf viewOf compares
@@ -113,12 +114,12 @@ module _ (address : Address) where
   shape (i.Alloc d a) = acting refl (inner _ _ refl refl refl) (λ t s k w. refl)
   shape (i.TakeBounds l r e) = acting refl (inner _ _ refl refl refl) (λ t s k w. refl)
   shape (i.CallNative n a d) = acting refl (inner _ _ refl refl refl) (λ t s k w. refl)
-  shape (i.Br l) = going l refl (outer _ refl refl refl refl (omega arith)) (λ t s k w. refl)
-  shape (i.CondBr c l m) = testing c l m refl refl (outer _ refl refl refl refl (omega arith)) (λ t s k w. refl)
-  shape (i.Case v n) = casing n refl (outer _ refl refl refl refl (omega arith)) (λ t s k w. refl)
-  shape (i.Ret (o.Some v)) = ending (λ s vs. returned (firstOf vs) s) refl (outer _ refl refl refl refl (omega arith)) (λ t s k w. refl)
-  shape (i.Ret o.None) = ending (λ s vs. returned (firstOf vs) s) refl (outer _ refl refl refl refl (omega arith)) (λ t s k w. refl)
-  shape (i.Unreachable w) = ending (λ s vs. unreachable w s) refl (outer _ refl refl refl refl (omega arith)) (λ t s k v. refl)
+  shape (i.Br l) = going l refl (outer _ refl refl refl refl (omega arith) refl) (λ t s k w. refl)
+  shape (i.CondBr c l m) = testing c l m refl refl (outer _ refl refl refl refl (omega arith) refl) (λ t s k w. refl)
+  shape (i.Case v n) = casing n refl (outer _ refl refl refl refl (omega arith) refl) (λ t s k w. refl)
+  shape (i.Ret (o.Some v)) = ending (λ s vs. returned (firstOf vs) s) refl (outer _ refl refl refl refl (omega arith) refl) (λ t s k w. refl)
+  shape (i.Ret o.None) = ending (λ s vs. returned (firstOf vs) s) refl (outer _ refl refl refl refl (omega arith) refl) (λ t s k w. refl)
+  shape (i.Unreachable w) = ending (λ s vs. unreachable w s) refl (outer _ refl refl refl refl (omega arith) refl) (λ t s k v. refl)
   shape i.Stmt = acting refl (inner _ _ refl refl refl) (λ t s k w. refl)
 
   -- the kinds of the registers matter to no effect

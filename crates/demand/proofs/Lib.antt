@@ -14,3 +14,10 @@ pub mod Counted
 pub mod CopySparse
 pub mod Sparse
 pub mod Join
+pub mod Threads
+pub mod Reached
+pub mod Emptied
+pub mod Rescued
+pub mod Sums
+pub mod Arms
+pub mod Original

@@ -28,10 +28,10 @@ use Rattle.demand.proofs.Effects.{keeps, passes-any, passes-map, passes
 
 -- what the form of an instruction says of its effect
 module _ (address : Address) where
-  abbrev Always : Inst → (List ℕ → ℕ) → Type 0
+  abbrev pub Always : Inst → (List ℕ → ℕ) → Type 0
   Always x F = (tables : List Table) (s : ℕ) (values : List ℕ) → effect address tables s [] values x ≡ writes (F values ∷ [])
 
-  abbrev Says : Inst → Form → Type 0
+  abbrev pub Says : Inst → Form → Type 0
   Says x (const d v) = (defsOf x ≡ d .0 ∷ []) × Always x (λ vs. v)
   Says x (constF d) = Unit {0}
   Says x (addrOf d up) = Unit {0}
@@ -41,7 +41,7 @@ module _ (address : Address) where
   Says x (jump e) = Unit {0}
   Says x other = Unit {0}
 
-  says : (x : Inst) → Says x (formOf x)
+  pub says : (x : Inst) → Says x (formOf x)
   unfolding formOf effect
   says (i.Const d v) = (refl, λ t s w. refl)
   says (i.ConstF d v) = tt

@@ -35,6 +35,7 @@ use Rattle.demand.proofs.Codes.{each-left, Ended, ends-in, in-range}
 use Rattle.demand.proofs.Edit.{Meet, Agree, meet, Tail, Block, whole, edited}
 use Rattle.demand.proofs.Branches.{Tests, cond-does, br-new, cond-new, Good, end-good, end-blocks}
 use Rattle.demand.proofs.Noted.{Holds, nothing-holds, value-holds, source-holds, notes-hold, source-read}
+use Rattle.demand.proofs.Sparse.{Sparse, sparse-end}
 use Rattle.demand.proofs.Jumps.{St, both-go, chase, matched}
 
 pub empty-end : endOf [] ≡ e.Other
@@ -66,9 +67,11 @@ module _ (E : Setting) where
   pub edited-none : (m : ℕ) (P : List (List Code)) → Good E m P → Edited m m P P
   edited-none m P good = record { good = good; shortens = λ κ rs rs′ b g h l. settle m P good κ rs rs′ b g g h l (λ r q. refl) }
 
+  pub shortens-then : (P P′ P″ : List (List Code)) → Shortens P P′ → Shortens P′ P″ → Shortens P P″
+  shortens-then P P′ P″ x y κ rs rs′ b g h l = shorter-trans (x κ rs [] b g h l) (y κ [] rs′ b g h l)
+
   pub edited-then : {m m′ m″ : ℕ} {P P′ P″ : List (List Code)} → Edited m m′ P P′ → Edited m′ m″ P′ P″ → Edited m m″ P P″
-  edited-then x y =
-      record { good = y .good; shortens = λ κ rs rs′ b g h l. shorter-trans (x .shortens κ rs [] b g h l) (y .shortens κ [] rs′ b g h l) }
+  edited-then {P = P} {P′ = P′} {P″ = P″} x y = record { good = y .good; shortens = shortens-then P P′ P″ (x .shortens) (y .shortens) }
 
   cond-no-other : (c : Reg) (t u : BlockId) → e.CondBr c t u ≡ e.Other → ⊥
   cond-no-other c t u q = let z : _≡_ {A = ℕ} 0 1 = cc in omega arith
@@ -110,6 +113,10 @@ module _ (E : Setting) where
                 (edited E κ rs rs′ P (ended-by x) Q (end-blocks E m P good a range end x writes-none old-reads κ rs rs′ Q q (k κ rs rs′)) b g g h l (λ r z. refl));
           }
 
+      -- of a register that one field writes
+      rewritten-sparse : (f : Facts) (d : ℕ) → Sparse E f P d → Sparse E f (set P a (withEnd x (getD P a []))) d
+      rewritten-sparse f d = sparse-end E f P a d range end x writes-none old-reads
+
     -- "if both reach one block, write Br there"
     pub joins-arms : reachedFrom P (t .0) ≡ reachedFrom P (u .0) → Edited m m P (set P a (withEnd (i.Br (blockOf (reachedFrom P (t .0)))) (getD P a [])))
     joins-arms q = rewritten x refl (λ r k. absurd k) (λ g. Unit {0}) (λ g l. always pre g) tail
@@ -150,25 +157,32 @@ module _ (E : Setting) where
               both-go E κ rs rs′ P (ended-by x) (withInst x (end .last)) [] g g′ h l (meet E (withInst x (end .last) ∷ []) g g′ z) (end .last) [] (choose n (t .0) (u .0))
               (tests .goes-to g ∙ ap (λ w. goes (choose w (t .0) (u .0))) v) (br-new E _ (end .last) g′)
 
+      pub folds-sparse : (n d : ℕ) → Sparse E f P d → Sparse E f (set P a (withEnd (i.Br (blockOf (choose n (t .0) (u .0)))) (getD P a []))) d
+      folds-sparse n = rewritten-sparse (i.Br (blockOf (choose n (t .0) (u .0)))) refl (λ r k. absurd k) f
+
+      -- the source is c, or was read before
+      turn-reads : (l m : ℕ) (r : ℕ) → In r (readsOf (E .operands) (i.CondBr (regOf source) (blockOf l) (blockOf m))) → Read (E .operands) pre r ⊎ (r ≡ c .0)
+      turn-reads l m r (inl q) = by (source-read (E .address) (E .operands) f pre (c .0))
+        where
+          by : (source ≡ c .0) ⊎ Read (E .operands) pre source → Read (E .operands) pre r ⊎ (r ≡ c .0)
+          by (inl z) = inr (q ∙ z)
+          by (inr z) = inl (subst (Read (E .operands) pre) (sym q) z)
+      turn-reads l m r (inr q) = absurd q
+
+      pub turns-sparse : (l m d : ℕ) → Sparse E f P d → Sparse E f (set P a (withEnd (i.CondBr (regOf source) (blockOf l) (blockOf m)) (getD P a []))) d
+      turns-sparse l m = rewritten-sparse (i.CondBr (regOf source) (blockOf l) (blockOf m)) refl (turn-reads l m) f
+
       -- "c becomes its copy's source"; "an arm whose target is a lone CondBr on the same c .. takes that block's matching arm"
       pub turns-to : (w : Work) → w .blocks ≡ P
           → Edited m m P (set P a (withEnd (i.CondBr (regOf source) (blockOf (armOf f w a source true (t .0))) (blockOf (armOf f w a source false (u .0)))) (getD P a [])))
       unfolding armOf
-      turns-to w same = rewritten x refl reads-old (Holds K) holding tail
+      turns-to w same = rewritten x refl (turn-reads (arm true (t .0)) (arm false (u .0))) (Holds K) holding tail
         where
           arm : Bool → ℕ → ℕ
           arm truth l = armOf f w a source truth l
 
           x : Inst
           x = i.CondBr (regOf source) (blockOf (arm true (t .0))) (blockOf (arm false (u .0)))
-
-          reads-old : (r : ℕ) → In r (readsOf (E .operands) x) → Read (E .operands) pre r ⊎ (r ≡ c .0)
-          reads-old r (inl q) = by (source-read (E .address) (E .operands) f pre (c .0))
-            where
-              by : (source ≡ c .0) ⊎ Read (E .operands) pre source → Read (E .operands) pre r ⊎ (r ≡ c .0)
-              by (inl z) = inr (q ∙ z)
-              by (inr z) = inl (subst (Read (E .operands) pre) (sym q) z)
-          reads-old r (inr q) = absurd q
 
           tail : (κ : ℕ) (rs rs′ : List ℕ) → Tail E κ rs rs′ P (ended-by x) (Holds K) (end .last ∷ []) (withInst x (end .last) ∷ [])
           tail κ rs rs′ g g′ h l k z = by (g source) refl

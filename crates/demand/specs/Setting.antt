@@ -4,10 +4,8 @@ use mathlib.Core.Path.{_≡_}
 use mathlib.Core.Logic.{_⊎_}
 use mathlib.Core.List.{List, [], _∷_, map}
 use mathlib.Core.Option.{Option, none, some}
-use mathlib.Core.Bool.{Bool, true, false, _&&_}
-use lib.Dec.{leb}
+use mathlib.Core.Bool.{Bool, true, false}
 use lib.ListN.{getD}
-use Rattle.inst.specs.Inst.{kindOf}
 use Rattle.inst.specs.declared.Code.{Code}
 use Rattle.inst.specs.declared.Inst.{Inst}
 use Rattle.roles.specs.Roles.{defsOf, readsOf}
@@ -30,13 +28,6 @@ abbrev pub Front : (Code → Type 0) → List Code → Type 0
 Front F [] = Unit {0}
 Front F (x ∷ []) = Unit {0}
 Front F (x ∷ y ∷ c) = F x × Front F (y ∷ c)
-
--- "terminator (kinds 18 to 22)"
-abbrev pub terminatorKind : ℕ → Bool
-terminatorKind k = leb 18 k && leb k 22
-
-abbrev pub terminatorOf : Inst → Bool
-terminatorOf x = terminatorKind (kindOf x)
 
 -- what stays the same while a procedure is shortened
 pub record Setting : Type 0 where

@@ -18,7 +18,7 @@ use Rattle.layout.proofs.Walks.{walk-le}
 use Rattle.read.specs.declared.Reading.{Reading}
 use Rattle.read.specs.Structure.{tiles, nextBlock, tiled, codeOf as recordsOfBlock}
 use Rattle.read.specs.Reading.{unless, answer, reading, readRecords, readBlocks, beyond, beyondLimit, wrongLength}
-use Rattle.read.specs.Parts.{InCode, LaidOut}
+use Rattle.read.specs.Work.{InCode, LaidOut}
 use Rattle.read.proofs.Laid.{sizes, class-part, in-tiles}
 use Rattle.codec.specs.Codec.{codeOf}
 use Rattle.procedure.specs.Procedure.{procedureOf}

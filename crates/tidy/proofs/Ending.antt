@@ -14,7 +14,7 @@ use Rattle.format.specs.Record.{blank}
 use Rattle.layout.specs.declared.Layout.{Layout}
 use Rattle.general.proofs.Booleans.{cases}
 use Rattle.general.proofs.Lists.{getD-any}
-use Rattle.read.specs.Parts.{part}
+use Rattle.read.specs.Work.{part}
 use Rattle.read.proofs.Laws.{part-length, part-at}
 use Rattle.inst.specs.declared.Code.{Code}
 use Rattle.codec.specs.Codec.{codeOf}

@@ -1,6 +1,6 @@
 ghost use mathlib.Core.Path.{_≡_};
 ghost use Rattle.format.specs.Record.{recordsOf};
-ghost use Rattle.read.specs.Parts.{LaidOut};
+ghost use Rattle.read.specs.Work.{LaidOut};
 ghost use Rattle.procedure.specs.Procedure.{procedureOf};
 ghost use Rattle.tidy.specs.Tidy.{offenders, verdict, tidiness};
 ghost use Rattle.tidy.specs.Work.Parts.{Fit};

@@ -3,7 +3,7 @@ ghost use Prim.Native.Nat.{_≤_};
 ghost use lib.ListN.{length};
 ghost use Rattle.format.specs.Record.{recordsOf};
 ghost use Rattle.layout.specs.Classes.{ordered, before};
-ghost use Rattle.read.specs.Parts.{LaidOut};
+ghost use Rattle.read.specs.Work.{LaidOut};
 use layout::Layout;
 
 // Where the classes from `class` on start in a file that is in order.

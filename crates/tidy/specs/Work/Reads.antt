@@ -12,7 +12,7 @@ use Rattle.roles.specs.declared.Roles.{Roles}
 use Rattle.roles.specs.Roles.{readsOf, operandsOf, numbersOf}
 use Rattle.paths.specs.Paths.{reachedFrom}
 use Rattle.tidy.specs.declared.Tidiness.{Tidiness}
-use Rattle.read.specs.Parts.{part}
+use Rattle.read.specs.Work.{part}
 use Rattle.codec.specs.Codec.{codeOf}
 use Rattle.tidy.specs.Tidy.{Placed, Field, placedIn, placedFrom, fieldsAt, reads, wrong, told}
 use Rattle.tidy.specs.Work.Parts.{operandsIn, blocksIn, placedAt}
