@@ -37,13 +37,13 @@ static void expect_at_all_addresses(const char *what, const uint8_t *bytes, size
 static void expect_lengths(uint8_t *room)
 {
     memset(room, 0, ROOM);
-    expect("null pointer", NULL, 0, 3, 0);
-    expect("empty file", room, 0, 3, 0);
-    expect("33 bytes", room, 33, 1, 0);
-    expect("31 bytes", room, 31, 1, 0);
-    expect("32 zero bytes", room, 32, 2, 0);
-    expect("65536 zero bytes", room, 65536, 2, 0);
-    expect("65568 zero bytes", room, 65568, 1, 0);
+    expect("null pointer", NULL, 0, HALIVOMUE_LIMIT, 0);
+    expect("empty file", room, 0, HALIVOMUE_LIMIT, 0);
+    expect("33 bytes", room, 33, HALIVOMUE_LENGTH, 0);
+    expect("31 bytes", room, 31, HALIVOMUE_LENGTH, 0);
+    expect("32 zero bytes", room, 32, HALIVOMUE_RECORD, 0);
+    expect("65536 zero bytes", room, 65536, HALIVOMUE_RECORD, 0);
+    expect("65568 zero bytes", room, 65568, HALIVOMUE_LENGTH, 0);
 }
 
 int main(int count, char **arguments)
@@ -57,8 +57,8 @@ int main(int count, char **arguments)
     }
     expect_lengths(room);
     length = load(arguments[1], room);
-    expect_at_all_addresses("accepted sample", room, length, 0, 0);
-    expect("accepted sample less one byte", room, length - 1, 1, 0);
+    expect_at_all_addresses("accepted sample", room, length, HALIVOMUE_ACCEPTED, 0);
+    expect("accepted sample less one byte", room, length - 1, HALIVOMUE_LENGTH, 0);
     length = load(arguments[2], room);
     expect_at_all_addresses("refused sample", room, length,
                             (uint32_t)strtoul(arguments[3], NULL, 10),

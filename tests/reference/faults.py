@@ -39,8 +39,8 @@ def function(text, name):
 
 
 def uncommented(text):
-    """The text with comments blanked, places kept."""
-    return re.sub(r"//[^\n]*", lambda m: " " * len(m[0]), text)
+    """The text with comments and the tally's probes blanked, places kept."""
+    return re.sub(r"//[^\n]*|crate::probe::(hop|br|decided|kept|turned)\([^\n]*", lambda m: " " * len(m[0]), text)
 
 
 def spots(text, start, end, pattern):
@@ -233,7 +233,7 @@ def all_faults(cfg, inst):
     plain = uncommented(cfg)
     for name in STEPS:
         found += by_rules("cfg.rs", name, plain, *function(plain, name))
-    found += by_hand(cfg)
+    found += by_hand(plain)
     found += roles(uncommented(inst))
     seen = set()
     for f in found:

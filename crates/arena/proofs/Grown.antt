@@ -8,11 +8,12 @@ use mathlib.Core.Logic.{_⊎_, inl, inr}
 use borrow.Author.Tests.{leb-true, le-leb, lt-ltb, eq-eqb}
 use lib.ListN.{length, getD, take, drop, set, length-drop, length-map, List·getD-map}
 use lib.Seq.{take-take, take-suc-set, drop-set-add, length-take-le, set-set, getD-set-same}
+use Rattle.general.proofs.Numbers.{order}
 use Rattle.format.specs.declared.Record.{Record}
 use Rattle.format.specs.Record.{recordsOf, recordAt}
 use Rattle.format.proofs.Laws.{length-records}
 use Rattle.store.specs.Store.{putOf}
-use Rattle.store.proofs.Laws.{order, fits-at, put-records, put-length}
+use Rattle.store.proofs.Laws.{fits-at, put-records, put-length}
 use Rattle.read.specs.Structure.{codeOf as recordsOfBlock}
 use Rattle.inst.specs.declared.Code.{Code}
 use Rattle.codec.specs.Codec.{codeOf, recordOf, InRange}

@@ -9,9 +9,9 @@ use borrow.Author.Tests.{ltb-true, eqb-true, leb-true, leb-false, le-leb, lt-leb
 use lib.Dec.{ltb, leb}
 use lib.ListN.{length, getD, take, drop, set, length-append, length-drop, List·getD-append}
 use lib.Seq.{paste, paste-suc, length-take-le, getD-take, getD-drop}
+use Rattle.general.proofs.Booleans.{and-first, and-second}
 use Rattle.format.specs.declared.Record.{Record}
 use Rattle.format.specs.Record.{recordAt}
-use Rattle.layout.proofs.Order.{and-first, and-second}
 use Rattle.inst.specs.declared.Code.{Code}
 use Rattle.arena.specs.Arena.{Arena, Topped, sizeOf, isLast, room, moves, moveIf, toEnd, popped, popIf, pop, grows, pushIf, push}
 

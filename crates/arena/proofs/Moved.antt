@@ -8,9 +8,9 @@ use borrow.Author.Tests.{leb-true, le-leb, eqb-true}
 use lib.Dec.{leb}
 use lib.ListN.{length, getD, take, drop, length-drop}
 use lib.Seq.{paste, take-paste, length-paste, take-take, take-at, drop-at, length-take-le, set-getD}
+use Rattle.general.proofs.Booleans.{and-first, and-second}
 use Rattle.format.specs.declared.Record.{Record}
 use Rattle.format.specs.Record.{recordsOf, recordAt}
-use Rattle.layout.proofs.Order.{and-first, and-second}
 use Rattle.store.specs.Store.{Bytes}
 use Rattle.read.specs.Structure.{codeOf as recordsOfBlock}
 use Rattle.blocks.specs.Blocks.{blockRecordsIn}

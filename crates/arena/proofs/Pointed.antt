@@ -9,11 +9,12 @@ use borrow.Author.Tests.{eqb-true, eqb-false}
 use lib.Dec.{eqb, lit<}
 use lib.ListN.{length, take, drop, set}
 use lib.Seq.{take-take, take-nil}
+use Rattle.general.proofs.Numbers.{order}
 use Rattle.format.specs.declared.Record.{Record}
 use Rattle.format.specs.Record.{recordsOf, recordAt}
 use Rattle.format.proofs.Laws.{length-records}
 use Rattle.store.specs.Store.{Fits}
-use Rattle.store.proofs.Laws.{order, put-same, put-other, put-length}
+use Rattle.store.proofs.Laws.{put-same, put-other, put-length}
 use Rattle.read.specs.Structure.{codeOf as recordsOfBlock}
 use Rattle.items.specs.Items.{blockRecord}
 use Rattle.blocks.specs.Blocks.{blockRecordsIn}

@@ -9,19 +9,21 @@ use borrow.Author.Tests.{eqb-true, ltb-true, leb-true}
 use lib.Dec.{eqb, ltb, leb}
 use lib.ListN.{length, getD, take, drop, set, length-drop, List·getD-map}
 use lib.Seq.{drop-set-lt, drop-set-add, take-set-le, take-set-lt, getD-take, getD-drop, length-take-le, set-getD}
+use Rattle.general.proofs.Booleans.{and-first, and-second}
+use Rattle.general.proofs.Numbers.{order}
 use Rattle.format.specs.declared.Record.{Record}
 use Rattle.format.specs.Record.{recordsOf, recordAt, blank}
 use Rattle.format.proofs.Laws.{length-records}
 use Rattle.layout.specs.Walk.{walk}
 use Rattle.layout.proofs.Walks.{walk-head, walk-tail}
-use Rattle.layout.proofs.Order.{and-first, and-second}
 use Rattle.store.specs.Store.{Bytes}
-use Rattle.store.proofs.Laws.{order, put-records, fits-at}
+use Rattle.store.proofs.Laws.{put-records, fits-at}
 use Rattle.read.specs.Structure.{State, tiles, nextBlock, codeOf as recordsOfBlock}
 use Rattle.inst.specs.declared.Inst.{Inst}
 use Rattle.codec.specs.Codec.{codeOf, recordOf, inRange}
 use Rattle.codec.proofs.Laws.{written-fits}
-use Rattle.ends.specs.Ends.{withInst, withEnd}
+use Rattle.ends.specs.Ends.{withEnd}
+use Rattle.codec.specs.Codec.{withInst}
 use Rattle.blocks.specs.Blocks.{blockRecordsIn, blocksOf, Canonical}
 use Rattle.blocks.specs.Rewrite.{rewritten, endRewritten, lastBy, Holds, Apart, Tiled}
 use Rattle.blocks.proofs.Parts.{records-at, codes-at}

@@ -14,7 +14,8 @@ use Rattle.inst.specs.declared.Inst.{Inst}
 use Rattle.codec.specs.Codec.{codeOf, recordOf, inRange}
 use Rattle.codec.proofs.Read.{inst-back}
 use Rattle.procedure.specs.Procedure.{codesOf}
-use Rattle.ends.specs.Ends.{front, withInst, withEnd}
+use Rattle.ends.specs.Ends.{front, withEnd}
+use Rattle.codec.specs.Codec.{withInst}
 use Rattle.ends.proofs.Laws.{length-codes}
 use Rattle.blocks.specs.Rewrite.{frontBytes, rewritten, endRewritten, lastBy}
 use Rattle.blocks.proofs.Parts.{records-part}

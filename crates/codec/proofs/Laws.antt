@@ -8,18 +8,19 @@ use mathlib.Core.Logic.{_⊎_, inl, inr}
 use lib.Dec.{ltb, eqb, lit<}
 use lib.ListN.{length, getD}
 use borrow.Author.Tests.{lt-ltb, ltb-true, eqb-true}
+use Rattle.general.proofs.Booleans.{and-first, and-second}
+use Rattle.general.proofs.Numbers.{Below, below, order}
 use Rattle.format.specs.declared.Record.{Record}
 use Rattle.format.specs.Record.{recordAt}
 use Rattle.format.specs.Kinds.{right, fields, instructionPlaces, instructionOps, allFit}
 use Rattle.inst.specs.declared.Code.{Code}
 use Rattle.inst.specs.declared.Inst.{Inst}
 use Rattle.inst.specs.declared.Inst.the-variants as i
-use Rattle.ops.proofs.Laws.{below}
 use Rattle.store.specs.Store.{Bytes, Fits, putOf}
-use Rattle.store.proofs.Laws.{order, fits-at, put-same, put-back}
-use Rattle.codec.specs.Codec.{instOf, codeOf, instRecord, recordOf, withStmt, rowOf, inRange, InRange}
+use Rattle.store.proofs.Laws.{fits-at, put-same, put-back}
+use Rattle.codec.specs.Codec.{instOf, codeOf, instRecord, recordOf, withStmt, withInst, rewrittenRecord, rowOf, inRange, InRange}
 use Rattle.codec.proofs.Table.{inst-past}
-use Rattle.codec.proofs.Read.{first, second, inst-back, inst-right, inst-words}
+use Rattle.codec.proofs.Read.{inst-back, inst-right, inst-words}
 use Rattle.codec.proofs.Write.{kept}
 use Rattle.codec.proofs.Range.{ranged}
 
@@ -34,13 +35,13 @@ pub listed : (r : Record) → right r ≡ true → r .class ≡ 4 → Listed r
 unfolding right
 listed r h e =
     let a = rw e at h in
-    let b = second (ltb (r .kind) 24) _ a in
-    let c = second (ltb (r .op) (instructionOps (r .kind))) _ b in
+    let b = and-second (ltb (r .kind) 24) _ a in
+    let c = and-second (ltb (r .op) (instructionOps (r .kind))) _ b in
     record {
-      kind = ltb-true (r .kind) 24 (first (ltb (r .kind) 24) _ a);
-      op = ltb-true (r .op) (instructionOps (r .kind)) (first (ltb (r .op) (instructionOps (r .kind))) _ b);
-      zero = eqb-true (r .zero) 0 (first (eqb (r .zero) 0) _ c);
-      places = second (eqb (r .zero) 0) _ c;
+      kind = ltb-true (r .kind) 24 (and-first (ltb (r .kind) 24) _ a);
+      op = ltb-true (r .op) (instructionOps (r .kind)) (and-first (ltb (r .op) (instructionOps (r .kind))) _ b);
+      zero = eqb-true (r .zero) 0 (and-first (eqb (r .zero) 0) _ c);
+      places = and-second (eqb (r .zero) 0) _ c;
     }
 
 row-same : (r : Record) → r .class ≡ 4 → r .zero ≡ 0 → withStmt (rowOf (r .kind) (r .op) (r .p1) (r .p2) (r .p3) (r .p4) (r .p5) (r .p6)) (r .stmt) ≡ r
@@ -49,17 +50,14 @@ row-same r e z = ap (λ (c : ℕ). of c 0) (sym e) ∙ ap (of (r .class)) (sym z
     of : ℕ → ℕ → Record
     of c n = record { class = c; kind = r .kind; op = r .op; zero = n; stmt = r .stmt; p1 = r .p1; p2 = r .p2; p3 = r .p3; p4 = r .p4; p5 = r .p5; p6 = r .p6 }
 
--- what was read from a right record writes the same record; of its bounds only those of p2 and p3 count
-pub write-back-words : (r : Record) → right r ≡ true → r .class ≡ 4 → r .p2 < 2 ^ 32 → r .p3 < 2 ^ 32 → recordOf (codeOf r) ≡ r
+-- what was read from a right record writes the same record
+pub write-back : (r : Record) → right r ≡ true → r .class ≡ 4 → Fits r → recordOf (codeOf r) ≡ r
 unfolding instOf
-write-back-words r h e w2 w3 =
+write-back r h e f =
     let l = listed r h e in
     ap (λ (x : Record). withStmt x (r .stmt))
-    (kept (r .kind) (l .kind) (r .op) (r .p1) (r .p2) (r .p3) (r .p4) (r .p5) (r .p6) (l .op) w2 w3 (l .places))
+    (kept (r .kind) (l .kind) (r .op) (r .p1) (r .p2) (r .p3) (r .p4) (r .p5) (r .p6) (l .op) (f .p2) (f .p3) (l .places))
     ∙ row-same r e (l .zero)
-
-pub write-back : (r : Record) → right r ≡ true → r .class ≡ 4 → Fits r → recordOf (codeOf r) ≡ r
-write-back r h e f = write-back-words r h e (f .p2) (f .p3)
 
 -- what was written reads back as the same value
 pub read-back : (c : Code) → InRange c → codeOf (recordOf c) ≡ c
@@ -68,6 +66,13 @@ read-back c h = ap (λ (x : Inst). record { inst = x; stmt = c .stmt }) (inst-ba
 -- what is written is right
 pub written-right : (c : Code) → InRange c → right (recordOf c) ≡ true
 written-right c h = inst-right (c .inst) (c .stmt .0) (h .inst)
+
+-- a rewritten record is right, and is read as the other instruction with all else of what the record held
+pub rewritten-right : (r : Record) (x : Inst) → inRange x ≡ true → right (rewrittenRecord r x) ≡ true
+rewritten-right r x h = inst-right x (r .stmt) h
+
+pub rewritten-code : (r : Record) (x : Inst) → inRange x ≡ true → codeOf (rewrittenRecord r x) ≡ withInst x (codeOf r)
+rewritten-code r x h = ap (λ (y : Inst). withInst y (codeOf r)) (inst-back x (r .stmt) h)
 
 pub written-class : (x : Inst) → instRecord x .class ≡ 4
 unfolding instRecord
@@ -96,11 +101,20 @@ written-class (i.Ret v) = refl
 written-class (i.Unreachable w) = refl
 written-class i.Stmt = refl
 
-ops-few : (k : ℕ) → k < 24 → instructionOps k < 256
-ops-few = below (λ (k : ℕ). instructionOps k < 256) 24 ((((((((((((((((((((((((tt, lit< tt), lit< tt), lit< tt), lit< tt), lit< tt), lit< tt), lit< tt), lit< tt), lit< tt), lit< tt), lit< tt), lit< tt), lit< tt), lit< tt), lit< tt), lit< tt), lit< tt), lit< tt), lit< tt), lit< tt), lit< tt), lit< tt), lit< tt), lit< tt)
+abbrev Few : ℕ → Type 0
+Few k = instructionOps k < 256
+
+ops-few-8 : Below Few 8
+ops-few-8 = ((((((((tt, lit< tt), lit< tt), lit< tt), lit< tt), lit< tt), lit< tt), lit< tt), lit< tt)
+
+ops-few-16 : Below Few 16
+ops-few-16 = ((((((((ops-few-8, lit< tt), lit< tt), lit< tt), lit< tt), lit< tt), lit< tt), lit< tt), lit< tt)
+
+ops-few : (k : ℕ) → k < 24 → Few k
+ops-few = below Few 24 ((((((((ops-few-16, lit< tt), lit< tt), lit< tt), lit< tt), lit< tt), lit< tt), lit< tt), lit< tt)
 
 word : (p : ℕ) (b : Bool) → (ltb p (2 ^ 32) && b) ≡ true → p < 2 ^ 32
-word p b h = ltb-true p (2 ^ 32) (first (ltb p (2 ^ 32)) b h)
+word p b h = ltb-true p (2 ^ 32) (and-first (ltb p (2 ^ 32)) b h)
 
 -- what is written fits its 32 bytes
 pub written-fits : (c : Code) → InRange c → Fits (recordOf c)
@@ -110,11 +124,11 @@ written-fits c h =
     let l = listed r (written-right c h) e in
     let few = ops-few (r .kind) (l .kind) in
     let w1 = inst-words (c .inst) (h .inst) in
-    let w2 = second (ltb (r .p1) (2 ^ 32)) _ w1 in
-    let w3 = second (ltb (r .p2) (2 ^ 32)) _ w2 in
-    let w4 = second (ltb (r .p3) (2 ^ 32)) _ w3 in
-    let w5 = second (ltb (r .p4) (2 ^ 32)) _ w4 in
-    let w6 = second (ltb (r .p5) (2 ^ 32)) _ w5 in
+    let w2 = and-second (ltb (r .p1) (2 ^ 32)) _ w1 in
+    let w3 = and-second (ltb (r .p2) (2 ^ 32)) _ w2 in
+    let w4 = and-second (ltb (r .p3) (2 ^ 32)) _ w3 in
+    let w5 = and-second (ltb (r .p4) (2 ^ 32)) _ w4 in
+    let w6 = and-second (ltb (r .p5) (2 ^ 32)) _ w5 in
     record {
       class = omega (arith, e);
       kind = omega (arith, l .kind);

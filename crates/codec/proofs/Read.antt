@@ -6,6 +6,7 @@ use mathlib.Core.Bool.{Bool, true, false, _&&_}
 use mathlib.Core.List.{[], _∷_}
 use lib.Dec.{ltb}
 use borrow.Author.Tests.{lt-ltb, ltb-true}
+use Rattle.general.proofs.Booleans.{and-first, and-second}
 use Rattle.format.specs.Kinds.{right, fields}
 use Rattle.real.specs.Real.{realOf, bitsOf, canonical}
 use Rattle.real.proofs.Laws.{real-bits, bits-lt}
@@ -21,14 +22,6 @@ use Rattle.inst.specs.declared.Inst.the-variants as i
 use Rattle.ops.specs.Ops.{spaceOf, spaceNum, spaceArg, cmpNum, boolNum, intNum, widthNum, checkNum}
 use Rattle.ops.proofs.Laws.{cmp-back, cmp-lt, bool-back, bool-lt, int-back, int-lt, width-back, width-lt, check-back, check-lt, opt-back}
 use Rattle.codec.specs.Codec.{wordOf, lowOf, highOf, instOf, instRecord, withStmt, words, spaceInRange, inRange}
-
-pub first : (a b : Bool) → (a && b) ≡ true → a ≡ true
-first true b e = refl
-first false b e = e
-
-pub second : (a b : Bool) → (a && b) ≡ true → b ≡ true
-second true b e = e
-second false b e = let z : _≡_ {A = Bool} false true = e in cc
 
 pub word-join : (v : ℕ) → wordOf (lowOf v) (highOf v) ≡ v
 word-join v = omega arith
@@ -47,9 +40,9 @@ space-back s.Shared h = refl
 pub inst-back : (x : Inst) (n : ℕ) → inRange x ≡ true → instOf (withStmt (instRecord x) n) ≡ x
 unfolding instOf instRecord inRange
 inst-back (i.Const d v) n h = ap (i.Const d) (word-join v)
-inst-back (i.ConstF d v) n h = ap (i.ConstF d) (ap realOf (word-join (bitsOf v)) ∙ real-bits v (first (canonical v) _ h))
+inst-back (i.ConstF d v) n h = ap (i.ConstF d) (ap realOf (word-join (bitsOf v)) ∙ real-bits v (and-first (canonical v) _ h))
 inst-back (i.Move d a) n h = refl
-inst-back (i.AddrOf d p f) n h = ap (λ (q : AddrSpace). i.AddrOf d q f) (space-back p (first (spaceInRange p) _ h))
+inst-back (i.AddrOf d p f) n h = ap (λ (q : AddrSpace). i.AddrOf d q f) (space-back p (and-first (spaceInRange p) _ h))
 inst-back (i.Select d c a b) n h = refl
 inst-back (i.Cmp o d a b) n h = ap (λ (q : CmpOp). i.Cmp q d a b) (cmp-back o)
 inst-back (i.Bool o d a b) n h = ap (λ (q : BoolOp). i.Bool q d a b) (bool-back o)
@@ -59,7 +52,7 @@ inst-back (i.Load d a w) n h = ap (i.Load d a) (width-back w)
 inst-back (i.Store a v w) n h = ap (i.Store a v) (width-back w)
 inst-back (i.Check k v l u w) n h = ap (λ (q : CheckKind). i.Check q v l u w) (check-back k)
 inst-back (i.MakeDope a p) n h = refl
-inst-back (i.DopeLen d p m) n h = ap (i.DopeLen d p) (small m (first (ltb m 256) _ h))
+inst-back (i.DopeLen d p m) n h = ap (i.DopeLen d p) (small m (and-first (ltb m 256) _ h))
 inst-back (i.BoundsLen d l r k) n h = refl
 inst-back (i.Alloc d m) n h = refl
 inst-back (i.TakeBounds l r k) n h = refl
@@ -77,7 +70,7 @@ inst-right (i.Const d v) n h = refl
 inst-right (i.ConstF d v) n h = refl
 inst-right (i.Move d a) n h = refl
 inst-right (i.AddrOf d s.Frame f) n h = refl
-inst-right (i.AddrOf d (s.Up m) f) n h = rw (first (ltb m 256) _ h)
+inst-right (i.AddrOf d (s.Up m) f) n h = rw (and-first (ltb m 256) _ h)
 inst-right (i.AddrOf d s.Inst f) n h = refl
 inst-right (i.AddrOf d (s.Pkg m) f) n h = refl
 inst-right (i.AddrOf d (s.Const m) f) n h = refl
@@ -91,7 +84,7 @@ inst-right (i.Load d a w) n h = rw (lt-ltb (widthNum w) 4 (width-lt w))
 inst-right (i.Store a v w) n h = rw (lt-ltb (widthNum w) 4 (width-lt w))
 inst-right (i.Check k v l u w) n h = rw (lt-ltb (checkNum k) 5 (check-lt k))
 inst-right (i.MakeDope a p) n h = refl
-inst-right (i.DopeLen d p m) n h = rw (first (ltb m 256) _ h)
+inst-right (i.DopeLen d p m) n h = rw (and-first (ltb m 256) _ h)
 inst-right (i.BoundsLen d l r k) n h = refl
 inst-right (i.Alloc d m) n h = refl
 inst-right (i.TakeBounds l r k) n h = refl
@@ -115,25 +108,25 @@ narrow : (n : ℕ) → ltb n 256 ≡ true → ltb n (2 ^ 32) ≡ true
 narrow n h = let k = ltb-true n 256 h in lt-ltb n (2 ^ 32) (omega arith)
 
 split : (v d : ℕ) → v < 2 ^ 64 → words (d ∷ []) ≡ true → words (d ∷ lowOf v ∷ highOf v ∷ []) ≡ true
-split v d h w = rw (first (ltb d (2 ^ 32)) true w, low-fits v, high-fits v h)
+split v d h w = rw (and-first (ltb d (2 ^ 32)) true w, low-fits v, high-fits v h)
 
 -- its fields are 32-bit
 pub inst-words : (x : Inst) → inRange x ≡ true → words (fields (instRecord x)) ≡ true
 unfolding instRecord inRange
-inst-words (i.Const d v) h = split v (d .0) (ltb-true v (2 ^ 64) (first (ltb v (2 ^ 64)) _ h)) (second (ltb v (2 ^ 64)) _ h)
-inst-words (i.ConstF d v) h = split (bitsOf v) (d .0) (bits-lt v (first (canonical v) _ h)) (second (canonical v) _ h)
+inst-words (i.Const d v) h = split v (d .0) (ltb-true v (2 ^ 64) (and-first (ltb v (2 ^ 64)) _ h)) (and-second (ltb v (2 ^ 64)) _ h)
+inst-words (i.ConstF d v) h = split (bitsOf v) (d .0) (bits-lt v (and-first (canonical v) _ h)) (and-second (canonical v) _ h)
 inst-words (i.Move d a) h = h
 inst-words (i.AddrOf d s.Frame f) h = h
 inst-words (i.AddrOf d (s.Up m) f) h =
-    let w = second (ltb m 256) _ h in
-    rw (first (ltb (d .0) (2 ^ 32)) _ w, narrow m (first (ltb m 256) _ h), second (ltb (d .0) (2 ^ 32)) _ w)
+    let w = and-second (ltb m 256) _ h in
+    rw (and-first (ltb (d .0) (2 ^ 32)) _ w, narrow m (and-first (ltb m 256) _ h), and-second (ltb (d .0) (2 ^ 32)) _ w)
 inst-words (i.AddrOf d s.Inst f) h = h
 inst-words (i.AddrOf d (s.Pkg m) f) h =
-    let w = second (ltb m (2 ^ 32)) _ h in
-    rw (first (ltb (d .0) (2 ^ 32)) _ w, first (ltb m (2 ^ 32)) _ h, second (ltb (d .0) (2 ^ 32)) _ w)
+    let w = and-second (ltb m (2 ^ 32)) _ h in
+    rw (and-first (ltb (d .0) (2 ^ 32)) _ w, and-first (ltb m (2 ^ 32)) _ h, and-second (ltb (d .0) (2 ^ 32)) _ w)
 inst-words (i.AddrOf d (s.Const m) f) h =
-    let w = second (ltb m (2 ^ 32)) _ h in
-    rw (first (ltb (d .0) (2 ^ 32)) _ w, first (ltb m (2 ^ 32)) _ h, second (ltb (d .0) (2 ^ 32)) _ w)
+    let w = and-second (ltb m (2 ^ 32)) _ h in
+    rw (and-first (ltb (d .0) (2 ^ 32)) _ w, and-first (ltb m (2 ^ 32)) _ h, and-second (ltb (d .0) (2 ^ 32)) _ w)
 inst-words (i.AddrOf d s.Shared f) h = h
 inst-words (i.Select d c a b) h = h
 inst-words (i.Cmp o d a b) h = h
@@ -145,8 +138,8 @@ inst-words (i.Store a v w) h = h
 inst-words (i.Check k v l u w) h = h
 inst-words (i.MakeDope a p) h = h
 inst-words (i.DopeLen d p m) h =
-    let w = second (ltb m 256) _ h in
-    rw (first (ltb (d .0) (2 ^ 32)) _ w, first (ltb (p .0) (2 ^ 32)) _ (second (ltb (d .0) (2 ^ 32)) _ w), narrow m (first (ltb m 256) _ h))
+    let w = and-second (ltb m 256) _ h in
+    rw (and-first (ltb (d .0) (2 ^ 32)) _ w, and-first (ltb (p .0) (2 ^ 32)) _ (and-second (ltb (d .0) (2 ^ 32)) _ w), narrow m (and-first (ltb m 256) _ h))
 inst-words (i.BoundsLen d l r k) h = h
 inst-words (i.Alloc d m) h = h
 inst-words (i.TakeBounds l r k) h = h

@@ -7,13 +7,14 @@ use mathlib.Core.List.{List, [], _∷_}
 use lib.Dec.{ltb, eqb}
 use lib.ListN.{getD}
 use borrow.Author.Tests.{ltb-true, eqb-true}
+use Rattle.general.proofs.Booleans.{and-first, and-second}
+use Rattle.general.proofs.Numbers.{Below, below}
 use Rattle.format.specs.Kinds.{right, instructionPlaces, instructionOps, allFit, zeros}
 use Rattle.real.proofs.Laws.{bits-real}
 use Rattle.inst.specs.declared.Inst.the-variants as i
 use Rattle.ops.specs.Ops.{spaceOf, spaceNum, spaceArg, optOf, optNum, optArg}
-use Rattle.ops.proofs.Laws.{below, cmp-num, bool-num, int-num, width-num, check-num}
+use Rattle.ops.proofs.Laws.{cmp-num, bool-num, int-num, width-num, check-num}
 use Rattle.codec.specs.Codec.{wordOf, lowOf, highOf, insts, rowOf, instRecord}
-use Rattle.codec.proofs.Read.{first, second}
 
 -- a list of as many zeros
 abbrev pub cleared : List ℕ → List ℕ
@@ -23,8 +24,8 @@ cleared (p ∷ ps) = 0 ∷ cleared ps
 pub all-zero : (ps : List ℕ) → zeros ps ≡ true → ps ≡ cleared ps
 all-zero [] h = refl
 all-zero (p ∷ ps) h =
-    let e = eqb-true p 0 (first (eqb p 0) (zeros ps) h) in
-    let f = all-zero ps (second (eqb p 0) (zeros ps) h) in
+    let e = eqb-true p 0 (and-first (eqb p 0) (zeros ps) h) in
+    let f = all-zero ps (and-second (eqb p 0) (zeros ps) h) in
     cc
 
 pub low-word : (p q : ℕ) → p < 2 ^ 32 → lowOf (wordOf p q) ≡ p
@@ -79,20 +80,20 @@ KeptSpace op =
 
 space-frame : KeptSpace 0
 space-frame p1 p2 p3 p4 p5 p6 f =
-    let e = eqb-true p2 0 (first (eqb p2 0) _ f) in
-    let z = all-zero (p4 ∷ p5 ∷ p6 ∷ []) (second (eqb p2 0) _ f) in
+    let e = eqb-true p2 0 (and-first (eqb p2 0) _ f) in
+    let z = all-zero (p4 ∷ p5 ∷ p6 ∷ []) (and-second (eqb p2 0) _ f) in
     cc
 
 space-up : KeptSpace 1
 space-up p1 p2 p3 p4 p5 p6 f =
-    let e = small p2 (ltb-true p2 256 (first (ltb p2 256) _ f)) in
-    let z = all-zero (p4 ∷ p5 ∷ p6 ∷ []) (second (ltb p2 256) _ f) in
+    let e = small p2 (ltb-true p2 256 (and-first (ltb p2 256) _ f)) in
+    let z = all-zero (p4 ∷ p5 ∷ p6 ∷ []) (and-second (ltb p2 256) _ f) in
     cc
 
 space-inst : KeptSpace 2
 space-inst p1 p2 p3 p4 p5 p6 f =
-    let e = eqb-true p2 0 (first (eqb p2 0) _ f) in
-    let z = all-zero (p4 ∷ p5 ∷ p6 ∷ []) (second (eqb p2 0) _ f) in
+    let e = eqb-true p2 0 (and-first (eqb p2 0) _ f) in
+    let z = all-zero (p4 ∷ p5 ∷ p6 ∷ []) (and-second (eqb p2 0) _ f) in
     cc
 
 space-pkg : KeptSpace 3
@@ -107,8 +108,8 @@ space-const p1 p2 p3 p4 p5 p6 f =
 
 space-shared : KeptSpace 5
 space-shared p1 p2 p3 p4 p5 p6 f =
-    let e = eqb-true p2 0 (first (eqb p2 0) _ f) in
-    let z = all-zero (p4 ∷ p5 ∷ p6 ∷ []) (second (eqb p2 0) _ f) in
+    let e = eqb-true p2 0 (and-first (eqb p2 0) _ f) in
+    let z = all-zero (p4 ∷ p5 ∷ p6 ∷ []) (and-second (eqb p2 0) _ f) in
     cc
 
 kept-addrof : Kept 3
@@ -176,8 +177,8 @@ kept-dopelen : Kept 13
 unfolding instRecord
 kept-dopelen op p1 p2 p3 p4 p5 p6 o w2 w3 f =
     let e : op ≡ 0 = omega arith in
-    let m = small p3 (ltb-true p3 256 (first (ltb p3 256) _ f)) in
-    let z = all-zero (p4 ∷ p5 ∷ p6 ∷ []) (second (ltb p3 256) _ f) in
+    let m = small p3 (ltb-true p3 256 (and-first (ltb p3 256) _ f)) in
+    let z = all-zero (p4 ∷ p5 ∷ p6 ∷ []) (and-second (ltb p3 256) _ f) in
     cc
 
 kept-boundslen : Kept 14
@@ -210,8 +211,8 @@ KeptCallNative op =
 
 callnative-none : KeptCallNative 0
 callnative-none p1 p2 p3 p4 p5 p6 f =
-    let e = eqb-true p4 0 (first (eqb p4 0) _ f) in
-    let z = all-zero (p5 ∷ p6 ∷ []) (second (eqb p4 0) _ f) in
+    let e = eqb-true p4 0 (and-first (eqb p4 0) _ f) in
+    let z = all-zero (p5 ∷ p6 ∷ []) (and-second (eqb p4 0) _ f) in
     cc
 
 callnative-some : KeptCallNative 1
@@ -253,8 +254,8 @@ KeptRet op =
 
 ret-none : KeptRet 0
 ret-none p1 p2 p3 p4 p5 p6 f =
-    let e = eqb-true p1 0 (first (eqb p1 0) _ f) in
-    let z = all-zero (p2 ∷ p3 ∷ p4 ∷ p5 ∷ p6 ∷ []) (second (eqb p1 0) _ f) in
+    let e = eqb-true p1 0 (and-first (eqb p1 0) _ f) in
+    let z = all-zero (p2 ∷ p3 ∷ p4 ∷ p5 ∷ p6 ∷ []) (and-second (eqb p1 0) _ f) in
     cc
 
 ret-some : KeptRet 1
@@ -280,5 +281,11 @@ kept-stmt op p1 p2 p3 p4 p5 p6 o w2 w3 f =
     let z = all-zero (p1 ∷ p2 ∷ p3 ∷ p4 ∷ p5 ∷ p6 ∷ []) f in
     cc
 
+kept-8 : Below Kept 8
+kept-8 = ((((((((tt, kept-const), kept-constf), kept-move), kept-addrof), kept-select), kept-cmp), kept-bool), kept-bin)
+
+kept-16 : Below Kept 16
+kept-16 = ((((((((kept-8, kept-binrange), kept-load), kept-store), kept-check), kept-makedope), kept-dopelen), kept-boundslen), kept-alloc)
+
 pub kept : (k : ℕ) → k < 24 → Kept k
-kept = below Kept 24 ((((((((((((((((((((((((tt, kept-const), kept-constf), kept-move), kept-addrof), kept-select), kept-cmp), kept-bool), kept-bin), kept-binrange), kept-load), kept-store), kept-check), kept-makedope), kept-dopelen), kept-boundslen), kept-alloc), kept-takebounds), kept-callnative), kept-br), kept-condbr), kept-case), kept-ret), kept-unreachable), kept-stmt)
+kept = below Kept 24 ((((((((kept-16, kept-takebounds), kept-callnative), kept-br), kept-condbr), kept-case), kept-ret), kept-unreachable), kept-stmt)

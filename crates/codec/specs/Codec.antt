@@ -15,7 +15,8 @@ use Rattle.inst.specs.declared.AddrSpace.{AddrSpace}
 use Rattle.inst.specs.declared.AddrSpace.the-variants as s
 use Rattle.inst.specs.declared.Inst.{Inst}
 use Rattle.inst.specs.declared.Inst.the-variants as i
-use Rattle.ops.specs.Ops.{cmpOf, cmpNum, boolOf, boolNum, intOf, intNum, widthOf, widthNum, checkOf, checkNum, spaceOf, spaceNum, spaceArg, optOf, optNum, optArg}
+use Rattle.ops.specs.Ops.{cmpOf, cmpNum, boolOf, boolNum, intOf, intNum, widthOf, widthNum, checkOf, checkNum}
+use Rattle.ops.specs.Ops.{spaceOf, spaceNum, spaceArg, optOf, optNum, optArg}
 
 -- "v (p2 low, p3 high)"
 abbrev pub wordOf : ℕ → ℕ → ℕ
@@ -140,6 +141,14 @@ withStmt r n = record {
 -- the record of an instruction with its statement
 abbrev pub recordOf : Code → Record
 recordOf c = withStmt (instRecord (c .inst)) (c .stmt .0)
+
+-- an instruction in place of a code's own: all else of it stays
+abbrev pub withInst : Inst → Code → Code
+withInst x c = record { inst = x; stmt = c .stmt }
+
+-- and in place of a record's
+abbrev pub rewrittenRecord : Record → Inst → Record
+rewrittenRecord r x = recordOf (withInst x (codeOf r))
 
 -- "32-bit fields"
 abbrev pub words : List ℕ → Bool

@@ -1,7 +1,5 @@
 ghost use mathlib.Core.Path.{_≡_};
-ghost use mathlib.Core.Bool.{true};
-ghost use Rattle.format.specs.Kinds.{right};
-ghost use Rattle.codec.specs.Codec.{wordOf, lowOf, highOf, rowOf, instOf, codeOf, instRecord, recordOf};
+ghost use Rattle.codec.specs.Codec.{wordOf, lowOf, highOf, rowOf, instOf, codeOf, instRecord, recordOf, rewrittenRecord};
 use format::Record;
 use inst::BlockId;
 use inst::Code;
@@ -264,9 +262,12 @@ pub fn record_of(c: Code) -> Record
     r
 }
 
-// Read into a value and written again: a right record of an instruction comes back as it was.
-pub fn rewritten(r: Record) -> Record
-    ensures { λ x. ⌜ (x ≡ recordOf (codeOf r)) × (right r ≡ true → r .class ≡ 4 → x ≡ r) ⌝ }
+// The record of another instruction in place of a record's own: all else of it stays.
+pub fn rewritten(old: Record, i: Inst) -> Record
+    ensures { λ r. ⌜ r ≡ rewrittenRecord old i ⌝ }
 {
-    record_of(code_of(r))
+    record_of(Code {
+        inst: i,
+        stmt: StmtId(old.stmt),
+    })
 }

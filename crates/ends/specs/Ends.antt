@@ -1,14 +1,20 @@
 -- How a block ends: what the branch steps look at.
 use Prim.Native.Nat.{ℕ}
+use mathlib.Core.Bool.{Bool}
 use mathlib.Core.List.{List, [], _∷_}
 use lib.ListN.{getD}
 use Rattle.format.specs.Record.{blank}
+use Rattle.read.specs.Structure.{terminatorKind}
+use Rattle.inst.specs.Inst.{kindOf}
 use Rattle.inst.specs.declared.Code.{Code}
 use Rattle.inst.specs.declared.Inst.{Inst}
-use Rattle.codec.specs.Codec.{codeOf}
+use Rattle.codec.specs.Codec.{codeOf, withInst}
 use Rattle.ends.specs.declared.End.{End}
 use Rattle.ends.specs.declared.End.the-variants as e
 use Rattle.ends.specs.Forms.{Form, const, constF, addrOf, move, bool, bin, jump, other, formOf}
+
+abbrev pub terminatorOf : Inst → Bool
+terminatorOf x = terminatorKind (kindOf x)
 
 -- instruction k of some code; past the end that of a blank record
 abbrev pub codeAt : List Code → ℕ → Code
@@ -44,10 +50,6 @@ unfoldable pub front : List Code → List Code
 front [] = []
 front (x ∷ []) = []
 front (x ∷ y ∷ c) = x ∷ front (y ∷ c)
-
--- an instruction rewritten: all else of its record is kept
-abbrev pub withInst : Inst → Code → Code
-withInst i x = record { inst = i; stmt = x .stmt }
 
 -- a block with its last instruction rewritten
 unfoldable pub withEnd : Inst → List Code → List Code

@@ -1,31 +1,32 @@
 ghost use mathlib.Core.Path.{_≡_};
 ghost use mathlib.Core.List.{[]};
 ghost use Prim.Native.Nat.{ℕ};
+ghost use lib.Dec.{leb};
 ghost use lib.ListN.{getD};
-ghost use Rattle.procedure.specs.Procedure.{codesOf};
-ghost use Rattle.steps.specs.Ends.{endOf, loneOf};
+ghost use Rattle.procedure.specs.Lists.{anyOf};
+ghost use Rattle.ends.specs.Ends.{endOf, loneOf, targets};
 ghost use Rattle.steps.specs.Gate as steps;
-ghost use Rattle.gate.specs.Blocks.{blocksOf, goesBack, isCondBr, Least};
+ghost use Rattle.blocks.specs.Blocks.{blocksOf};
 use ends::End;
+use inst::BlockId;
 
-fn least(a: usize, b: usize) -> usize
-    ensures { λ r. ⌜ Least a b r ⌝ }
+// How block k ends.
+pub fn end_at(code: &[u8], table: &[u8], k: usize) -> End
+    ensures { λ r. ⌜ r ≡ endOf (getD (blocksOf (now (code .entry)) (now (table .entry))) k []) ⌝ }
 {
-    if a <= b { a } else { b }
+    ends::end_of(blocks::block(code, table, k))
 }
 
-// The code of block k; none past the last block.
-pub fn block<'a>(code: &'a [u8], blocks: &[u8], k: usize) -> &'a [u8]
-    ensures { λ r. ⌜ codesOf (now r) ≡ getD (blocksOf (now (code .entry)) (now (blocks .entry))) k [] ⌝ }
+// The end of block k where it holds nothing else.
+pub fn lone_at(code: &[u8], table: &[u8], k: usize) -> End
+    ensures { λ r. ⌜ r ≡ loneOf (getD (blocksOf (now (code .entry)) (now (table .entry))) k []) ⌝ }
 {
-    let r = format::record_at(blocks, k);
-    let end = least(r.p2 as usize, code.len() / 32);
-    let start = least(r.p1 as usize, end);
-    &code[32 * start..32 * end]
+    ends::lone_of(blocks::block(code, table, k))
 }
 
+// A Br or CondBr to block b or before.
 fn goes_back(b: usize, e: End) -> bool
-    ensures { λ z. ⌜ z ≡ goesBack b e ⌝ }
+    ensures { λ z. ⌜ z ≡ anyOf (λ (t : ℕ). leb t b) (targets e) ⌝ }
 {
     match e {
         End::Br(to) => to.0 as usize <= b,
@@ -36,13 +37,13 @@ fn goes_back(b: usize, e: End) -> bool
 }
 
 // Some Br or CondBr targets its own or an earlier block.
-pub fn has_back_edge(code: &[u8], blocks: &[u8]) -> bool
-    ensures { λ z. ⌜ z ≡ steps.hasBackEdge (blocksOf (now (code .entry)) (now (blocks .entry))) ⌝ }
+pub fn has_back_edge(code: &[u8], table: &[u8]) -> bool
+    ensures { λ z. ⌜ z ≡ steps.hasBackEdge (blocksOf (now (code .entry)) (now (table .entry))) ⌝ }
 {
-    let n = blocks.len() / 32;
+    let n = table.len() / 32;
     let mut b = 0;
     while b < n {
-        if goes_back(b, ends::end_of(block(code, blocks, b))) {
+        if goes_back(b, end_at(code, table, b)) {
             return true;
         }
         b += 1;
@@ -51,7 +52,7 @@ pub fn has_back_edge(code: &[u8], blocks: &[u8]) -> bool
 }
 
 fn is_cond_br(e: End) -> bool
-    ensures { λ z. ⌜ z ≡ isCondBr e ⌝ }
+    ensures { λ z. ⌜ z ≡ steps.isCondBr e ⌝ }
 {
     match e {
         End::Br(_) => false,
@@ -62,50 +63,44 @@ fn is_cond_br(e: End) -> bool
 }
 
 // Block k is nothing but a CondBr.
-fn lone_cond_br(code: &[u8], blocks: &[u8], k: usize) -> bool
-    ensures { λ z. ⌜ z ≡ steps.isCondBr (loneOf (getD (blocksOf (now (code .entry)) (now (blocks .entry))) k [])) ⌝ }
+fn lone_cond_br(code: &[u8], table: &[u8], k: BlockId) -> bool
+    ensures { λ z. ⌜ z ≡ steps.isCondBr (loneOf (getD (blocksOf (now (code .entry)) (now (table .entry))) (k .0) [])) ⌝ }
 {
-    is_cond_br(ends::lone_of(block(code, blocks, k)))
+    is_cond_br(lone_at(code, table, k.0 as usize))
 }
 
 // Block l is small and no latch.
-pub fn copied(code: &[u8], blocks: &[u8], l: u32, wide: bool) -> bool
-    ensures { λ z. ⌜ z ≡ steps.copied wide (blocksOf (now (code .entry)) (now (blocks .entry))) l ⌝ }
+pub fn copied(code: &[u8], table: &[u8], l: BlockId, wide: bool) -> bool
+    ensures { λ z. ⌜ z ≡ steps.copied wide (blocksOf (now (code .entry)) (now (table .entry))) (l .0) ⌝ }
 {
-    let at = l as usize;
-    if !small::small(block(code, blocks, at)) {
+    let at = l.0 as usize;
+    let target = blocks::block(code, table, at);
+    if !small::small(target) {
         return false;
     }
-    !small::latch(
-        block(code, blocks, at),
-        block(code, blocks, at + 1),
-        l,
-        wide,
-    )
+    !small::latch(target, blocks::block(code, table, at + 1), l, wide)
 }
 
-fn may_hop(code: &[u8], blocks: &[u8], a: usize, wide: bool) -> bool
-    ensures { λ z. ⌜ z ≡ steps.mayHop wide (blocksOf (now (code .entry)) (now (blocks .entry))) a (endOf (getD (blocksOf (now (code .entry)) (now (blocks .entry))) a [])) ⌝ }
+fn may_hop(code: &[u8], table: &[u8], a: usize, wide: bool) -> bool
+    ensures { λ z. ⌜ z ≡ steps.mayHop wide (blocksOf (now (code .entry)) (now (table .entry))) a (endOf (getD (blocksOf (now (code .entry)) (now (table .entry))) a [])) ⌝ }
 {
-    let e = ends::end_of(block(code, blocks, a));
+    let e = end_at(code, table, a);
     match e {
-        End::Br(to) => to.0 as usize != a && copied(code, blocks, to.0, wide),
-        End::CondBr(_, t, f) => {
-            lone_cond_br(code, blocks, t.0 as usize) || lone_cond_br(code, blocks, f.0 as usize)
-        }
+        End::Br(to) => to.0 as usize != a && copied(code, table, to, wide),
+        End::CondBr(_, t, f) => lone_cond_br(code, table, t) || lone_cond_br(code, table, f),
         End::Case(_) => false,
         End::Other => false,
     }
 }
 
 // Some block has a Br that a copy may replace, or a CondBr with an arm to a lone CondBr.
-pub fn may_thread(code: &[u8], blocks: &[u8], wide: bool) -> bool
-    ensures { λ z. ⌜ z ≡ steps.mayThread wide (blocksOf (now (code .entry)) (now (blocks .entry))) ⌝ }
+pub fn may_thread(code: &[u8], table: &[u8], wide: bool) -> bool
+    ensures { λ z. ⌜ z ≡ steps.mayThread wide (blocksOf (now (code .entry)) (now (table .entry))) ⌝ }
 {
-    let n = blocks.len() / 32;
+    let n = table.len() / 32;
     let mut a = 0;
     while a < n {
-        if may_hop(code, blocks, a, wide) {
+        if may_hop(code, table, a, wide) {
             return true;
         }
         a += 1;

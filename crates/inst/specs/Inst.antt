@@ -1,7 +1,5 @@
 -- Document 01, "Class 4, instruction": the kinds' numbers.
 use Prim.Native.Nat.{ℕ}
-use mathlib.Core.Bool.{Bool, _&&_}
-use lib.Dec.{leb}
 use Rattle.inst.specs.declared.Inst.{Inst}
 use Rattle.inst.specs.declared.Inst.the-variants as i
 
@@ -31,11 +29,3 @@ kindOf (i.Case v t) = 20
 kindOf (i.Ret v) = 21
 kindOf (i.Unreachable w) = 22
 kindOf i.Stmt = 23
-
--- "terminator (kinds 18 to 22)"
-abbrev pub terminatorKind : ℕ → Bool
-terminatorKind k = leb 18 k && leb k 22
-
--- "each ending in its only terminator": whether an instruction is one
-abbrev pub terminatorOf : Inst → Bool
-terminatorOf i = terminatorKind (kindOf i)

@@ -1,5 +1,5 @@
 ghost use mathlib.Core.Path.{_≡_};
-ghost use Rattle.inst.specs.Inst.{kindOf, terminatorKind, terminatorOf};
+ghost use Rattle.inst.specs.Inst.{kindOf};
 use real::Real;
 
 pub struct Reg(pub u32);
@@ -209,8 +209,8 @@ pub struct Block {
     pub end: u32,
 }
 
-// An arm of a table. The default's bounds are zero.
-pub struct Arm {
+// An arm as its record has it: with its table, and whether it is the default, whose bounds are zero.
+pub struct ArmEntry {
     pub table: u32,
     pub low: u64,
     pub high: u64,
@@ -247,17 +247,4 @@ pub fn kind(i: Inst) -> u32
         Inst::Unreachable { .. } => 22,
         Inst::Stmt => 23,
     }
-}
-
-// Whether a kind's number is a terminator's.
-pub fn is_terminator_kind(k: u32) -> bool
-    ensures { λ r. ⌜ r ≡ terminatorKind k ⌝ }
-{
-    18 <= k && k <= 22
-}
-
-pub fn is_terminator(i: Inst) -> bool
-    ensures { λ r. ⌜ r ≡ terminatorOf i ⌝ }
-{
-    is_terminator_kind(kind(i))
 }

@@ -9,11 +9,8 @@ use mathlib.Core.List.{List, [], _∷_}
 use mathlib.Core.Logic.{_⊎_, inl, inr, ⊎-elim}
 use lib.ListN.{length, getD, drop, drop-of-length-le}
 use lib.Seq.{drop-cons}
+pub use Rattle.general.proofs.Booleans.{cases, told}
 use Rattle.layout.specs.Walk.{walk, lead}
-
-pub cases : (b : Bool) → (b ≡ true) ⊎ (b ≡ false)
-cases true = inl refl
-cases false = inr refl
 
 module _ {S R : Type 0} (ok : S → R → Bool) (next : S → R → S) where
   pub walk-pass : {s : S} {r : R} (rs : List R) → ok s r ≡ true → walk ok next s (r ∷ rs) ≡ suc (walk ok next (next s r) rs)
@@ -41,11 +38,17 @@ module _ {S R : Type 0} (ok : S → R → Bool) (next : S → R → S) where
   walk-tail s r rs h = let e = walk-pass rs (walk-head s r rs h) in omega arith
 
   -- the walk from place k of a list
-  pub pass-at : (l : List R) (k : ℕ) (d : R) (s : S) → k < length l → ok s (getD l k d) ≡ true → (k + 1) + walk ok next (next s (getD l k d)) (drop (k + 1) l) ≡ k + walk ok next s (drop k l)
-  pass-at l k d s h e = sym (ap (λ (xs : List R). k + walk ok next s xs) (drop-cons l k d h) ∙ ap (λ (n : ℕ). k + n) (walk-pass (drop (suc k) l) e) ∙ rw (add-one k) (omega arith))
+  pub pass-at :
+      (l : List R) (k : ℕ) (d : R) (s : S) → k < length l → ok s (getD l k d) ≡ true →
+      (k + 1) + walk ok next (next s (getD l k d)) (drop (k + 1) l) ≡ k + walk ok next s (drop k l)
+  pass-at l k d s h e =
+      sym
+      (ap (λ (xs : List R). k + walk ok next s xs) (drop-cons l k d h) ∙ ap (λ (n : ℕ). k + n) (walk-pass (drop (suc k) l) e) ∙ rw (add-one k)
+      (omega arith))
 
   pub stop-at : (l : List R) (k : ℕ) (d : R) (s : S) → k < length l → ok s (getD l k d) ≡ false → k ≡ k + walk ok next s (drop k l)
-  stop-at l k d s h e = sym (ap (λ (xs : List R). k + walk ok next s xs) (drop-cons l k d h) ∙ ap (λ (n : ℕ). k + n) (walk-stop (drop (suc k) l) e) ∙ add-zero k)
+  stop-at l k d s h e =
+      sym (ap (λ (xs : List R). k + walk ok next s xs) (drop-cons l k d h) ∙ ap (λ (n : ℕ). k + n) (walk-stop (drop (suc k) l) e) ∙ add-zero k)
 
   pub end-at : (l : List R) (k : ℕ) (s : S) → length l ≤ k → k ≡ k + walk ok next s (drop k l)
   unfolding walk
@@ -63,7 +66,3 @@ module _ {R : Type 0} (p : R → Bool) where
 
   pub lead-le : (l : List R) → lead p l ≤ length l
   lead-le l = walk-le (λ s r. p r) (λ s r. s) (tt {0}) l
-
--- a test of what a call gave is the test of what the call's contract says
-pub told : {A : Type 0} (p : A → Bool) {x y : A} {f v : Bool} → x ≡ y → f ≡ p x → f ≡ v → p y ≡ v
-told p e i t = ap p (sym e) ∙ sym i ∙ t

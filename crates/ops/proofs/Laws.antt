@@ -5,6 +5,7 @@ use mathlib.Core.Path.{_≡_, refl, sym, subst}
 use mathlib.Core.Bool.{Bool, true, false}
 use lib.Dec.{eqb, lit<}
 use borrow.Author.Tests.{eqb-true, eqb-false}
+use Rattle.general.proofs.Numbers.{below}
 use Rattle.inst.specs.declared.CmpOp.{CmpOp}
 use Rattle.inst.specs.declared.CmpOp.the-variants as c
 use Rattle.inst.specs.declared.BoolOp.{BoolOp}
@@ -21,32 +22,8 @@ use Rattle.inst.specs.declared.OptReg.{OptReg}
 use Rattle.inst.specs.declared.OptReg.the-variants as o
 use Rattle.inst.specs.declared.AddrSpace.{AddrSpace}
 use Rattle.inst.specs.declared.AddrSpace.the-variants as s
-use Rattle.ops.specs.Ops.{cmpOf, cmpNum, boolOf, boolNum, intOf, intNum, widthOf, widthNum, checkOf, checkNum, regTyOf, regTyNum, spaceOf, spaceNum, optOf, optNum, optArg}
-
--- what holds of each number below n, one by one
-abbrev pub Below : (ℕ → Type 0) → ℕ → Type 0
-Below P zero = Unit {0}
-Below P (suc n) = Below P n × P n
-
-pub below : (P : ℕ → Type 0) (n : ℕ) → Below P n → (k : ℕ) → k < n → P k
-below P zero h k lt = absurd (omega arith)
-below P (suc n) h k lt = go (eqb k n) refl (below P n (h .0) k)
-  where
-    go : (t : Bool) → eqb k n ≡ t → (k < n → P k) → P k
-    go true e f = subst P (sym (eqb-true k n e)) (h .1)
-    go false e f = let ne = eqb-false k n e in f (omega arith)
-
--- what the last arm of a `match` with the keys 0, 1, .., n - 1 knows
-abbrev pub Apart : ℕ → ℕ → Type 0
-Apart zero x = Unit {0}
-Apart (suc n) x = Apart n x × (x ≡ n → ⊥)
-
-next : (n x : ℕ) → n ≤ x → (x ≡ n → ⊥) → suc n ≤ x
-next n x h ne = omega arith
-
-pub past : (n x : ℕ) → Apart n x → n ≤ x
-past zero x h = omega arith
-past (suc n) x h = next n x (past n x (h .0)) (h .1)
+use Rattle.ops.specs.Ops.{cmpOf, cmpNum, boolOf, boolNum, intOf, intNum, widthOf, widthNum, checkOf, checkNum}
+use Rattle.ops.specs.Ops.{regTyOf, regTyNum, spaceOf, spaceNum, optOf, optNum, optArg}
 
 pub cmp-back : (x : CmpOp) → cmpOf (cmpNum x) ≡ x
 cmp-back c.Eq = refl

@@ -11,7 +11,8 @@ use Rattle.layout.specs.Walk.{walk, lead}
 abbrev pub State : Type 0
 State = ℕ × ℕ
 
--- "p1 start, p2 end (exclusive); blocks tile the code in order, none empty": after blocks that end at due, a block of a code of n instructions; the last one leaves no code over
+-- "p1 start, p2 end (exclusive); blocks tile the code in order, none empty":
+-- after blocks that end at due, a block of a code of n instructions; the last one leaves no code over
 unfoldable pub tiles : ℕ → State → Record → Bool
 tiles n s r = eqb (r .p1) (s .0) && (ltb (r .p1) (r .p2) && (leb (r .p2) n && (not (eqb (s .1) 1) || eqb (r .p2) n)))
 
@@ -22,9 +23,12 @@ nextBlock s r = (r .p2, s .1 - 1)
 abbrev pub tiled : ℕ → List Record → ℕ
 tiled n blocks = walk (tiles n) nextBlock (0, length blocks) blocks
 
--- "kinds 18 to 22"
+-- "terminator (kinds 18 to 22)"
+abbrev pub terminatorKind : ℕ → Bool
+terminatorKind k = leb 18 k && leb k 22
+
 abbrev pub terminator : Record → Bool
-terminator r = leb 18 (r .kind) && leb (r .kind) 22
+terminator r = terminatorKind (r .kind)
 
 -- "each ending in its only terminator": the first terminator of a block's code is its last instruction
 abbrev pub endsWell : List Record → Bool

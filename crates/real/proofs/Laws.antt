@@ -8,27 +8,10 @@ use lib.Ieee.{Float, nan, inf, fin, binary64, ofBits, toBits, isNan, eq, ne, fit
 use lib.Ieee.Bits.{toBits-ofBits, ofBits-toBits, ofBits-fits, toBits-lt, nanBits-is, nanBits-above, is-true, is-false}
 use lib.Ieee.Compare.{differs-from-itself}
 use borrow.Author.Tests.{lt-ltb}
+use Rattle.general.proofs.Booleans.{cases, holds, fails, and-first, and-second}
 use Rattle.real.specs.declared.Real.{Real}
 use Rattle.real.specs.declared.Real.the-variants.{Number, Nan}
 use Rattle.real.specs.Real.{realOf, bitsOf, canonical, nanPattern}
-
-cases : (b : Bool) → (b ≡ true) ⊎ (b ≡ false)
-cases true = inl refl
-cases false = inr refl
-
-holds : {b : Bool} → b ≡ true → T b
-holds e = subst T (sym e) tt
-
-fails : {b : Bool} → b ≡ false → T (not b)
-fails e = subst (λ (y : Bool). T (not y)) (sym e) tt
-
-first : (a b : Bool) → (a && b) ≡ true → a ≡ true
-first true b e = refl
-first false b e = e
-
-second : (a b : Bool) → (a && b) ≡ true → b ≡ true
-second true b e = e
-second false b e = absurd (holds e)
 
 -- the test of the pattern is the test of the value
 pub nan-is : (b : ℕ) → nanPattern b ≡ isNan (ofBits binary64 b)
@@ -72,15 +55,15 @@ real-canonical b h = go (cases (nanPattern b))
 pub bits-lt : (v : Real) → canonical v ≡ true → bitsOf v < 2 ^ 64
 unfolding bitsOf canonical
 bits-lt (Number x) h =
-    let k = holds (second (fits binary64 x) (not (isNan x)) h) in
-    rw (not-nan-eq x k) (toBits-lt binary64 x (holds (first (fits binary64 x) (not (isNan x)) h)))
-bits-lt (Nan b) h = ltb→lt b (2 ^ 64) (holds (first (ltb b (2 ^ 64)) (nanPattern b) h))
+    let k = holds (and-second (fits binary64 x) (not (isNan x)) h) in
+    rw (not-nan-eq x k) (toBits-lt binary64 x (holds (and-first (fits binary64 x) (not (isNan x)) h)))
+bits-lt (Nan b) h = ltb→lt b (2 ^ 64) (holds (and-first (ltb b (2 ^ 64)) (nanPattern b) h))
 
 pub real-bits : (v : Real) → canonical v ≡ true → realOf (bitsOf v) ≡ v
 unfolding realOf bitsOf canonical
 real-bits (Number x) h =
-    let k = holds (second (fits binary64 x) (not (isNan x)) h) in
-    let e = ofBits-toBits binary64 x (holds (first (fits binary64 x) (not (isNan x)) h)) in
+    let k = holds (and-second (fits binary64 x) (not (isNan x)) h) in
+    let e = ofBits-toBits binary64 x (holds (and-first (fits binary64 x) (not (isNan x)) h)) in
     let p : nanPattern (toBits binary64 x) ≡ false = nan-is (toBits binary64 x) ∙ ap isNan e ∙ is-false (isNan x) k in
     rw (not-nan-eq x k, p, e)
-real-bits (Nan b) h = rw (second (ltb b (2 ^ 64)) (nanPattern b) h)
+real-bits (Nan b) h = rw (and-second (ltb b (2 ^ 64)) (nanPattern b) h)

@@ -32,10 +32,3 @@ pub fn bits_of(r: Real) -> u64
         Real::Nan(b) => b,
     }
 }
-
-// Into the f64 and back: every pattern comes back as it was.
-pub fn kept(bits: u64) -> u64
-    ensures { λ b. ⌜ b ≡ bits ⌝ }
-{
-    bits_of(real_of(bits))
-}

@@ -1,16 +1,18 @@
--- The roles hold an instruction's lists: those written first, then those read, then the operands.
+-- The roles hold an instruction's registers by number: those written first, then those read, then the list of operands.
 use Prim.Native.Nat.{ℕ, _≤_}
 use native.Mathlib.Omega.{arith}
-use mathlib.Core.Path.{_≡_, refl}
-use mathlib.Core.List.{List, _++_}
+use mathlib.Core.Path.{_≡_, refl, sym, ap, _∙_}
+use mathlib.Core.List.{List, [], _∷_, _++_, map}
 use lib.Dec.{T, leb, leb→le}
-use lib.ListN.{length, take, drop, length-append}
+use lib.ListN.{length, getD, take, drop, length-append, length-map, List·getD-map}
+use lib.Seq.{length-take-le, take-take, take-append-seam, drop-append-seam}
+use Rattle.inst.specs.declared.Reg.{Reg}
 use Rattle.inst.specs.declared.OptReg.the-variants as o
 use Rattle.inst.specs.declared.BoolOp.the-variants as b
 use Rattle.inst.specs.declared.CheckKind.the-variants as k
 use Rattle.inst.specs.declared.Inst.{Inst}
 use Rattle.inst.specs.declared.Inst.the-variants as i
-use Rattle.roles.specs.Roles.{rolesOf, defsOf, usesOf, listOf, readsOf, operandsOf}
+use Rattle.roles.specs.Roles.{rolesOf, defsOf, usesOf, listOf, readsOf, operandsOf, regOf, numbersOf}
 
 -- five registers at most
 few : (x : Inst) → T (leb (length (defsOf x ++ usesOf x)) 5)
@@ -51,89 +53,61 @@ few i.Stmt = tt
 pub all-few : (x : Inst) → length (defsOf x ++ usesOf x) ≤ 5
 all-few x = leb→le _ _ (few x)
 
-pub n-few : (x : Inst) → rolesOf x .n ≤ 5
-unfolding rolesOf
-n-few x = all-few x
+pub number-reg : (l : List ℕ) → numbersOf (map regOf l) ≡ l
+number-reg [] = refl
+number-reg (n ∷ l) = ap (λ (r : List ℕ). n ∷ r) (number-reg l)
 
-pub defs-few : (x : Inst) → rolesOf x .defs ≤ 5
-unfolding rolesOf
-defs-few x = omega (arith, all-few x, length-append (defsOf x) (usesOf x))
+pub numbers-length : (rs : List Reg) → length (numbersOf rs) ≡ length rs
+numbers-length rs = length-map rs (λ (r : Reg). r .0)
 
-pub defs-first : (x : Inst) → take (rolesOf x .defs) (rolesOf x .reg) ≡ defsOf x
-unfolding rolesOf
-defs-first (i.Const d v) = refl
-defs-first (i.ConstF d v) = refl
-defs-first (i.Move d s) = refl
-defs-first (i.AddrOf d s f) = refl
-defs-first (i.Select d c x y) = refl
-defs-first (i.Cmp op d x y) = refl
-defs-first (i.Bool b.And d x y) = refl
-defs-first (i.Bool b.Or d x y) = refl
-defs-first (i.Bool b.Xor d x y) = refl
-defs-first (i.Bool b.Not d x y) = refl
-defs-first (i.Bin op d x y) = refl
-defs-first (i.BinRange op d x y l h w) = refl
-defs-first (i.Load d a w) = refl
-defs-first (i.Store a s w) = refl
-defs-first (i.Check k.Range v l h w) = refl
-defs-first (i.Check k.Index v l h w) = refl
-defs-first (i.Check k.IndexDown v l h w) = refl
-defs-first (i.Check k.Length v l h w) = refl
-defs-first (i.Check k.Null v l h w) = refl
-defs-first (i.MakeDope a p) = refl
-defs-first (i.DopeLen d p n) = refl
-defs-first (i.BoundsLen d l r e) = refl
-defs-first (i.Alloc d s) = refl
-defs-first (i.TakeBounds l r e) = refl
-defs-first (i.CallNative n a (o.Some d)) = refl
-defs-first (i.CallNative n a o.None) = refl
-defs-first (i.Br t) = refl
-defs-first (i.CondBr c t f) = refl
-defs-first (i.Case v t) = refl
-defs-first (i.Ret (o.Some v)) = refl
-defs-first (i.Ret o.None) = refl
-defs-first (i.Unreachable w) = refl
-defs-first i.Stmt = refl
+-- the number of a register of some, by its place
+pub number-at : (rs : List Reg) (k n : ℕ) → getD (numbersOf rs) k n ≡ getD rs k (regOf n) .0
+number-at rs k n = List·getD-map (λ (r : Reg). r .0) rs k (regOf n)
 
-pub uses-next : (x : Inst) → drop (rolesOf x .defs) (take (rolesOf x .n) (rolesOf x .reg)) ≡ usesOf x
-unfolding rolesOf
-uses-next (i.Const d v) = refl
-uses-next (i.ConstF d v) = refl
-uses-next (i.Move d s) = refl
-uses-next (i.AddrOf d s f) = refl
-uses-next (i.Select d c x y) = refl
-uses-next (i.Cmp op d x y) = refl
-uses-next (i.Bool b.And d x y) = refl
-uses-next (i.Bool b.Or d x y) = refl
-uses-next (i.Bool b.Xor d x y) = refl
-uses-next (i.Bool b.Not d x y) = refl
-uses-next (i.Bin op d x y) = refl
-uses-next (i.BinRange op d x y l h w) = refl
-uses-next (i.Load d a w) = refl
-uses-next (i.Store a s w) = refl
-uses-next (i.Check k.Range v l h w) = refl
-uses-next (i.Check k.Index v l h w) = refl
-uses-next (i.Check k.IndexDown v l h w) = refl
-uses-next (i.Check k.Length v l h w) = refl
-uses-next (i.Check k.Null v l h w) = refl
-uses-next (i.MakeDope a p) = refl
-uses-next (i.DopeLen d p n) = refl
-uses-next (i.BoundsLen d l r e) = refl
-uses-next (i.Alloc d s) = refl
-uses-next (i.TakeBounds l r e) = refl
-uses-next (i.CallNative n a (o.Some d)) = refl
-uses-next (i.CallNative n a o.None) = refl
-uses-next (i.Br t) = refl
-uses-next (i.CondBr c t f) = refl
-uses-next (i.Case v t) = refl
-uses-next (i.Ret (o.Some v)) = refl
-uses-next (i.Ret o.None) = refl
-uses-next (i.Unreachable w) = refl
-uses-next i.Stmt = refl
+module _ (x : Inst) where
+  abbrev zeros : List ℕ
+  zeros = 0 ∷ 0 ∷ 0 ∷ 0 ∷ 0 ∷ []
 
-pub list-last : (x : Inst) → rolesOf x .list ≡ listOf x
-unfolding rolesOf
-list-last x = refl
+  pub n-few : rolesOf x .n ≤ 5
+  unfolding rolesOf
+  n-few = all-few x
 
-pub reads-all : (ops : List ℕ) (x : Inst) → drop (rolesOf x .defs) (take (rolesOf x .n) (rolesOf x .reg)) ++ operandsOf ops (rolesOf x .list) ≡ readsOf ops x
+  defs-of-n : rolesOf x .defs ≤ rolesOf x .n
+  unfolding rolesOf
+  defs-of-n = omega (arith, length-append (defsOf x) (usesOf x))
+
+  pub defs-few : rolesOf x .defs ≤ 5
+  defs-few = omega (arith, n-few, defs-of-n)
+
+  pub reg-five : length (rolesOf x .reg) ≡ 5
+  unfolding rolesOf
+  reg-five =
+      length-map (take 5 ((defsOf x ++ usesOf x) ++ zeros)) regOf
+      ∙ length-take-le 5 ((defsOf x ++ usesOf x) ++ zeros) (let e = length-append (defsOf x ++ usesOf x) zeros in omega arith)
+
+  pub all-fields : take (rolesOf x .n) (numbersOf (rolesOf x .reg)) ≡ defsOf x ++ usesOf x
+  unfolding rolesOf
+  all-fields =
+      ap (take (length (defsOf x ++ usesOf x))) (number-reg (take 5 ((defsOf x ++ usesOf x) ++ zeros)))
+      ∙ take-take (length (defsOf x ++ usesOf x)) 5 ((defsOf x ++ usesOf x) ++ zeros) (all-few x)
+      ∙ take-append-seam (defsOf x ++ usesOf x) zeros
+
+  pub defs-first : take (rolesOf x .defs) (numbersOf (rolesOf x .reg)) ≡ defsOf x
+  unfolding rolesOf
+  defs-first =
+      sym (take-take (rolesOf x .defs) (rolesOf x .n) (numbersOf (rolesOf x .reg)) defs-of-n)
+      ∙ ap (take (rolesOf x .defs)) all-fields
+      ∙ take-append-seam (defsOf x) (usesOf x)
+
+  pub uses-next : drop (rolesOf x .defs) (take (rolesOf x .n) (numbersOf (rolesOf x .reg))) ≡ usesOf x
+  unfolding rolesOf
+  uses-next = ap (drop (rolesOf x .defs)) all-fields ∙ drop-append-seam (defsOf x) (usesOf x)
+
+  pub list-last : rolesOf x .list ≡ listOf x
+  unfolding rolesOf
+  list-last = refl
+
+pub reads-all :
+    (ops : List ℕ) (x : Inst) →
+    drop (rolesOf x .defs) (take (rolesOf x .n) (numbersOf (rolesOf x .reg))) ++ operandsOf ops (rolesOf x .list) ≡ readsOf ops x
 reads-all ops x = rw (uses-next x, list-last x)

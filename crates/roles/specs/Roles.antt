@@ -1,10 +1,9 @@
 -- Document 01, "Class 4, instruction": "`Inst::visit_mut` says which register fields are read and written; list operands are read too."
 use Prim.Native.Nat.{ℕ}
-use mathlib.Core.Bool.{Bool, false, _||_}
-use mathlib.Core.List.{List, [], _∷_, _++_}
-use lib.Dec.{eqb}
+use mathlib.Core.List.{List, [], _∷_, _++_, map}
 use lib.ListN.{length, take, drop}
 use Rattle.roles.specs.declared.Roles.{Roles}
+use Rattle.inst.specs.declared.Reg.{Reg}
 use Rattle.inst.specs.declared.Regs.{Regs}
 use Rattle.inst.specs.declared.OptReg.{OptReg}
 use Rattle.inst.specs.declared.OptReg.the-variants as o
@@ -14,11 +13,6 @@ use Rattle.inst.specs.declared.CheckKind.{CheckKind}
 use Rattle.inst.specs.declared.CheckKind.the-variants as k
 use Rattle.inst.specs.declared.Inst.{Inst}
 use Rattle.inst.specs.declared.Inst.the-variants as i
-
--- whether a register is in a list
-unfoldable pub has : ℕ → List ℕ → Bool
-has x [] = false
-has x (y ∷ ys) = eqb y x || has x ys
 
 -- visit_mut: "if let Some(r)"
 abbrev pub optional : OptReg → List ℕ
@@ -132,30 +126,22 @@ operandsOf ops l = take (l .len) (drop (l .start) ops)
 abbrev pub readsOf : List ℕ → Inst → List ℕ
 readsOf ops x = usesOf x ++ operandsOf ops (listOf x)
 
-abbrev pub rowOf : ℕ → ℕ → ℕ → ℕ → ℕ → ℕ → ℕ → Regs → Roles
-rowOf defs n p q r s t list = record { defs = defs; n = n; reg = p ∷ q ∷ r ∷ s ∷ t ∷ []; list = list }
+abbrev pub regOf : ℕ → Reg
+regOf n = record { 0 = n }
 
--- some registers written and some read, five at most, with zeros behind them
+-- registers as the lists of numbers above have them
+abbrev pub numbersOf : List Reg → List ℕ
+numbersOf rs = map (λ (r : Reg). r .0) rs
+
+-- some registers written and some read, five at most, with register 0 behind them
 abbrev pub filled : List ℕ → List ℕ → Regs → Roles
 filled defs uses list =
     record {
       defs = length defs;
       n = length (defs ++ uses);
-      reg = take 5 ((defs ++ uses) ++ (0 ∷ 0 ∷ 0 ∷ 0 ∷ 0 ∷ []));
+      reg = map regOf (take 5 ((defs ++ uses) ++ (0 ∷ 0 ∷ 0 ∷ 0 ∷ 0 ∷ [])));
       list = list;
     }
-
-abbrev pub boolRoles : BoolOp → ℕ → ℕ → ℕ → Roles
-boolRoles op d x y = filled (d ∷ []) (boolUses op x y) noList
-
-abbrev pub checkRoles : CheckKind → ℕ → ℕ → ℕ → Roles
-checkRoles c v lo hi = filled [] (checkUses c v lo hi) noList
-
-abbrev pub callRoles : Regs → OptReg → Roles
-callRoles args d = filled (optional d) [] args
-
-abbrev pub retRoles : OptReg → Roles
-retRoles v = filled [] (optional v) noList
 
 -- an instruction's roles: its fields written, its fields read, its list
 unfoldable pub rolesOf : Inst → Roles

@@ -1,5 +1,5 @@
 -- Laws of the leaves: a search along a list, and the small blocks.
-use Prim.Native.Nat.{ℕ, zero, suc, _+_, _≤_, _<_}
+use Prim.Native.Nat.{ℕ, zero, suc, _+_, _/_, _≤_, _<_}
 use native.Mathlib.Numerals.{add-one}
 use native.Mathlib.Omega.{arith}
 use mathlib.Core.Path.{_≡_, refl, sym, ap, _∙_}
@@ -9,20 +9,19 @@ use borrow.Author.Tests.{lt-leb, le-leb}
 use lib.Dec.{leb, eqb}
 use lib.ListN.{length, getD, take, drop, length-append, drop-of-length-le}
 use lib.Seq.{drop-cons, length-take-le, take-take, take-append-seam}
+use Rattle.general.proofs.Booleans.{both, neither, either, otherwise}
 use Rattle.inst.specs.declared.Code.{Code}
-use Rattle.shape.proofs.Laws.{both, neither}
-use Rattle.steps.specs.Lists.{anyOf}
+use Rattle.procedure.specs.Lists.{anyOf}
 use Rattle.steps.specs.Small.{dupable, smallEnd, copyable, small}
-use Rattle.ends.specs.Shown.{codeAt, shown}
+use Rattle.procedure.specs.Procedure.{codesOf}
+use Rattle.ends.specs.declared.End.{End}
+use Rattle.ends.specs.Forms.{formOf}
+use Rattle.ends.proofs.Laws.{length-codes}
+use Rattle.ends.specs.Ends.{codeAt, endOf}
 use Rattle.inst.specs.Inst.{kindOf}
 use Rattle.inst.specs.declared.Inst.{Inst}
 use Rattle.inst.specs.declared.Inst.the-variants as i
-use Rattle.roles.specs.Roles.{defsOf, usesOf, rolesOf}
-use Rattle.roles.proofs.Laws.{all-few}
-use Rattle.steps.specs.Ends.{End, br, condBr, case, other, endOf}
-use Rattle.read.proofs.Laws.{either, otherwise}
 use Rattle.steps.specs.Small as s
-use Rattle.small.specs.Flags.{testsInto, jumpsBack, isBr, stepShape}
 
 module _ {A : Type 0} (p : A → Bool) (l : List A) (k : ℕ) (d : A) where
   pub any-pass : k < length l → p (getD l k d) ≡ false → anyOf p (drop (k + 1) l) ≡ anyOf p (drop k l)
@@ -82,39 +81,9 @@ module _ (c : List Code) where
   unfolding small
   short-code h e = both refl (le-leb (length c) 4 h) e
 
--- the fields of an instruction, as the roles have them
-pub reg-five : (x : Inst) → length (rolesOf x .reg) ≡ 5
-unfolding rolesOf
-reg-five x = length-take-le 5 ((defsOf x ++ usesOf x) ++ (0 ∷ 0 ∷ 0 ∷ 0 ∷ 0 ∷ [])) (let e = length-append (defsOf x ++ usesOf x) (0 ∷ 0 ∷ 0 ∷ 0 ∷ 0 ∷ []) in omega arith)
-
-pub all-fields : (x : Inst) → take (rolesOf x .n) (rolesOf x .reg) ≡ defsOf x ++ usesOf x
-unfolding rolesOf
-all-fields x =
-    take-take (length (defsOf x ++ usesOf x)) 5 ((defsOf x ++ usesOf x) ++ (0 ∷ 0 ∷ 0 ∷ 0 ∷ 0 ∷ [])) (all-few x)
-    ∙ take-append-seam (defsOf x ++ usesOf x) (0 ∷ 0 ∷ 0 ∷ 0 ∷ 0 ∷ [])
-
--- an end as the code has it
-pub tests-shown : (l : ℕ) (e : End) → testsInto l (shown e) ≡ s.testsInto l e
-tests-shown l (br t) = refl
-tests-shown l (condBr c t f) = refl
-tests-shown l (case n) = refl
-tests-shown l other = refl
-
-pub jumps-shown : (l : ℕ) (e : End) → jumpsBack l (shown e) ≡ s.jumpsBack l e
-jumps-shown l (br t) = refl
-jumps-shown l (condBr c t f) = refl
-jumps-shown l (case n) = refl
-jumps-shown l other = refl
-
-pub br-shown : (e : End) → isBr (shown e) ≡ s.isBr e
-br-shown (br t) = refl
-br-shown (condBr c t f) = refl
-br-shown (case n) = refl
-br-shown other = refl
-
 -- no step
 pub no-step : (wide : Bool) (x : Inst) → (eqb (kindOf x) 7 || eqb (kindOf x) 8) ≡ false → s.stepBy wide x ≡ false
-unfolding s.stepBy
+unfolding s.stepBy formOf
 no-step wide (i.Const d v) q = refl
 no-step wide (i.ConstF d v) q = refl
 no-step wide (i.Move d s) q = refl
@@ -140,25 +109,30 @@ no-step wide (i.Ret v) q = refl
 no-step wide (i.Unreachable w) q = refl
 no-step wide i.Stmt q = refl
 
+-- two instructions that end in a Br, as the code tells it
+pub two-told : (b : List ℕ) {e : End} {z : Bool} → e ≡ endOf (codesOf b) → z ≡ (eqb (length b / 32) 2 && s.isBr e)
+    → (eqb (length (codesOf b)) 2 && s.isBr (endOf (codesOf b))) ≡ z
+two-told b p q = sym (q ∙ rw (p, ← length-codes b) refl)
+
+-- a CondBr with an arm to the next block, as the code tells it
+pub next-told : {e e′ : End} {z : Bool} (l : ℕ) → e ≡ e′ → z ≡ s.testsInto (l + 1) e → s.testsInto (suc l) e′ ≡ z
+next-told l p q = sym (q ∙ rw (p, add-one l) refl)
+
 -- the shape of a step block, by its tests in their order
 module _ (wide : Bool) (l : ℕ) (c : List Code) where
   abbrev pub two : Bool
   two = eqb (length c) 2 && s.isBr (endOf c)
 
-  pub shape-two : two ≡ true → true ≡ stepShape wide l c
-  unfolding stepShape
+  pub shape-two : two ≡ true → true ≡ s.stepShape wide l c
   shape-two e = either _ e
 
-  pub shape-narrow : two ≡ false → wide ≡ false → false ≡ stepShape wide l c
-  unfolding stepShape
+  pub shape-narrow : two ≡ false → wide ≡ false → false ≡ s.stepShape wide l c
   shape-narrow e f = otherwise e (sym (rw f))
 
-  pub shape-long : two ≡ false → wide ≡ true → 4 < length c → false ≡ stepShape wide l c
-  unfolding stepShape
+  pub shape-long : two ≡ false → wide ≡ true → 4 < length c → false ≡ s.stepShape wide l c
   shape-long e f h = otherwise e (sym (rw (f, lt-leb (length c) 4 h)))
 
-  pub shape-back : {x : Bool} → two ≡ false → wide ≡ true → length c ≤ 4 → x ≡ s.jumpsBack l (endOf c) → x ≡ stepShape wide l c
-  unfolding stepShape
+  pub shape-back : {x : Bool} → two ≡ false → wide ≡ true → length c ≤ 4 → x ≡ s.jumpsBack l (endOf c) → x ≡ s.stepShape wide l c
   shape-back e f h g = otherwise e (g ∙ sym (rw (f, le-leb (length c) 4 h)))
 
 -- a latch, by its tests in their order
@@ -167,10 +141,11 @@ module _ (code next : List Code) (l : ℕ) (wide : Bool) where
   unfolding s.latch
   no-test e = neither _ refl e
 
-  pub no-shape : s.testsInto (suc l) (endOf code) ≡ true → stepShape wide l next ≡ false → false ≡ s.latch code next l wide
-  unfolding s.latch s.stepBlock stepShape
+  pub no-shape : s.testsInto (suc l) (endOf code) ≡ true → s.stepShape wide l next ≡ false → false ≡ s.latch code next l wide
+  unfolding s.latch s.stepBlock
   no-shape e f = both refl e (neither _ refl f)
 
-  pub step-found : {x : Bool} → s.testsInto (suc l) (endOf code) ≡ true → stepShape wide l next ≡ true → x ≡ anyOf (λ y. s.stepBy wide (y .inst)) next → x ≡ s.latch code next l wide
-  unfolding s.latch s.stepBlock stepShape
+  pub step-found : {x : Bool} → s.testsInto (suc l) (endOf code) ≡ true → s.stepShape wide l next ≡ true
+      → x ≡ anyOf (λ y. s.stepBy wide (y .inst)) next → x ≡ s.latch code next l wide
+  unfolding s.latch s.stepBlock
   step-found e f g = both refl e (both refl f g)

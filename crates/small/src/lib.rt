@@ -1,17 +1,13 @@
 ghost use mathlib.Core.Path.{_≡_};
-ghost use mathlib.Core.List.{_++_};
 ghost use mathlib.Core.Bool.{_&&_, _||_};
 ghost use Prim.Native.Nat.{ℕ, suc};
 ghost use lib.Dec.{eqb, leb};
 ghost use lib.ListN.{length};
-ghost use Rattle.roles.specs.Roles.{defsOf, usesOf};
 ghost use Rattle.procedure.specs.Procedure.{codesOf};
-ghost use Rattle.steps.specs.Lists.{anyOf};
-ghost use Rattle.steps.specs.Ends.{endOf};
+ghost use Rattle.procedure.specs.Lists.{anyOf};
 ghost use Rattle.steps.specs.Small as steps;
-ghost use Rattle.ends.specs.Shown.{shown};
-ghost use Rattle.small.specs.Flags.{flag, testsInto, jumpsBack, isBr, stepShape};
 use ends::End;
+use inst::BlockId;
 use inst::Inst;
 use inst::IntOp;
 
@@ -114,7 +110,7 @@ fn any_step(wide: bool, code: &[u8]) -> bool
 
 // A CondBr with an arm to block l.
 fn tests_into(l: u64, e: End) -> bool
-    ensures { λ z. ⌜ z ≡ testsInto l e ⌝ }
+    ensures { λ z. ⌜ z ≡ steps.testsInto l e ⌝ }
 {
     match e {
         End::Br(_) => false,
@@ -126,7 +122,7 @@ fn tests_into(l: u64, e: End) -> bool
 
 // A Br to block l or before.
 fn jumps_back(l: u64, e: End) -> bool
-    ensures { λ z. ⌜ z ≡ jumpsBack l e ⌝ }
+    ensures { λ z. ⌜ z ≡ steps.jumpsBack l e ⌝ }
 {
     match e {
         End::Br(to) => to.0 as u64 <= l,
@@ -137,7 +133,7 @@ fn jumps_back(l: u64, e: End) -> bool
 }
 
 fn is_br(e: End) -> bool
-    ensures { λ z. ⌜ z ≡ isBr e ⌝ }
+    ensures { λ z. ⌜ z ≡ steps.isBr e ⌝ }
 {
     match e {
         End::Br(_) => true,
@@ -148,14 +144,14 @@ fn is_br(e: End) -> bool
 }
 
 fn two_to_br(n: usize, e: End) -> bool
-    ensures { λ z. ⌜ z ≡ (eqb n 2 && isBr e) ⌝ }
+    ensures { λ z. ⌜ z ≡ (eqb n 2 && steps.isBr e) ⌝ }
 {
     n == 2 && is_br(e)
 }
 
 // The length and the end of a step block.
 fn step_shape(wide: bool, l: u64, code: &[u8]) -> bool
-    ensures { λ z. ⌜ z ≡ stepShape wide l (codesOf (now (code .entry))) ⌝ }
+    ensures { λ z. ⌜ z ≡ steps.stepShape wide l (codesOf (now (code .entry))) ⌝ }
 {
     let n = code.len() / 32;
     let e = ends::end_of(code);
@@ -172,10 +168,10 @@ fn step_shape(wide: bool, l: u64, code: &[u8]) -> bool
 }
 
 // A loop test of block l, followed by its step block; `next` is empty where there is no next block.
-pub fn latch(code: &[u8], next: &[u8], l: u32, wide: bool) -> bool
-    ensures { λ z. ⌜ z ≡ steps.latch (codesOf (now (code .entry))) (codesOf (now (next .entry))) l wide ⌝ }
+pub fn latch(code: &[u8], next: &[u8], l: BlockId, wide: bool) -> bool
+    ensures { λ z. ⌜ z ≡ steps.latch (codesOf (now (code .entry))) (codesOf (now (next .entry))) (l .0) wide ⌝ }
 {
-    let block = l as u64;
+    let block = l.0 as u64;
     if !tests_into(block + 1, ends::end_of(code)) {
         return false;
     }
@@ -183,42 +179,4 @@ pub fn latch(code: &[u8], next: &[u8], l: u32, wide: bool) -> bool
         return false;
     }
     any_step(wide, next)
-}
-
-fn flag_at(konst: &[bool], r: usize) -> bool
-    ensures { λ z. ⌜ z ≡ flag (now (konst .entry)) r ⌝ }
-{
-    if r < konst.len() { konst[r] } else { false }
-}
-
-// The instruction reads or writes a register whose flag is set.
-fn names_konst(i: Inst, konst: &[bool]) -> bool
-    ensures { λ z. ⌜ z ≡ anyOf (flag (now (konst .entry))) (defsOf i ++ usesOf i) ⌝ }
-{
-    let roles = roles::roles_of(i);
-    let reg = roles.reg;
-    let n = roles.n;
-    let mut k = 0;
-    while k < n {
-        if flag_at(konst, reg[k] as usize) {
-            return true;
-        }
-        k += 1;
-    }
-    false
-}
-
-// The code reads or writes a register whose flag is set.
-pub fn reads_konst(code: &[u8], konst: &[bool]) -> bool
-    ensures { λ z. ⌜ z ≡ steps.readsKonst (flag (now (konst .entry))) (codesOf (now (code .entry))) ⌝ }
-{
-    let n = code.len() / 32;
-    let mut k = 0;
-    while k < n {
-        if names_konst(ends::inst_at(code, k), konst) {
-            return true;
-        }
-        k += 1;
-    }
-    false
 }

@@ -5,74 +5,13 @@ use mathlib.Core.Bool.{Bool, true, false, _&&_, cond}
 use lib.Dec.{eqb, ltb}
 use lib.ListN.{length, getD}
 use Rattle.inst.specs.declared.Code.{Code}
-use Rattle.inst.specs.declared.OptReg.{OptReg}
-use Rattle.inst.specs.declared.OptReg.the-variants as o
-use Rattle.inst.specs.declared.BoolOp.{BoolOp}
-use Rattle.inst.specs.declared.BoolOp.the-variants as b
-use Rattle.inst.specs.declared.CheckKind.{CheckKind}
-use Rattle.inst.specs.declared.CheckKind.the-variants as k
 use Rattle.inst.specs.declared.Inst.{Inst}
-use Rattle.inst.specs.declared.Inst.the-variants as i
-use Rattle.codec.specs.Codec.{regOf}
 use Rattle.roles.specs.Roles.{defsOf, usesOf}
+use Rattle.roles.specs.Exchange.{exchanged}
 use Rattle.procedure.specs.Lists.{times, found, valueOr}
 use Rattle.ends.specs.Forms.{Fixed, word, real, address, varying, fixedOf}
-use Rattle.ends.specs.Ends.{withInst}
+use Rattle.codec.specs.Codec.{withInst}
 use Rattle.steps.specs.Facts.{Facts}
-
-abbrev pub optional : (ℕ → ℕ) → OptReg → OptReg
-optional g (o.Some r) = o.Some (regOf (g (r .0)))
-optional g o.None = o.None
-
--- visit_mut: b is read "if *op != BoolOp::Not"
-abbrev pub boolSecond : BoolOp → (ℕ → ℕ) → ℕ → ℕ
-boolSecond b.And σ y = σ y
-boolSecond b.Or σ y = σ y
-boolSecond b.Xor σ y = σ y
-boolSecond b.Not σ y = y
-
--- visit_mut: lo is read "if *kind != CheckKind::Null"
-abbrev pub checkLow : CheckKind → (ℕ → ℕ) → ℕ → ℕ
-checkLow k.Range σ y = σ y
-checkLow k.Index σ y = σ y
-checkLow k.IndexDown σ y = σ y
-checkLow k.Length σ y = σ y
-checkLow k.Null σ y = y
-
--- visit_mut: hi is read for "Range | Index | IndexDown"
-abbrev pub checkHigh : CheckKind → (ℕ → ℕ) → ℕ → ℕ
-checkHigh k.Range σ y = σ y
-checkHigh k.Index σ y = σ y
-checkHigh k.IndexDown σ y = σ y
-checkHigh k.Length σ y = y
-checkHigh k.Null σ y = y
-
--- `visit_mut`: an instruction with σ over the fields that it reads and τ over those that it writes
-unfoldable pub exchanged : (ℕ → ℕ) → (ℕ → ℕ) → Inst → Inst
-exchanged σ τ (i.Const d v) = i.Const (regOf (τ (d .0))) v
-exchanged σ τ (i.ConstF d v) = i.ConstF (regOf (τ (d .0))) v
-exchanged σ τ (i.Move d s) = i.Move (regOf (τ (d .0))) (regOf (σ (s .0)))
-exchanged σ τ (i.AddrOf d s f) = i.AddrOf (regOf (τ (d .0))) s f
-exchanged σ τ (i.Select d c x y) = i.Select (regOf (τ (d .0))) (regOf (σ (c .0))) (regOf (σ (x .0))) (regOf (σ (y .0)))
-exchanged σ τ (i.Cmp op d x y) = i.Cmp op (regOf (τ (d .0))) (regOf (σ (x .0))) (regOf (σ (y .0)))
-exchanged σ τ (i.Bool op d x y) = i.Bool op (regOf (τ (d .0))) (regOf (σ (x .0))) (regOf (boolSecond op σ (y .0)))
-exchanged σ τ (i.Bin op d x y) = i.Bin op (regOf (τ (d .0))) (regOf (σ (x .0))) (regOf (σ (y .0)))
-exchanged σ τ (i.BinRange op d x y l h w) = i.BinRange op (regOf (τ (d .0))) (regOf (σ (x .0))) (regOf (σ (y .0))) (regOf (σ (l .0))) (regOf (σ (h .0))) w
-exchanged σ τ (i.Load d a w) = i.Load (regOf (τ (d .0))) (regOf (σ (a .0))) w
-exchanged σ τ (i.Store a s w) = i.Store (regOf (σ (a .0))) (regOf (σ (s .0))) w
-exchanged σ τ (i.Check c v l h w) = i.Check c (regOf (σ (v .0))) (regOf (checkLow c σ (l .0))) (regOf (checkHigh c σ (h .0))) w
-exchanged σ τ (i.MakeDope a p) = i.MakeDope (regOf (σ (a .0))) p
-exchanged σ τ (i.DopeLen d p n) = i.DopeLen (regOf (τ (d .0))) (regOf (σ (p .0))) n
-exchanged σ τ (i.BoundsLen d l r e) = i.BoundsLen (regOf (τ (d .0))) (regOf (σ (l .0))) (regOf (σ (r .0))) (regOf (σ (e .0)))
-exchanged σ τ (i.Alloc d s) = i.Alloc (regOf (τ (d .0))) (regOf (σ (s .0)))
-exchanged σ τ (i.TakeBounds l r e) = i.TakeBounds (regOf (τ (l .0))) (regOf (τ (r .0))) (regOf (τ (e .0)))
-exchanged σ τ (i.CallNative n a d) = i.CallNative n a (optional τ d)
-exchanged σ τ (i.Br t) = i.Br t
-exchanged σ τ (i.CondBr c t f) = i.CondBr (regOf (σ (c .0))) t f
-exchanged σ τ (i.Case v t) = i.Case (regOf (σ (v .0))) t
-exchanged σ τ (i.Ret v) = i.Ret (optional σ v)
-exchanged σ τ (i.Unreachable w) = i.Unreachable w
-exchanged σ τ i.Stmt = i.Stmt
 
 -- what becomes of an instruction in the copy
 pub data How : Type 0 where

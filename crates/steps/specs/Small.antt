@@ -84,10 +84,11 @@ isBr (e.Case n) = false
 isBr e.Other = false
 
 -- `latch`: "[Bin add/sub, Br]"; "any short block that jumps back with an add or subtract" where wide
+abbrev pub stepShape : Bool → ℕ → List Code → Bool
+stepShape wide l c = eqb (length c) 2 && isBr (endOf c) || wide && leb (length c) 4 && jumpsBack l (endOf c)
+
 unfoldable pub stepBlock : Bool → ℕ → List Code → Bool
-stepBlock wide l c =
-    (eqb (length c) 2 && isBr (endOf c) || wide && leb (length c) 4 && jumpsBack l (endOf c))
-    && anyOf (λ x. stepBy wide (x .inst)) c
+stepBlock wide l c = stepShape wide l c && anyOf (λ x. stepBy wide (x .inst)) c
 
 -- `latch`: block l tests, and the next one, [] if there is none, is its step block; wide where there is a body
 unfoldable pub latch : List Code → List Code → ℕ → Bool → Bool

@@ -2,92 +2,86 @@
 use Prim.Native.Nat.{ℕ, suc, _+_, _*_, _-_, _/_, _%_, _≤_, _<_, min}
 use native.Mathlib.Omega.{arith}
 use mathlib.Core.Path.{_≡_, refl, sym, ap, subst, _∙_}
-use mathlib.Core.Bool.{Bool, true, false, _&&_, _||_, not, cond}
+use mathlib.Core.Bool.{Bool, true, false, _&&_, cond}
 use mathlib.Core.List.{List, [], _∷_, _++_, cons≢nil}
 use mathlib.Core.Logic.{_⊎_, inl, inr, ⊎-elim, _↔_}
 use borrow.Author.Tests.{le-ltb, ne-eqb, eqb-true, eqb-false, ltb-true}
 use lib.Dec.{eqb, ltb}
-use lib.ListN.{length, getD, List·getD-eq-default}
+use lib.ListN.{length, getD, length-map}
 use lib.Seq.{getD-set-same, getD-set-other}
-use Rattle.layout.proofs.Walks.{cases}
+use Rattle.general.proofs.Booleans.{cases}
 use Rattle.inst.specs.Inst.{kindOf}
 use Rattle.inst.specs.declared.Code.{Code}
 use Rattle.procedure.specs.Procedure.{Procedure}
 use Rattle.roles.specs.Roles.{defsOf}
-use Rattle.lead.specs.Lead.{arcs, anyMarked, isNew, leading}
-use Rattle.lead.proofs.Laws.{leading-same}
-use Rattle.lead.proofs.Paths.{leading-is}
+use Rattle.ends.specs.Ends.{endOf, targets}
+use Rattle.paths.specs.Paths.{reachedFrom}
+use Rattle.paths.proofs.Paths.{reached-is}
 use Rattle.tidy.specs.declared.Tidiness.{Tidiness}
-use Rattle.tidy.specs.Tidy.{Placed, Field, placedIn, placedFrom, placed, fieldsAt, written, reads, writers, targetsOf, lastOf, targetsAt, LeadsTo, leads, wrong, wrongFor, onlyOne, offends, regsOf, offenders, Tidy, told, lowest, verdict}
-use Rattle.tidy.specs.Work.{pack, note, noted, judged, offence, lower, lowered, step, judgedAll, Pair}
+use Rattle.tidy.specs.Tidy.{Placed, Field, placedIn, placedFrom, placed, fieldsAt, written, reads, writers, edgesOf, LeadsTo, leads}
+use Rattle.tidy.specs.Tidy.{wrong, wrongFor, onlyOne, offends, regsOf, offenders, Tidy, told, lowest, verdict}
+use Rattle.tidy.specs.Work.Writers.{pack, note, noted}
+use Rattle.tidy.specs.Work.Reads.{judged, offence, lower, lowered, step, judgedAll}
 use Rattle.tidy.proofs.Fields.{kind-most}
 use Rattle.tidy.proofs.Tables.{length-note}
 use Rattle.tidy.proofs.Judging.{judged-none}
 
 -- `leads` is what the paper says: over any number of blocks
-pub leads-is : (p : Procedure) → length (p .blocks) ≤ 160 → (t : ℕ) → t < 160 → (a : ℕ) → (leads p a t ≡ true) ↔ LeadsTo p a t
-leads-is p h t i = leading-is (targetsAt p) t i (λ a j. ap (λ (cs : List Code). targetsOf (lastOf cs)) (List·getD-eq-default (p .blocks) [] {n = a} (omega arith)))
+pub leads-is : (p : Procedure) (t : ℕ) → t < length (p .blocks) → (a : ℕ) → (leads p a t ≡ true) ↔ LeadsTo p a t
+leads-is p t h a = reached-is (edgesOf p) a t (rw (length-map (p .blocks) (λ c. targets (endOf c))) h)
 
--- the targets as two numbers come to the same
-or-same : (b : Bool) → (b || (b || false)) ≡ (b || false)
-or-same true = refl
-or-same false = refl
+-- every block's number is below n
+Low : ℕ → List Placed → Type 0
+Low n [] = Unit {0}
+Low n (x ∷ xs) = (x .block < n) × Low n xs
 
-pair-same : (m : List Bool) → length m ≡ 160 → (ts : List ℕ) (x y : ℕ) → Pair ts x y → anyMarked m (x ∷ y ∷ []) ≡ anyMarked m ts
-pair-same m h [] x y e = let n = List·getD-eq-default m false {n = 160} (omega arith) in rw (e .0, e .1, n)
-pair-same m h (t ∷ []) x y e = rw (e .0, e .1) (or-same (getD m t false))
-pair-same m h (t ∷ f ∷ []) x y e = rw (e .0, e .1)
-pair-same m h (t ∷ f ∷ g ∷ ts) x y e = absurd e
-
-pub arcs-same : (p : Procedure) (ts : List ℕ) → ((a : ℕ) → a < 160 → Pair (targetsAt p a) (getD ts (2 * a) 0) (getD ts (2 * a + 1) 0)) → (t : ℕ) → leading (arcs ts) t ≡ leading (targetsAt p) t
-unfolding isNew
-arcs-same p ts h = leading-same (arcs ts) (targetsAt p) same
-  where
-    same : (m : List Bool) (a : ℕ) → length m ≡ 160 → a < 160 → isNew (arcs ts) m a ≡ isNew (targetsAt p) m a
-    same m a l i = ap (λ (b : Bool). not (getD m a false) && b) (pair-same m l (targetsAt p a) (getD ts (2 * a) 0) (getD ts (2 * a + 1) 0) (h a i))
-
--- every block's number is below 256
-Low : List Placed → Type 0
-Low [] = Unit {0}
-Low (x ∷ xs) = (x .block < 256) × Low xs
-
-low-append : (xs ys : List Placed) → Low xs → Low ys → Low (xs ++ ys)
+low-append : (n : ℕ) (xs ys : List Placed) → Low n xs → Low n ys → Low n (xs ++ ys)
 unfolding Low
-low-append [] ys a b = b
-low-append (x ∷ xs) ys a b = (a .0, low-append xs ys (a .1) b)
+low-append n [] ys a b = b
+low-append n (x ∷ xs) ys a b = (a .0, low-append n xs ys (a .1) b)
 
-low-in : (b k : ℕ) (cs : List Code) → b < 256 → Low (placedIn b k cs)
+low-in : (n b k : ℕ) (cs : List Code) → b < n → Low n (placedIn b k cs)
 unfolding Low placedIn
-low-in b k [] h = tt
-low-in b k (c ∷ cs) h = (h, low-in b (suc k) cs h)
+low-in n b k [] h = tt
+low-in n b k (c ∷ cs) h = (h, low-in n b (suc k) cs h)
 
-low-from : (b : ℕ) (bs : List (List Code)) → b + length bs ≤ 256 → Low (placedFrom b bs)
+low-from : (n b : ℕ) (bs : List (List Code)) → b + length bs ≤ n → Low n (placedFrom b bs)
 unfolding Low placedFrom
-low-from b [] h = tt
-low-from b (cs ∷ bs) h = low-append (placedIn b 0 cs) (placedFrom (suc b) bs) (low-in b 0 cs (omega arith)) (low-from (suc b) bs (omega arith))
+low-from n b [] h = tt
+low-from n b (cs ∷ bs) h =
+    low-append n (placedIn b 0 cs) (placedFrom (suc b) bs) (low-in n b 0 cs (omega arith)) (low-from n (suc b) bs (omega arith))
 
 writers-append : (r : ℕ) (fs gs : List Field) → writers r (fs ++ gs) ≡ writers r fs ++ writers r gs
 unfolding writers
 writers-append r [] gs = refl
 writers-append r (f ∷ fs) gs = by (eqb (f .reg) r) (writers-append r fs gs)
   where
-    by : (t : Bool) → writers r (fs ++ gs) ≡ writers r fs ++ writers r gs → cond t (f .at ∷ writers r (fs ++ gs)) (writers r (fs ++ gs)) ≡ cond t (f .at ∷ writers r fs) (writers r fs) ++ writers r gs
+    by :
+        (t : Bool) → writers r (fs ++ gs) ≡ writers r fs ++ writers r gs
+        → cond t (f .at ∷ writers r (fs ++ gs)) (writers r (fs ++ gs)) ≡ cond t (f .at ∷ writers r fs) (writers r fs) ++ writers r gs
     by true e = ap (λ (l : List Placed). f .at ∷ l) e
     by false e = e
 
-low-fields : (r : ℕ) (x : Placed) (rs : List ℕ) → x .block < 256 → Low (writers r (fieldsAt x rs))
-unfolding Low writers
-low-fields r x [] h = tt
-low-fields r x (q ∷ rs) h = by (eqb q r) (low-fields r x rs h)
-  where
-    by : (t : Bool) → Low (writers r (fieldsAt x rs)) → Low (cond t (x ∷ writers r (fieldsAt x rs)) (writers r (fieldsAt x rs)))
-    by true l = (h, l)
-    by false l = l
+module _ (n r : ℕ) where
+  low-fields : (x : Placed) (rs : List ℕ) → x .block < n → Low n (writers r (fieldsAt x rs))
+  unfolding Low writers
+  low-fields x [] h = tt
+  low-fields x (q ∷ rs) h = by (eqb q r) (low-fields x rs h)
+    where
+      ws : List Placed
+      ws = writers r (fieldsAt x rs)
 
-low-writers : (r : ℕ) (xs : List Placed) → Low xs → Low (writers r (written xs))
-unfolding Low written writers
-low-writers r [] l = tt
-low-writers r (x ∷ xs) l = subst Low (sym (writers-append r (fieldsAt x (defsOf (x .inst))) (written xs))) (low-append (writers r (fieldsAt x (defsOf (x .inst)))) (writers r (written xs)) (low-fields r x (defsOf (x .inst)) (l .0)) (low-writers r xs (l .1)))
+      by : (t : Bool) → Low n ws → Low n (cond t (x ∷ ws) ws)
+      by true l = (h, l)
+      by false l = l
+
+  low-writers : (xs : List Placed) → Low n xs → Low n (writers r (written xs))
+  unfolding Low written writers
+  low-writers [] l = tt
+  low-writers (x ∷ xs) l =
+      let fs = fieldsAt x (defsOf (x .inst)) in
+      subst (Low n) (sym (writers-append r fs (written xs)))
+      (low-append n (writers r fs) (writers r (written xs)) (low-fields x (defsOf (x .inst)) (l .0)) (low-writers xs (l .1)))
 
 -- a number of the table: none, one, or more
 pub tally : ℕ → List Placed → ℕ
@@ -105,7 +99,10 @@ tally-at (f ∷ fs) ws r h = by (tally-at fs (note ws (f .reg) (pack (f .at))) r
     there : (f .reg ≡ r → ⊥) → getD (note ws (f .reg) (pack (f .at))) r 0 ≡ getD ws r 0
     there e = getD-set-other ws (f .reg) r (cond (eqb (getD ws (f .reg) 0) 0) (pack (f .at)) 1) 0 (λ i. e (sym i))
 
-    by : getD (noted (note ws (f .reg) (pack (f .at))) fs) r 0 ≡ tally (getD (note ws (f .reg) (pack (f .at))) r 0) (writers r fs) → (eqb (f .reg) r ≡ true) ⊎ (eqb (f .reg) r ≡ false) → getD (noted (note ws (f .reg) (pack (f .at))) fs) r 0 ≡ tally (getD ws r 0) (writers r (f ∷ fs))
+    by :
+        getD (noted (note ws (f .reg) (pack (f .at))) fs) r 0 ≡ tally (getD (note ws (f .reg) (pack (f .at))) r 0) (writers r fs)
+        → (eqb (f .reg) r ≡ true) ⊎ (eqb (f .reg) r ≡ false)
+        → getD (noted (note ws (f .reg) (pack (f .at))) fs) r 0 ≡ tally (getD ws r 0) (writers r (f ∷ fs))
     by e (inl t) = e ∙ ap (λ (n : ℕ). tally n (writers r fs)) (here (eqb-true (f .reg) r t)) ∙ sym (rw t)
     by e (inr t) = e ∙ ap (λ (n : ℕ). tally n (writers r fs)) (there (eqb-false (f .reg) r t)) ∙ sym (rw t)
 
@@ -114,66 +111,80 @@ unfolding tally
 tally-many [] = refl
 tally-many (w ∷ ws) = tally-many ws
 
-judged-pack : (next : ℕ → List ℕ) (w : Placed) (b k : ℕ) → w .block < 256 → judged next (pack w) b k ≡ wrong (λ a t. getD (leading next t) a false) (kindOf (w .inst)) (w .block) (w .place) b k
-unfolding judged
-judged-pack next w b k h =
-    let m = kind-most (w .inst) in
-    let x : (pack w - 2) % 32 ≡ kindOf (w .inst) = omega arith in
-    let u : (pack w - 2) / 32 ≡ w .block + 256 * w .place = omega arith in
-    let y : (w .block + 256 * w .place) % 256 ≡ w .block = omega arith in
-    let z : (w .block + 256 * w .place) / 256 ≡ w .place = omega arith in
-    rw (le-ltb (pack w) 2 (omega arith), x, u, y, z)
+-- one writer, judged as the definition does, by a lead that is the same at its block
+module _ (es : List (List ℕ)) (lead : ℕ → ℕ → Bool) (n : ℕ) (few : n ≤ 160) (b k : ℕ)
+    (same : (t : ℕ) → t < n → getD (reachedFrom es b) t false ≡ lead b t) where
+  judged-pack : (w : Placed) → w .block < n → judged es (pack w) b k ≡ wrong lead (kindOf (w .inst)) (w .block) (w .place) b k
+  unfolding judged
+  judged-pack w h =
+      let m = kind-most (w .inst) in
+      let x : (pack w - 2) % 32 ≡ kindOf (w .inst) = omega arith in
+      let u : (pack w - 2) / 32 ≡ w .block + 256 * w .place = omega arith in
+      let y : (w .block + 256 * w .place) % 256 ≡ w .block = omega arith in
+      let z : (w .block + 256 * w .place) / 256 ≡ w .place = omega arith in
+      rw (le-ltb (pack w) 2 (omega arith), x, u, y, z, same (w .block) h)
 
-judged-tally : (next : ℕ → List ℕ) (b k : ℕ) (ws : List Placed) → Low ws → judged next (tally 0 ws) b k ≡ onlyOne (λ w. wrong (λ a t. getD (leading next t) a false) (kindOf (w .inst)) (w .block) (w .place) b k) ws
-unfolding tally Low
-judged-tally next b k [] l = sym (judged-none next 0 b k (omega arith))
-judged-tally next b k (w ∷ []) l = judged-pack next w b k (l .0)
-judged-tally next b k (w ∷ v ∷ ws) l =
-    let e : eqb (pack w) 0 ≡ false = ne-eqb (pack w) 0 (λ i. omega arith) in
-    ap (λ (t : Bool). judged next (tally (cond t (pack v) 1) ws) b k) e
-    ∙ ap (λ (n : ℕ). judged next n b k) (tally-many ws)
-    ∙ sym (judged-none next 1 b k (omega arith))
+  judged-tally : (ws : List Placed) → Low n ws → judged es (tally 0 ws) b k ≡ onlyOne (λ w. wrong lead (kindOf (w .inst)) (w .block) (w .place) b k) ws
+  unfolding tally Low
+  judged-tally [] l = sym (judged-none es 0 b k (omega arith))
+  judged-tally (w ∷ []) l = judged-pack w (l .0)
+  judged-tally (w ∷ v ∷ ws) l =
+      let e : eqb (pack w) 0 ≡ false = ne-eqb (pack w) 0 (λ i. omega arith) in
+      ap (λ (t : Bool). judged es (tally (cond t (pack v) 1) ws) b k) e
+      ∙ ap (λ (m : ℕ). judged es m b k) (tally-many ws)
+      ∙ sym (judged-none es 1 b k (omega arith))
 
 -- the table of a procedure's writers tells which reads offend
-module _ (p : Procedure) (next : ℕ → List ℕ) (ws : List ℕ) (few : length (p .blocks) ≤ 160) (same : (t : ℕ) → leading next t ≡ leading (targetsAt p) t) (table : (r : ℕ) → r < length (p .registers) → getD ws r 0 ≡ tally 0 (writers r (written (placed p)))) where
-  leads-same : _≡_ {A = ℕ → ℕ → Bool} (λ a t. getD (leading next t) a false) (leads p)
-  leads-same = λ i a t. getD (same t i) a false
+module _
+    (p : Procedure) (es : List (List ℕ)) (ws : List ℕ) (few : length (p .blocks) ≤ 160)
+    (same : (a t : ℕ) → t < length (p .blocks) → getD (reachedFrom es a) t false ≡ leads p a t)
+    (table : (r : ℕ) → r < length (p .registers) → getD ws r 0 ≡ tally 0 (writers r (written (placed p))))
+  where
+    offence-is : (f : Field) → offence es (length (p .registers)) ws (f .reg) (f .at .block) (f .at .place) ≡ offends p f
+    unfolding offence offends
+    offence-is f = ⊎-elim is (λ (e : ltb (f .reg) (length (p .registers)) ≡ false). rw e) (cases (ltb (f .reg) (length (p .registers))))
+      where
+        ones : List Placed
+        ones = writers (f .reg) (written (placed p))
 
-  offence-is : (f : Field) → offence next (length (p .registers)) ws (f .reg) (f .at .block) (f .at .place) ≡ offends p f
-  unfolding offence offends
-  offence-is f = ⊎-elim is (λ (e : ltb (f .reg) (length (p .registers)) ≡ false). rw e) (cases (ltb (f .reg) (length (p .registers))))
-    where
-      ones : List Placed
-      ones = writers (f .reg) (written (placed p))
+        there : Bool
+        there = ltb (f .reg) (length (p .registers))
 
-      is : ltb (f .reg) (length (p .registers)) ≡ true → (ltb (f .reg) (length (p .registers)) && judged next (getD ws (f .reg) 0) (f .at .block) (f .at .place)) ≡ (ltb (f .reg) (length (p .registers)) && onlyOne (λ w. wrongFor (leads p) w (f .at)) ones)
-      is e =
-          ap (λ (b : Bool). ltb (f .reg) (length (p .registers)) && b)
-          (ap (λ (n : ℕ). judged next n (f .at .block) (f .at .place)) (table (f .reg) (ltb-true (f .reg) (length (p .registers)) e))
-          ∙ judged-tally next (f .at .block) (f .at .place) ones (low-writers (f .reg) (placed p) (low-from 0 (p .blocks) (omega arith)))
-          ∙ ap (λ (lead : ℕ → ℕ → Bool). onlyOne (λ w. wrongFor lead w (f .at)) ones) leads-same)
+        is :
+            there ≡ true
+            → (there && judged es (getD ws (f .reg) 0) (f .at .block) (f .at .place)) ≡ (there && onlyOne (λ w. wrongFor (leads p) w (f .at)) ones)
+        is e =
+            ap (λ (b : Bool). there && b)
+            (ap (λ (n : ℕ). judged es n (f .at .block) (f .at .place)) (table (f .reg) (ltb-true (f .reg) (length (p .registers)) e))
+            ∙ judged-tally es (leads p) (length (p .blocks)) few (f .at .block) (f .at .place) (same (f .at .block)) ones
+            (low-writers (length (p .blocks)) (f .reg) (placed p) (low-from (length (p .blocks)) 0 (p .blocks) (omega arith))))
 
-  judged-regs : (fs : List Field) (s : Tidiness) → judgedAll next (length (p .registers)) ws s fs ≡ lowered s (regsOf (offends p) fs)
-  unfolding judgedAll lowered regsOf step
-  judged-regs [] s = refl
-  judged-regs (f ∷ fs) s = by (offends p f) (offence-is f) (judged-regs fs)
-    where
-      by : (b : Bool) → offence next (length (p .registers)) ws (f .reg) (f .at .block) (f .at .place) ≡ b → ((t : Tidiness) → judgedAll next (length (p .registers)) ws t fs ≡ lowered t (regsOf (offends p) fs)) → judgedAll next (length (p .registers)) ws (cond (offence next (length (p .registers)) ws (f .reg) (f .at .block) (f .at .place)) (lower s (f .reg)) s) fs ≡ lowered s (cond b (f .reg ∷ regsOf (offends p) fs) (regsOf (offends p) fs))
-      by true e more = ap (λ (b : Bool). judgedAll next (length (p .registers)) ws (cond b (lower s (f .reg)) s) fs) e ∙ more (lower s (f .reg))
-      by false e more = ap (λ (b : Bool). judgedAll next (length (p .registers)) ws (cond b (lower s (f .reg)) s) fs) e ∙ more s
+    judged-regs : (fs : List Field) (s : Tidiness) → judgedAll es (length (p .registers)) ws s fs ≡ lowered s (regsOf (offends p) fs)
+    unfolding judgedAll lowered regsOf step
+    judged-regs [] s = refl
+    judged-regs (f ∷ fs) s = by (offends p f) (offence-is f) (judged-regs fs)
+      where
+        by :
+            (b : Bool) → offence es (length (p .registers)) ws (f .reg) (f .at .block) (f .at .place) ≡ b
+            → ((t : Tidiness) → judgedAll es (length (p .registers)) ws t fs ≡ lowered t (regsOf (offends p) fs))
+            → judgedAll es (length (p .registers)) ws
+            (cond (offence es (length (p .registers)) ws (f .reg) (f .at .block) (f .at .place)) (lower s (f .reg)) s) fs
+            ≡ lowered s (cond b (f .reg ∷ regsOf (offends p) fs) (regsOf (offends p) fs))
+        by true e more = ap (λ (b : Bool). judgedAll es (length (p .registers)) ws (cond b (lower s (f .reg)) s) fs) e ∙ more (lower s (f .reg))
+        by false e more = ap (λ (b : Bool). judgedAll es (length (p .registers)) ws (cond b (lower s (f .reg)) s) fs) e ∙ more s
 
-  lowered-lowest : (r : ℕ) (rs : List ℕ) → lowered (told 0 0 0 r) rs ≡ told 0 0 0 (lowest r rs)
-  unfolding lowered lower
-  lowered-lowest r [] = refl
-  lowered-lowest r (q ∷ rs) = lowered-lowest (min r q) rs
+    lowered-lowest : (r : ℕ) (rs : List ℕ) → lowered (told 0 0 0 r) rs ≡ told 0 0 0 (lowest r rs)
+    unfolding lowered lower
+    lowered-lowest r [] = refl
+    lowered-lowest r (q ∷ rs) = lowered-lowest (min r q) rs
 
-  lowered-verdict : (rs : List ℕ) → lowered (told 0 0 1 0) rs ≡ verdict rs
-  unfolding lowered lower
-  lowered-verdict [] = refl
-  lowered-verdict (r ∷ rs) = lowered-lowest r rs
+    lowered-verdict : (rs : List ℕ) → lowered (told 0 0 1 0) rs ≡ verdict rs
+    unfolding lowered lower
+    lowered-verdict [] = refl
+    lowered-verdict (r ∷ rs) = lowered-lowest r rs
 
-  pub answer-is : judgedAll next (length (p .registers)) ws (told 0 0 1 0) (reads (p .operands) (placed p)) ≡ verdict (offenders p)
-  answer-is = judged-regs (reads (p .operands) (placed p)) (told 0 0 1 0) ∙ lowered-verdict (offenders p)
+    pub answer-is : judgedAll es (length (p .registers)) ws (told 0 0 1 0) (reads (p .operands) (placed p)) ≡ verdict (offenders p)
+    answer-is = judged-regs (reads (p .operands) (placed p)) (told 0 0 1 0) ∙ lowered-verdict (offenders p)
 
 -- a field is one of some
 abbrev pub Among : Field → List Field → Type 0

@@ -11,12 +11,21 @@ use Rattle.inst.specs.declared.OptReg.the-variants as o
 use Rattle.inst.specs.declared.AddrSpace.the-variants as s
 use Rattle.read.proofs.Table.{P7}
 use Rattle.procedure.specs.Procedure.{Procedure}
-use Rattle.lead.specs.Lead.{isNew, visited, swept, found, closed, clear, leading}
+use Rattle.ends.specs.Forms.{formOf}
+use Rattle.ends.specs.Ends.{viewOf, endOf}
+use Rattle.paths.specs.Paths.{total, walk, reachedFrom}
 use Rattle.tidy.specs.Tidy.{placedIn, placedFrom, written, reads, writers, offends, regsOf, offenders, told, tidiness}
 
 -- a procedure of ten registers, with the operand 5
 blocks : List (List Inst) → Procedure
-blocks bs = record { registers = replicate 10 0; blocks = map (map (λ x. record { inst = x; stmt = record { 0 = 0 } })) bs; body = none; operands = 5 ∷ []; tables = [] }
+blocks bs = record {
+  registers = replicate 10 0;
+  blocks = map
+      (map (λ x. record { inst = x; stmt = record { 0 = 0 } })) bs;
+  body = none;
+  operands = 5 ∷ [];
+  tables = [];
+}
 
 move : ℕ → ℕ → Inst
 move d a = i.Move (regOf d) (regOf a)
@@ -67,12 +76,12 @@ address-early = refl
 
 -- an address read in a block that leads to its writer over another block
 address-far : offenders (blocks ((move 3 4 ∷ br 2 ∷ []) ∷ (address 4 ∷ ret 1 ∷ []) ∷ (br 1 ∷ []) ∷ [])) ≡ 4 ∷ []
-unfolding blocks move address br ret placedIn placedFrom written reads writers offends regsOf isNew visited swept found closed clear leading
+unfolding blocks move address br ret placedIn placedFrom written reads writers offends regsOf formOf viewOf endOf total walk reachedFrom
 address-far = refl
 
 -- and in one that doesn't
 address-apart : offenders (blocks ((move 3 4 ∷ ret 3 ∷ []) ∷ (address 4 ∷ br 0 ∷ []) ∷ [])) ≡ []
-unfolding blocks move address br ret placedIn placedFrom written reads writers offends regsOf isNew visited swept found closed clear leading
+unfolding blocks move address br ret placedIn placedFrom written reads writers offends regsOf formOf viewOf endOf total walk reachedFrom
 address-apart = refl
 
 -- a refusal of Read

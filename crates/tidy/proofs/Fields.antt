@@ -2,18 +2,18 @@
 use Prim.Native.Nat.{ℕ, _≤_}
 use native.Mathlib.Omega.{arith}
 use mathlib.Core.Path.{_≡_}
-use mathlib.Core.List.{List, [], _∷_, _++_}
+use mathlib.Core.List.{List}
 use lib.Dec.{T, leb, leb→le}
 use lib.ListN.{take, length-append}
-use lib.Seq.{length-take-le}
 use Rattle.inst.specs.Inst.{kindOf}
 use Rattle.inst.specs.declared.Inst.{Inst}
 use Rattle.inst.specs.declared.Inst.the-variants as i
 use Rattle.roles.specs.declared.Roles.{Roles}
-use Rattle.roles.specs.Roles.{rolesOf, defsOf, usesOf, readsOf}
-use Rattle.roles.proofs.Laws.{all-few, defs-first, reads-all}
+use Rattle.roles.specs.Roles.{rolesOf, defsOf, usesOf, readsOf, numbersOf}
+use Rattle.roles.proofs.Laws.{n-few, reg-five, defs-first, reads-all}
 use Rattle.tidy.specs.Tidy.{fieldsAt}
-use Rattle.tidy.specs.Work.{packed, notes, noted, allReads, Five}
+use Rattle.tidy.specs.Work.Writers.{packed, notes, noted}
+use Rattle.tidy.specs.Work.Reads.{allReads, Five}
 use Rattle.tidy.proofs.Tables.{notes-noted}
 
 few-kinds : (x : Inst) → T (leb (kindOf x) 23)
@@ -47,20 +47,14 @@ kind-most x = leb→le (kindOf x) 23 (few-kinds x)
 
 five : (x : Inst) → Five (rolesOf x)
 unfolding rolesOf
-five x =
-    let m = all-few x in
-    let a = length-append (defsOf x) (usesOf x) in
-    record {
-      defs = omega arith;
-      most = m;
-      size = length-take-le 5 ((defsOf x ++ usesOf x) ++ (0 ∷ 0 ∷ 0 ∷ 0 ∷ 0 ∷ [])) (let e = length-append (defsOf x ++ usesOf x) (0 ∷ 0 ∷ 0 ∷ 0 ∷ 0 ∷ []) in omega arith);
-    }
+five x = record { defs = let a = length-append (defsOf x) (usesOf x) in omega arith; most = n-few x; size = reg-five x }
 
 pub five-of : (x : Inst) {r : Roles} → r ≡ rolesOf x → Five r
 five-of x e = rw e (five x)
 
 -- what an instruction writes
-pub inst-noted : (ws : List ℕ) (b k : ℕ) {y : Inst} (x : Inst) {r : Roles} {n : ℕ} → x ≡ y → r ≡ rolesOf x → n ≡ kindOf x → notes ws (packed n b k) (take (r .defs) (r .reg)) ≡ noted ws (fieldsAt (record { block = b; place = k; inst = y }) (defsOf y))
+pub inst-noted : (ws : List ℕ) (b k : ℕ) {y : Inst} (x : Inst) {r : Roles} {n : ℕ} → x ≡ y → r ≡ rolesOf x → n ≡ kindOf x
+    → notes ws (packed n b k) (take (r .defs) (numbersOf (r .reg))) ≡ noted ws (fieldsAt (record { block = b; place = k; inst = y }) (defsOf y))
 inst-noted ws b k {y} x e f g = rw (g, f, defs-first x, e) (notes-noted ws (record { block = b; place = k; inst = y }) (defsOf y))
 
 -- what it reads

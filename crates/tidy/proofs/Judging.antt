@@ -1,90 +1,47 @@
--- Laws of the targets, of one read judged by the table, and of the lowest register.
-use Prim.Native.Nat.{ℕ, zero, suc, _-_, _/_, _%_, _≤_, _<_, min}
+-- Laws of one read judged by the table, and of the lowest register.
+use Prim.Native.Nat.{ℕ, _-_, _/_, _%_, _≤_, _<_, min}
 use native.Mathlib.Omega.{arith}
-use mathlib.Core.Path.{_≡_, refl, sym, subst}
+use mathlib.Core.Path.{_≡_, sym}
 use mathlib.Core.Bool.{true, false, not}
-use mathlib.Core.List.{List, []}
+use mathlib.Core.List.{List}
 use mathlib.Core.Logic.{⊎-elim}
 use borrow.Author.Tests.{lt-ltb, le-ltb, le-leb, lt-leb, eq-eqb, ne-eqb, ltb-true, ltb-false}
 use lib.Dec.{ltb, leb}
 use lib.ListN.{getD}
-use Rattle.format.specs.declared.Record.{Record}
-use Rattle.shape.proofs.Laws.{at-key}
-use Rattle.layout.proofs.Walks.{cases}
-use Rattle.inst.specs.declared.Inst.{Inst}
-use Rattle.inst.specs.declared.Inst.the-variants as i
-use Rattle.codec.specs.Codec.{insts, instsOf, instOf}
-use Rattle.lead.specs.Lead.{leading}
+use Rattle.general.proofs.Booleans.{cases}
+use Rattle.paths.specs.Paths.{reachedFrom}
 use Rattle.tidy.specs.declared.Tidiness.{Tidiness}
-use Rattle.tidy.specs.Tidy.{targetsOf, told}
-use Rattle.tidy.specs.Work.{Pair, judged, lower}
-
--- the targets by kind
-others : (op p1 p2 p3 p4 p5 p6 k : ℕ) → (k ≡ 18 → ⊥) → (k ≡ 19 → ⊥) → targetsOf (getD (insts op p1 p2 p3 p4 p5 p6) k i.Stmt) ≡ []
-others op p1 p2 p3 p4 p5 p6 zero h g = refl
-others op p1 p2 p3 p4 p5 p6 (suc zero) h g = refl
-others op p1 p2 p3 p4 p5 p6 (suc (suc zero)) h g = refl
-others op p1 p2 p3 p4 p5 p6 (suc (suc (suc zero))) h g = refl
-others op p1 p2 p3 p4 p5 p6 (suc (suc (suc (suc zero)))) h g = refl
-others op p1 p2 p3 p4 p5 p6 (suc (suc (suc (suc (suc zero))))) h g = refl
-others op p1 p2 p3 p4 p5 p6 (suc (suc (suc (suc (suc (suc zero)))))) h g = refl
-others op p1 p2 p3 p4 p5 p6 (suc (suc (suc (suc (suc (suc (suc zero))))))) h g = refl
-others op p1 p2 p3 p4 p5 p6 (suc (suc (suc (suc (suc (suc (suc (suc zero)))))))) h g = refl
-others op p1 p2 p3 p4 p5 p6 (suc (suc (suc (suc (suc (suc (suc (suc (suc zero))))))))) h g = refl
-others op p1 p2 p3 p4 p5 p6 (suc (suc (suc (suc (suc (suc (suc (suc (suc (suc zero)))))))))) h g = refl
-others op p1 p2 p3 p4 p5 p6 (suc (suc (suc (suc (suc (suc (suc (suc (suc (suc (suc zero))))))))))) h g = refl
-others op p1 p2 p3 p4 p5 p6 (suc (suc (suc (suc (suc (suc (suc (suc (suc (suc (suc (suc zero)))))))))))) h g = refl
-others op p1 p2 p3 p4 p5 p6 (suc (suc (suc (suc (suc (suc (suc (suc (suc (suc (suc (suc (suc zero))))))))))))) h g = refl
-others op p1 p2 p3 p4 p5 p6 (suc (suc (suc (suc (suc (suc (suc (suc (suc (suc (suc (suc (suc (suc zero)))))))))))))) h g = refl
-others op p1 p2 p3 p4 p5 p6 (suc (suc (suc (suc (suc (suc (suc (suc (suc (suc (suc (suc (suc (suc (suc zero))))))))))))))) h g = refl
-others op p1 p2 p3 p4 p5 p6 (suc (suc (suc (suc (suc (suc (suc (suc (suc (suc (suc (suc (suc (suc (suc (suc zero)))))))))))))))) h g = refl
-others op p1 p2 p3 p4 p5 p6 (suc (suc (suc (suc (suc (suc (suc (suc (suc (suc (suc (suc (suc (suc (suc (suc (suc zero))))))))))))))))) h g = refl
-others op p1 p2 p3 p4 p5 p6 (suc (suc (suc (suc (suc (suc (suc (suc (suc (suc (suc (suc (suc (suc (suc (suc (suc (suc zero)))))))))))))))))) h g = absurd (h refl)
-others op p1 p2 p3 p4 p5 p6 (suc (suc (suc (suc (suc (suc (suc (suc (suc (suc (suc (suc (suc (suc (suc (suc (suc (suc (suc zero))))))))))))))))))) h g = absurd (g refl)
-others op p1 p2 p3 p4 p5 p6 (suc (suc (suc (suc (suc (suc (suc (suc (suc (suc (suc (suc (suc (suc (suc (suc (suc (suc (suc (suc zero)))))))))))))))))))) h g = refl
-others op p1 p2 p3 p4 p5 p6 (suc (suc (suc (suc (suc (suc (suc (suc (suc (suc (suc (suc (suc (suc (suc (suc (suc (suc (suc (suc (suc zero))))))))))))))))))))) h g = refl
-others op p1 p2 p3 p4 p5 p6 (suc (suc (suc (suc (suc (suc (suc (suc (suc (suc (suc (suc (suc (suc (suc (suc (suc (suc (suc (suc (suc (suc zero)))))))))))))))))))))) h g = refl
-others op p1 p2 p3 p4 p5 p6 (suc (suc (suc (suc (suc (suc (suc (suc (suc (suc (suc (suc (suc (suc (suc (suc (suc (suc (suc (suc (suc (suc (suc k))))))))))))))))))))))) h g = refl
-
-module _ (r : Record) where
-  pub target-br : r .kind ≡ 18 → Pair (targetsOf (instOf r)) (r .p1) (r .p1)
-  unfolding instOf
-  target-br e = subst (λ (x : Inst). Pair (targetsOf x) (r .p1) (r .p1)) (at-key (instsOf r) i.Stmt e) (refl, refl)
-
-  pub target-cond : r .kind ≡ 19 → Pair (targetsOf (instOf r)) (r .p2) (r .p3)
-  unfolding instOf
-  target-cond e = subst (λ (x : Inst). Pair (targetsOf x) (r .p2) (r .p3)) (at-key (instsOf r) i.Stmt e) (refl, refl)
-
-  pub target-none : (r .kind ≡ 18 → ⊥) → (r .kind ≡ 19 → ⊥) → Pair (targetsOf (instOf r)) 160 160
-  unfolding instOf
-  target-none h g = subst (λ (ts : List ℕ). Pair ts 160 160) (sym (others (r .op) (r .p1) (r .p2) (r .p3) (r .p4) (r .p5) (r .p6) (r .kind) h g)) (refl, refl)
+use Rattle.tidy.specs.Tidy.{told}
+use Rattle.tidy.specs.Work.Reads.{judged, lower}
 
 not-later : (y k : ℕ) → leb k y ≡ not (ltb y k)
-not-later y k = ⊎-elim (λ (e : ltb y k ≡ true). rw e (lt-leb k y (ltb-true y k e))) (λ (e : ltb y k ≡ false). rw e (le-leb k y (ltb-false y k e))) (cases (ltb y k))
+not-later y k = ⊎-elim (λ (e : ltb y k ≡ true). rw e (lt-leb k y (ltb-true y k e))) (λ (e : ltb y k ≡ false). rw e (le-leb k y (ltb-false y k e)))
+    (cases (ltb y k))
 
 -- the answers, in their order
-module _ (next : ℕ → List ℕ) (v b k : ℕ) where
-  pub judged-none : v < 2 → false ≡ judged next v b k
+module _ (es : List (List ℕ)) (v b k : ℕ) where
+  pub judged-none : v < 2 → false ≡ judged es v b k
   unfolding judged
   judged-none h = sym (rw (lt-ltb v 2 h))
 
-  pub judged-free : 2 ≤ v → (v - 2) % 32 ≤ 1 → false ≡ judged next v b k
+  pub judged-free : 2 ≤ v → (v - 2) % 32 ≤ 1 → false ≡ judged es v b k
   unfolding judged
   judged-free h i = sym (rw (le-ltb v 2 h, le-leb ((v - 2) % 32) 1 i))
 
-  pub judged-else : 2 ≤ v → 1 < (v - 2) % 32 → ((v - 2) % 32 ≡ 3 → ⊥) → (b ≡ (v - 2) / 32 % 256 → ⊥) → true ≡ judged next v b k
+  pub judged-else : 2 ≤ v → 1 < (v - 2) % 32 → ((v - 2) % 32 ≡ 3 → ⊥) → (b ≡ (v - 2) / 32 % 256 → ⊥) → true ≡ judged es v b k
   unfolding judged
   judged-else h i j e = sym (rw (le-ltb v 2 h, lt-leb ((v - 2) % 32) 1 i, ne-eqb ((v - 2) % 32) 3 j, ne-eqb b ((v - 2) / 32 % 256) e))
 
-  pub judged-here : 2 ≤ v → 1 < (v - 2) % 32 → ((v - 2) % 32 ≡ 3 → ⊥) → b ≡ (v - 2) / 32 % 256 → leb k ((v - 2) / 32 / 256) ≡ judged next v b k
+  pub judged-here : 2 ≤ v → 1 < (v - 2) % 32 → ((v - 2) % 32 ≡ 3 → ⊥) → b ≡ (v - 2) / 32 % 256 → leb k ((v - 2) / 32 / 256) ≡ judged es v b k
   unfolding judged
-  judged-here h i j e = sym (rw (le-ltb v 2 h, lt-leb ((v - 2) % 32) 1 i, ne-eqb ((v - 2) % 32) 3 j, eq-eqb b ((v - 2) / 32 % 256) e) (sym (not-later ((v - 2) / 32 / 256) k)))
+  judged-here h i j e = sym
+      (rw (le-ltb v 2 h, lt-leb ((v - 2) % 32) 1 i, ne-eqb ((v - 2) % 32) 3 j, eq-eqb b ((v - 2) / 32 % 256) e) (sym (not-later ((v - 2) / 32 / 256) k)))
 
-  pub judged-early : 2 ≤ v → (v - 2) % 32 ≡ 3 → b ≡ (v - 2) / 32 % 256 → ltb k ((v - 2) / 32 / 256) ≡ judged next v b k
+  pub judged-early : 2 ≤ v → (v - 2) % 32 ≡ 3 → b ≡ (v - 2) / 32 % 256 → ltb k ((v - 2) / 32 / 256) ≡ judged es v b k
   unfolding judged
   judged-early h j e = sym (rw (le-ltb v 2 h, lt-leb ((v - 2) % 32) 1 (omega arith), eq-eqb ((v - 2) % 32) 3 j, eq-eqb b ((v - 2) / 32 % 256) e))
 
-  pub judged-lead : 2 ≤ v → (v - 2) % 32 ≡ 3 → (b ≡ (v - 2) / 32 % 256 → ⊥) → getD (leading next ((v - 2) / 32 % 256)) b false ≡ judged next v b k
+  pub judged-lead : 2 ≤ v → (v - 2) % 32 ≡ 3 → (b ≡ (v - 2) / 32 % 256 → ⊥) → getD (reachedFrom es b) ((v - 2) / 32 % 256) false ≡ judged es v b k
   unfolding judged
   judged-lead h j e = sym (rw (le-ltb v 2 h, lt-leb ((v - 2) % 32) 1 (omega arith), eq-eqb ((v - 2) % 32) 3 j, ne-eqb b ((v - 2) / 32 % 256) e))
 

@@ -10,10 +10,10 @@ use Rattle.read.specs.Reading.{reading}
 use Rattle.inst.specs.Inst.{kindOf}
 use Rattle.inst.specs.declared.Code.{Code}
 use Rattle.inst.specs.declared.Inst.{Inst}
-use Rattle.inst.specs.declared.Inst.the-variants as i
 use Rattle.roles.specs.Roles.{defsOf, readsOf}
 use Rattle.procedure.specs.Procedure.{Procedure, procedureOf}
-use Rattle.lead.specs.Lead.{Leads, leading}
+use Rattle.ends.specs.Ends.{endOf, targets}
+use Rattle.paths.specs.Paths.{Leads, reachedFrom}
 use Rattle.tidy.specs.declared.Tidiness.{Tidiness}
 
 -- an instruction, its block, and its place in that block
@@ -57,51 +57,20 @@ unfoldable pub writers : ℕ → List Field → List Placed
 writers r [] = []
 writers r (f ∷ fs) = cond (eqb (f .reg) r) (f .at ∷ writers r fs) (writers r fs)
 
--- "targets of Br and CondBr alone"
-abbrev pub targetsOf : Inst → List ℕ
-targetsOf (i.Const d v) = []
-targetsOf (i.ConstF d v) = []
-targetsOf (i.Move d s) = []
-targetsOf (i.AddrOf d s f) = []
-targetsOf (i.Select d c x y) = []
-targetsOf (i.Cmp op d x y) = []
-targetsOf (i.Bool op d x y) = []
-targetsOf (i.Bin op d x y) = []
-targetsOf (i.BinRange op d x y l h w) = []
-targetsOf (i.Load d a w) = []
-targetsOf (i.Store a s w) = []
-targetsOf (i.Check c v l h w) = []
-targetsOf (i.MakeDope a p) = []
-targetsOf (i.DopeLen d p n) = []
-targetsOf (i.BoundsLen d l r e) = []
-targetsOf (i.Alloc d s) = []
-targetsOf (i.TakeBounds l r e) = []
-targetsOf (i.CallNative n a d) = []
-targetsOf (i.Br t) = t .0 ∷ []
-targetsOf (i.CondBr c t f) = t .0 ∷ f .0 ∷ []
-targetsOf (i.Case v t) = []
-targetsOf (i.Ret v) = []
-targetsOf (i.Unreachable w) = []
-targetsOf i.Stmt = []
+-- "targets of Br and CondBr alone": those of each block
+abbrev pub edgesOf : Procedure → List (List ℕ)
+edgesOf p = map (λ c. targets (endOf c)) (p .blocks)
 
--- the last instruction of a block, its terminator
-abbrev pub lastOf : List Code → Inst
-lastOf [] = i.Stmt
-lastOf (c ∷ []) = c .inst
-lastOf (c ∷ d ∷ cs) = lastOf (d ∷ cs)
-
--- the targets of a block
-abbrev pub targetsAt : Procedure → ℕ → List ℕ
-targetsAt p a = targetsOf (lastOf (getD (p .blocks) a []))
-
--- "from which targets of Br and CondBr alone, over any number of blocks of the file as sent, lead to that block": `LeadsTo` says it, and `leads` computes it
+-- "from which targets of Br and CondBr alone, over any number of blocks of the file as sent, lead to that block":
+-- `LeadsTo` says it, and `leads` computes it
 abbrev pub LeadsTo : Procedure → ℕ → ℕ → Type 0
-LeadsTo p a t = Leads (targetsAt p) a t
+LeadsTo p a t = Leads (edgesOf p) a t
 
 abbrev pub leads : Procedure → ℕ → ℕ → Bool
-leads p a t = getD (leading (targetsAt p) t) a false
+leads p a t = getD (reachedFrom (edgesOf p) a) t false
 
--- "one singly written by AddrOf isn't read earlier in the block that writes it, nor in another block from which .. lead to that block": whether a read at place k of block b is one of these, of a register written at place y of block x
+-- "one singly written by AddrOf isn't read earlier in the block that writes it, nor in another block from which .. lead to
+-- that block": whether a read at place k of block b is one of these, of a register written at place y of block x
 abbrev pub tooEarly : (ℕ → ℕ → Bool) → ℕ → ℕ → ℕ → ℕ → Bool
 tooEarly lead x y b k = cond (eqb b x) (ltb k y) (lead b x)
 
@@ -124,7 +93,9 @@ onlyOne q (w ∷ v ∷ ws) = false
 
 -- a read offends: its register, one of the file's, has one writer, and is read wrongly for it
 unfoldable pub offends : Procedure → Field → Bool
-offends p f = ltb (f .reg) (length (p .registers)) && onlyOne (λ w. wrongFor (leads p) w (f .at)) (writers (f .reg) (written (placed p)))
+offends p f =
+    ltb (f .reg) (length (p .registers))
+    && onlyOne (λ w. wrongFor (leads p) w (f .at)) (writers (f .reg) (written (placed p)))
 
 -- the registers of the fields that a test finds
 unfoldable pub regsOf : (Field → Bool) → List Field → List ℕ

@@ -1,11 +1,13 @@
 ghost use mathlib.Core.Path.{_≡_};
 ghost use Rattle.format.specs.Record.{recordsOf};
-ghost use Rattle.read.specs.Parts.{LaidOut};
+ghost use Rattle.read.specs.Work.{LaidOut};
 ghost use Rattle.procedure.specs.Procedure.{procedureOf};
 ghost use Rattle.tidy.specs.Tidy.{offenders, verdict, tidiness};
-ghost use Rattle.tidy.specs.Work.{Fit};
+ghost use Rattle.tidy.specs.Work.Parts.{Fit};
 use layout::Layout;
 
+mod lead;
+mod parts;
 mod reads;
 mod targets;
 mod writers;
@@ -24,17 +26,15 @@ fn judge(b: &[u8], l: Layout) -> Tidiness
 {
     let mut ws = [0u32; 756];
     writers::note_blocks(b, l, &mut ws);
-    let mut targets = [160u32; 800];
+    let mut targets = [160u32; 320];
     targets::note_targets(b, l, &mut targets);
-    lead::thread(&mut targets);
-    let mut rows = [false; 25600];
     let s = Tidiness {
         number: 0,
         place: 0,
         tidy: 1,
         reg: 0,
     };
-    reads::read_blocks(b, l, &ws, &targets, &mut rows, s)
+    reads::read_blocks(b, l, &ws, &targets, s)
 }
 
 // Asks of a file whether it is tidy.
@@ -50,6 +50,6 @@ pub fn tidy(b: &[u8]) -> Tidiness
             reg: 0,
         };
     }
-    let l = layout::layout_of(b);
+    let l = parts::layout_in(b);
     judge(b, l)
 }

@@ -1,51 +1,50 @@
 ghost use mathlib.Core.Path.{_≡_};
-ghost use Prim.Native.Nat.{_+_, _*_, _<_};
-ghost use lib.ListN.{length, replicate};
-ghost use Rattle.lead.specs.Search.{Links};
+ghost use lib.ListN.{replicate};
 ghost use Rattle.format.specs.Record.{recordsOf};
-ghost use Rattle.codec.specs.Codec.{instOf};
-ghost use Rattle.tidy.specs.Tidy.{targetsOf};
-ghost use Rattle.tidy.specs.Work.{Pair, TargetsIn, Fit};
-use format::Record;
+ghost use Rattle.ends.specs.Ends.{targets as targetsIn};
+ghost use Rattle.tidy.specs.Work.Parts.{Fit};
+ghost use Rattle.tidy.specs.Work.Marks.{Pair, TargetsIn};
+use ends::End;
+use inst::BlockId;
 use layout::Layout;
 
 // The targets of a Br or a CondBr; 160 is none.
 pub struct Targets {
-    pub one: u32,
-    pub two: u32,
+    pub one: BlockId,
+    pub two: BlockId,
 }
 
-fn targets_of(r: Record) -> Targets
-    ensures { λ t. ⌜ Pair (targetsOf (instOf r)) (t .one) (t .two) ⌝ }
+fn targets_of(e: End) -> Targets
+    ensures { λ t. ⌜ Pair (targetsIn e) (t .one .0) (t .two .0) ⌝ }
 {
-    if r.kind == 18 {
-        return Targets {
-            one: r.p1,
-            two: r.p1,
-        };
+    let none = BlockId(160);
+    match e {
+        End::Br(to) => Targets { one: to, two: none },
+        End::CondBr(c, t, f) => Targets { one: t, two: f },
+        End::Case(n) => Targets {
+            one: none,
+            two: none,
+        },
+        End::Other => Targets {
+            one: none,
+            two: none,
+        },
     }
-    if r.kind == 19 {
-        return Targets {
-            one: r.p2,
-            two: r.p3,
-        };
-    }
-    Targets { one: 160, two: 160 }
 }
 
-// The targets of all blocks, two for each; the rest is for the chains of `lead`.
-pub fn note_targets(b: &[u8], l: Layout, targets: &mut [u32; 800])
-    requires { ⌜ Fit (recordsOf (now b)) l × (now targets ≡ replicate 800 160) ⌝ }
-    ensures { λ u. ⌜ TargetsIn (recordsOf (now (b .entry))) l (now (targets .exit)) × (length (now (targets .exit)) ≡ 800) × Links (now (targets .exit)) ⌝ }
+// The targets of all blocks, two for each.
+pub fn note_targets(b: &[u8], l: Layout, targets: &mut [u32; 320])
+    requires { ⌜ Fit (recordsOf (now b)) l × (now targets ≡ replicate 320 160) ⌝ }
+    ensures { λ u. ⌜ TargetsIn (recordsOf (now (b .entry))) l (now (targets .exit)) ⌝ }
 {
     let count = l.bodies - l.blocks;
     let mut k = 0;
     while k < count {
         let r = format::record_at(b, l.blocks + k);
-        let last = format::record_at(b, l.code + r.p2 as usize - 1);
-        let t = targets_of(last);
-        targets[2 * k] = t.one;
-        targets[2 * k + 1] = t.two;
+        let last = ends::inst_at(b, l.code + r.p2 as usize - 1);
+        let t = targets_of(ends::view_of(last));
+        targets[2 * k] = t.one.0;
+        targets[2 * k + 1] = t.two.0;
         k += 1;
     }
 }

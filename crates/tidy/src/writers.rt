@@ -2,29 +2,23 @@ ghost use mathlib.Core.Path.{_≡_};
 ghost use mathlib.Core.List.{map};
 ghost use Prim.Native.Nat.{_+_, _≤_, _<_};
 ghost use lib.ListN.{length, take};
-ghost use Rattle.format.specs.Record.{recordsOf, recordAt};
-ghost use Rattle.read.specs.Parts.{part};
-ghost use Rattle.codec.specs.Codec.{instOf, codeOf};
-ghost use Rattle.roles.specs.Roles.{defsOf};
-ghost use Rattle.tidy.specs.Tidy.{placedIn, placedFrom, fieldsAt, written};
-ghost use Rattle.tidy.specs.Work.{note, notes, noted, blocksIn, Fit};
-use inst::Inst;
+ghost use Rattle.format.specs.Record.{recordsOf};
+ghost use Rattle.read.specs.Work.{part};
+ghost use Rattle.codec.specs.Codec.{codeOf};
+ghost use Rattle.roles.specs.Roles.{numbersOf};
+ghost use Rattle.tidy.specs.Tidy.{placedIn, placedFrom, written};
+ghost use Rattle.tidy.specs.Work.Parts.{blocksIn, Fit};
+ghost use Rattle.tidy.specs.Work.Writers.{note, notes, noted, writtenAt};
+use inst::BlockId;
+use inst::Reg;
 use layout::Layout;
 use roles::Roles;
 
-// The instruction of a record.
-pub fn inst_at(b: &[u8], at: usize) -> Inst
-    ensures { λ i. ⌜ i ≡ instOf (recordAt (now (b .entry)) at) ⌝ }
-{
-    let r = format::record_at(b, at);
-    codec::inst_of(r)
-}
-
 // One more writer of r: the first is kept, and a second leaves 1.
-fn note_write(ws: &mut [u32], r: u32, v: u32)
-    ensures { λ u. ⌜ now (ws .exit) ≡ note (now (ws .entry)) r v ⌝ }
+fn note_write(ws: &mut [u32], r: Reg, v: u32)
+    ensures { λ u. ⌜ now (ws .exit) ≡ note (now (ws .entry)) (r .0) v ⌝ }
 {
-    let k = r as usize;
+    let k = r.0 as usize;
     if ws.len() <= k {
         return;
     }
@@ -37,29 +31,30 @@ fn note_write(ws: &mut [u32], r: u32, v: u32)
 
 fn note_defs(ws: &mut [u32], roles: Roles, v: u32)
     requires { ⌜ (roles .defs ≤ 5) × (length (roles .reg) ≡ 5) ⌝ }
-    ensures { λ u. ⌜ now (ws .exit) ≡ notes (now (ws .entry)) v (take (roles .defs) (roles .reg)) ⌝ }
+    ensures { λ u. ⌜ now (ws .exit) ≡ notes (now (ws .entry)) v (take (roles .defs) (numbersOf (roles .reg))) ⌝ }
 {
     let reg = roles.reg;
     let defs = roles.defs;
     let mut j = 0;
     while j < defs {
-        note_write(ws, reg[j], v);
+        let r = reg[j];
+        note_write(ws, r, v);
         j += 1;
     }
 }
 
-fn note_inst(b: &[u8], at: usize, block: u32, place: u32, ws: &mut [u32])
-    requires { ⌜ (block < 160) × (place ≤ 2048) ⌝ }
-    ensures { λ u. ⌜ now (ws .exit) ≡ noted (now (ws .entry)) (fieldsAt (record { block = block; place = place; inst = instOf (recordAt (now (b .entry)) at) }) (defsOf (instOf (recordAt (now (b .entry)) at)))) ⌝ }
+fn note_inst(b: &[u8], at: usize, block: BlockId, place: u32, ws: &mut [u32])
+    requires { ⌜ (block .0 < 160) × (place ≤ 2048) ⌝ }
+    ensures { λ u. ⌜ now (ws .exit) ≡ noted (now (ws .entry)) (writtenAt (now (b .entry)) at (block .0) place) ⌝ }
 {
-    let i = inst_at(b, at);
-    let v = 2 + (inst::kind(i) + 32 * (block + 256 * place));
+    let i = ends::inst_at(b, at);
+    let v = 2 + (inst::kind(i) + 32 * (block.0 + 256 * place));
     note_defs(ws, roles::roles_of(i), v);
 }
 
-fn note_block(b: &[u8], first: usize, count: usize, block: u32, ws: &mut [u32])
-    requires { ⌜ (first + count ≤ length (recordsOf (now b))) × (count ≤ 2048) × (block < 160) ⌝ }
-    ensures { λ u. ⌜ now (ws .exit) ≡ noted (now (ws .entry)) (written (placedIn block 0 (map codeOf (part first count (recordsOf (now (b .entry))))))) ⌝ }
+fn note_block(b: &[u8], first: usize, count: usize, block: BlockId, ws: &mut [u32])
+    requires { ⌜ (first + count ≤ length (recordsOf (now b))) × (count ≤ 2048) × (block .0 < 160) ⌝ }
+    ensures { λ u. ⌜ now (ws .exit) ≡ noted (now (ws .entry)) (written (placedIn (block .0) 0 (map codeOf (part first count (recordsOf (now (b .entry))))))) ⌝ }
 {
     let mut k = 0;
     while k < count {
@@ -78,7 +73,13 @@ pub fn note_blocks(b: &[u8], l: Layout, ws: &mut [u32])
     while k < count {
         let r = format::record_at(b, l.blocks + k);
         let start = r.p1 as usize;
-        note_block(b, l.code + start, r.p2 as usize - start, k as u32, ws);
+        note_block(
+            b,
+            l.code + start,
+            r.p2 as usize - start,
+            BlockId(k as u32),
+            ws,
+        );
         k += 1;
     }
 }

@@ -42,7 +42,7 @@ pub fn line(s: &Stored) -> String {
 
 /// Bytes in hexadecimal; `z` and two digits stand for that many zero bytes (1 to 255), `-` for
 /// no bytes at all.
-fn packed(bytes: &[u8]) -> String {
+pub fn packed(bytes: &[u8]) -> String {
     let mut s = String::new();
     let mut at = 0;
     while at < bytes.len() {
@@ -72,4 +72,15 @@ fn unpacked(s: &str) -> Vec<u8> {
         }
     }
     out
+}
+
+#[cfg(test)]
+mod tests {
+    use super::*;
+
+    #[test]
+    fn every_stored_line_reads_back() {
+        let lines = include_str!("../answers.txt").lines();
+        lines.for_each(|text| assert_eq!(line(&parse(text)), text));
+    }
 }

@@ -100,7 +100,7 @@ fn with_records(bytes: &[u8], at: usize, records: &[Record]) -> Vec<u8> {
 }
 
 /// CondBr, `n` lone Brs on its other arm, and the block where both meet.
-fn lone_brs_before_other_arm(n: u32) -> Draft {
+pub(crate) fn lone_brs_before_other_arm(n: u32) -> Draft {
     let mut blocks = vec![vec![cond_br(0, n + 1, 1)]];
     blocks.extend((1..=n).map(|b| vec![br(b + 1)]));
     blocks.push(vec![ret()]);
@@ -108,7 +108,7 @@ fn lone_brs_before_other_arm(n: u32) -> Draft {
 }
 
 /// Both arms reach one block over `n` lone Brs each.
-fn both_arms(n: u32) -> Draft {
+pub(crate) fn both_arms(n: u32) -> Draft {
     let mut blocks = vec![vec![stmt(), cond_br(0, 1, n + 1)]];
     let end = 2 * n + 1;
     blocks.extend((1..=2 * n).map(|b| vec![br(if b == n { end } else { b + 1 })]));
@@ -126,7 +126,7 @@ fn of_length(n: usize) -> Draft {
 
 /// Stmt and Br to a chain of `n` lone Brs, which leads to a block too long to copy; the chain
 /// stands in the file's order or against it.
-fn chain(n: u32, reversed: bool) -> Draft {
+pub(crate) fn chain(n: u32, reversed: bool) -> Draft {
     let link = |k: u32| if reversed { n + 1 - k } else { k };
     let mut blocks = vec![vec![stmt(), br(link(1))]];
     for b in 1..=n {
@@ -140,7 +140,7 @@ fn chain(n: u32, reversed: bool) -> Draft {
 
 /// `takers` lone Brs to one block of `size` instructions, more than the budget lets copy, and
 /// `pad` Stmts.
-fn spent(takers: u32, pad: usize, size: usize) -> Draft {
+pub(crate) fn spent(takers: u32, pad: usize, size: usize) -> Draft {
     let mut blocks: Vec<Vec<Record>> = (0..takers).map(|_| vec![br(takers)]).collect();
     let mut shared = vec![mov(0, 1); size - 1];
     shared.push(ret());
@@ -227,7 +227,7 @@ fn mistakes() -> Vec<(&'static str, Draft)> {
 }
 
 /// r1 is written `n` times by Const, one of these in a block that isn't reached.
-fn written_often(n: usize) -> Draft {
+pub(crate) fn written_often(n: usize) -> Draft {
     let mut first = vec![constant(1, 7); n - 1];
     first.extend([stmt(), br(2)]);
     let blocks = vec![first, vec![constant(1, 7), br(2)], vec![cond_br(0, 0, 3)], vec![ret()]];

@@ -4,16 +4,22 @@
 
 pub mod answer;
 pub mod answers;
+pub mod buffer;
 pub mod cases;
 pub mod draft;
 pub mod generate;
+pub mod library;
+pub mod limits;
 pub mod listing;
 pub mod machine;
 pub mod procedure;
 pub mod read;
 pub mod record;
+pub mod reduce;
 pub mod self_test;
+pub mod sorts;
 pub mod stream;
+pub mod tally;
 pub mod tidy;
 
 #[cfg(published)]
@@ -28,7 +34,8 @@ use published as inst;
 #[cfg(published)]
 mod opt;
 #[cfg(published)]
-mod probe;
+pub mod plain;
+pub mod probe;
 #[cfg(published)]
 mod program;
 #[cfg(published)]

@@ -21,6 +21,7 @@ pub trait Number {
 numbers! { BlockId CaseTableId CheckMsgId ConstId CovItem ForeignId FuncId NativeId StmtId TyId }
 
 /// A vector asked by number.
+#[derive(Clone)]
 pub struct Numbered<T>(pub Vec<T>);
 
 impl<T> Numbered<T> {
@@ -56,6 +57,7 @@ pub struct Program {
     pub cases: Numbered<CaseTable>,
 }
 
+#[derive(Clone)]
 pub struct Func {
     pub reg_ty: Vec<RegTy>,
     pub blocks: Numbered<Block>,

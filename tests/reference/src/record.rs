@@ -49,13 +49,16 @@ pub struct Record {
 }
 
 impl Record {
+    #[inline]
     pub fn new(class: u8, kind: u8, op: u8, statement: u32, places: &[u32]) -> Record {
         let mut p = [0; 6];
         p[..places.len()].copy_from_slice(places);
         Record { class, kind, op, zero: 0, statement, p }
     }
 
+    #[inline]
     pub fn from_bytes(b: &[u8]) -> Record {
+        let b: &[u8; RECORD] = b.try_into().expect("the bytes of one record");
         let word = |at: usize| u32::from_le_bytes([b[at], b[at + 1], b[at + 2], b[at + 3]]);
         let p = std::array::from_fn(|k| word(8 + 4 * k));
         Record { class: b[0], kind: b[1], op: b[2], zero: b[3], statement: word(4), p }

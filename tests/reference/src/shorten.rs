@@ -4,21 +4,17 @@ use crate::answer::Answer;
 use crate::inst::*;
 use crate::procedure::{Procedure, Table};
 use crate::program::*;
-use crate::read::read;
+use crate::read::{Refusal, read};
 use crate::record::{INSTRUCTION, Place, Record, halves, kind, places};
 
 pub const MAX_REGISTERS: usize = 480;
 pub const MAX_INSTRUCTIONS: usize = 480;
 
 pub fn shorten(bytes: &[u8], room: usize) -> Answer {
-    let count = match read(bytes) {
-        Ok(count) => count,
+    let mut p = match accepted(bytes) {
+        Ok(p) => p,
         Err((number, record)) => return Answer::refused(number, record),
     };
-    if count[0] > MAX_REGISTERS || count[3] > MAX_INSTRUCTIONS {
-        return Answer::refused(8, 0);
-    }
-    let mut p = Procedure::from_bytes(bytes);
     let prog = Program { cases: Numbered(p.tables.iter().map(case_table).collect()) };
     let mut f = func(&p);
     crate::probe::take();
@@ -33,12 +29,21 @@ pub fn shorten(bytes: &[u8], room: usize) -> Answer {
     Answer { number: 0, record: 0, moved: u32::from(moved), grown, fresh, rescued, output }
 }
 
-fn case_table(t: &Table) -> CaseTable {
+/// The procedure of a file that Read accepts within the shortening limits.
+fn accepted(bytes: &[u8]) -> Result<Procedure, Refusal> {
+    let count = read(bytes)?;
+    if count[0] > MAX_REGISTERS || count[3] > MAX_INSTRUCTIONS {
+        return Err((8, 0));
+    }
+    Ok(Procedure::from_bytes(bytes))
+}
+
+pub(crate) fn case_table(t: &Table) -> CaseTable {
     let arms = t.arms.iter().map(|&(low, high, to)| (low, high, BlockId(to))).collect();
     CaseTable { arms, default: BlockId(t.default) }
 }
 
-fn func(p: &Procedure) -> Func {
+pub(crate) fn func(p: &Procedure) -> Func {
     Func {
         reg_ty: p.registers.iter().map(|&k| REG_TYPES[k as usize]).collect(),
         blocks: Numbered(p.blocks.iter().map(|&(start, end)| Block { start, end }).collect()),
@@ -57,7 +62,7 @@ fn take_back(p: &mut Procedure, f: &Func) {
     p.code = f.code.iter().zip(&f.loc).map(|(i, s)| record(i, s.0)).collect();
 }
 
-const REG_TYPES: [RegTy; 5] = [RegTy::I64, RegTy::F64, RegTy::Ptr, RegTy::Sig, RegTy::Handle];
+pub(crate) const REG_TYPES: [RegTy; 5] = [RegTy::I64, RegTy::F64, RegTy::Ptr, RegTy::Sig, RegTy::Handle];
 const WIDTHS: [Width; 4] = [Width::B1, Width::B4, Width::B8, Width::Sig];
 const CMPS: [CmpOp; 6] = [CmpOp::Eq, CmpOp::Ne, CmpOp::Lt, CmpOp::Le, CmpOp::Gt, CmpOp::Ge];
 const BOOLS: [BoolOp; 4] = [BoolOp::And, BoolOp::Or, BoolOp::Xor, BoolOp::Not];
@@ -87,7 +92,7 @@ fn space_number(s: AddrSpace) -> (u8, u32) {
     }
 }
 
-fn inst(r: &Record) -> Inst {
+pub(crate) fn inst(r: &Record) -> Inst {
     let reg = |k: usize| Reg(r.p[k - 1]);
     let block = |k: usize| BlockId(r.p[k - 1]);
     let what = |k: usize| CheckMsgId(r.p[k - 1]);
@@ -125,7 +130,7 @@ fn inst(r: &Record) -> Inst {
     }
 }
 
-fn record(i: &Inst, statement: u32) -> Record {
+pub(crate) fn record(i: &Inst, statement: u32) -> Record {
     fn at<T: PartialEq>(all: &[T], x: &T) -> u8 {
         all.iter().position(|y| y == x).expect("a listed op") as u8
     }

@@ -1,6 +1,6 @@
-use Rattle.ops.proofs.Laws.{past}
 use Rattle.codec.proofs.Table.{inst-at, inst-past}
 use borrow.Author.Needs.{needs}
+use Rattle.general.proofs.Numbers.{past}
 use Rattle.codec.proofs.inst_of.Statement.{statement}
 use Rattle.codec.proofs.inst_of.Tie as tie
 

@@ -6,40 +6,36 @@ use borrow.Author.Needs.{needs}
 use denote.Ref.{now}
 use lib.ListN.{length, getD, drop}
 use Rattle.inst.specs.declared.Code.{Code}
-use Rattle.steps.specs.Ends.{endOf}
 use Rattle.steps.specs.Gate.{backEdgeFrom, hasBackEdge}
-use Rattle.ends.specs.Shown.{shown}
-use Rattle.gate.specs.Blocks.{blocksOf, goesBack}
-use Rattle.gate.proofs.Parts.{length-blocks}
-use Rattle.gate.proofs.Laws.{back-shown, back-pass, back-stop, back-end}
+use Rattle.blocks.specs.Blocks.{blocksOf}
+use Rattle.blocks.proofs.Parts.{length-blocks}
+use Rattle.gate.proofs.Laws.{back, back-pass, back-stop, back-end}
 use Rattle.gate.proofs.has_back_edge.Statement.{statement}
 use Rattle.gate.proofs.has_back_edge.Tie as tie
 
 abbrev Inv-loop : tie.InvT-loop
-Inv-loop code blocks n b₀ b = (b ≤ n) × (n ≡ length blocks / 32) × (backEdgeFrom b (drop b (blocksOf code blocks)) ≡ hasBackEdge (blocksOf code blocks))
+Inv-loop code table n b₀ b =
+    (b ≤ n) × (n ≡ length table / 32) × (backEdgeFrom b (drop b (blocksOf code table)) ≡ hasBackEdge (blocksOf code table))
 
 abbrev μ-loop : tie.MeasureT-loop
-μ-loop code blocks n b₀ b = n - b
+μ-loop code table n b₀ b = n - b
 
 loop-holds : tie.Need-loop-holds Inv-loop μ-loop
 loop-holds c = (omega arith, refl, refl)
 
-block-requires : tie.Need-block-requires Inv-loop μ-loop
-block-requires c κs = search needs
-
-end-of-requires : tie.Need-end-of-requires Inv-loop μ-loop
-end-of-requires c κs = search needs
+end-at-requires : tie.Need-end-at-requires Inv-loop μ-loop
+end-at-requires c κs = search needs
 
 goes-back-requires : tie.Need-goes-back-requires Inv-loop μ-loop
 goes-back-requires c κs = search needs
 
 returns : tie.Need-returns Inv-loop μ-loop
-returns c = let l = c .before .before .before .before .before in
+returns c = let l = c .before .before .before .before in
     let a = l .before .before .before .args in
-    let p = blocksOf (now (a .code)) (now (a .blocks)) in
-    let n = length-blocks (now (a .code)) (now (a .blocks)) in
-    let t = sym (c .before .goes-back .ensures ∙ ap (goesBack (l .loop .b)) (c .before .before .end-of .ensures ∙ ap (λ (x : List Code). shown (endOf x)) (c .before .before .before .block .ensures)) ∙ back-shown (l .loop .b) (endOf (getD p (l .loop .b) []))) in
-    back-stop p (l .loop .b) (rw n (c .before .before .before .before .loop-test .taken)) (t ∙ c .if1 .taken) ∙ l .loop .inv .2
+    let p = blocksOf (now (a .code)) (now (a .table)) in
+    let n = length-blocks (now (a .code)) (now (a .table)) in
+    let t = sym (c .before .goes-back .ensures ∙ ap (back (l .loop .b)) (c .before .before .end-at .ensures)) in
+    back-stop p (l .loop .b) (rw n (c .before .before .before .loop-test .taken)) (t ∙ c .if1 .taken) ∙ l .loop .inv .2
 
 add-b : tie.Need-add-b Inv-loop μ-loop
 add-b c = search needs
@@ -48,18 +44,18 @@ loop-less : tie.Need-loop-less Inv-loop μ-loop
 loop-less c = search needs
 
 loop-again : tie.Need-loop-again Inv-loop μ-loop
-loop-again c = let l = c .before .before .before .before .before in
+loop-again c = let l = c .before .before .before .before in
     let a = l .before .before .before .args in
-    let p = blocksOf (now (a .code)) (now (a .blocks)) in
-    let n = length-blocks (now (a .code)) (now (a .blocks)) in
-    let t = sym (c .before .goes-back .ensures ∙ ap (goesBack (l .loop .b)) (c .before .before .end-of .ensures ∙ ap (λ (x : List Code). shown (endOf x)) (c .before .before .before .block .ensures)) ∙ back-shown (l .loop .b) (endOf (getD p (l .loop .b) []))) in
-    (omega arith, l .loop .inv .1, back-pass p (l .loop .b) (rw n (c .before .before .before .before .loop-test .taken)) (t ∙ c .if1 .left) ∙ l .loop .inv .2)
+    let p = blocksOf (now (a .code)) (now (a .table)) in
+    let n = length-blocks (now (a .code)) (now (a .table)) in
+    let t = sym (c .before .goes-back .ensures ∙ ap (back (l .loop .b)) (c .before .before .end-at .ensures)) in
+    (omega arith, l .loop .inv .1, back-pass p (l .loop .b) (rw n (c .before .before .before .loop-test .taken)) (t ∙ c .if1 .left) ∙ l .loop .inv .2)
 
 returns-2 : tie.Need-returns-2 Inv-loop μ-loop
 returns-2 c = let l = c .before in
     let a = l .before .before .before .args in
-    let p = blocksOf (now (a .code)) (now (a .blocks)) in
-    let n = length-blocks (now (a .code)) (now (a .blocks)) in
+    let p = blocksOf (now (a .code)) (now (a .table)) in
+    let n = length-blocks (now (a .code)) (now (a .table)) in
     back-end p (l .loop .b) (rw n (omega arith)) ∙ l .loop .inv .2
 
 pub has-back-edge-spec : {M : Type 1} → statement M
@@ -69,8 +65,7 @@ has-back-edge-spec =
     Inv-loop
     μ-loop
     loop-holds
-    block-requires
-    end-of-requires
+    end-at-requires
     goes-back-requires
     returns
     add-b

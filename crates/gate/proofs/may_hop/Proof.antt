@@ -1,25 +1,16 @@
 use mathlib.Core.Path.{refl, sym, ap, _∙_}
 use mathlib.Core.Bool.{not}
-use mathlib.Core.List.{List, []}
 use borrow.Author.Tests.{eq-eqb, ne-eqb}
 use denote.Ref.{now}
-use lib.ListN.{getD}
-use Rattle.inst.specs.declared.Code.{Code}
-use Rattle.shape.proofs.Laws.{both}
-use Rattle.read.proofs.Laws.{either, otherwise}
-use Rattle.steps.specs.Ends.{endOf}
-use Rattle.ends.specs.Shown.{shown}
-use Rattle.gate.specs.Blocks.{blocksOf}
-use Rattle.gate.proofs.Laws.{hops, hops-shown}
+use Rattle.general.proofs.Booleans.{both, either, otherwise}
+use Rattle.steps.specs.Gate.{mayHop}
+use Rattle.blocks.specs.Blocks.{blocksOf}
 use borrow.Author.Needs.{needs}
 use Rattle.gate.proofs.may_hop.Statement.{statement}
 use Rattle.gate.proofs.may_hop.Tie as tie
 
-block-requires : tie.Need-block-requires
-block-requires c κs = search needs
-
-end-of-requires : tie.Need-end-of-requires
-end-of-requires c κs = search needs
+end-at-requires : tie.Need-end-at-requires
+end-at-requires c κs = search needs
 
 enum-known-e : tie.Need-enum-known-e
 enum-known-e c = search needs
@@ -33,14 +24,8 @@ copied-requires c κs = search needs
 enum-known-e-2 : tie.Need-enum-known-e-2
 enum-known-e-2 c = search needs
 
-cast-lone-cond-br : tie.Need-cast-lone-cond-br
-cast-lone-cond-br c = search needs
-
 lone-cond-br-requires : tie.Need-lone-cond-br-requires
 lone-cond-br-requires c κs = search needs
-
-cast-lone-cond-br-2 : tie.Need-cast-lone-cond-br-2
-cast-lone-cond-br-2 c = search needs
 
 lone-cond-br-requires-2 : tie.Need-lone-cond-br-requires-2
 lone-cond-br-requires-2 c κs = search needs
@@ -52,60 +37,63 @@ enum-told-2 : tie.Need-enum-told-2
 enum-told-2 c = search needs
 
 returns : tie.Need-returns
-returns c = let a = c .before .before .before .before .before .before .before .before .before .before .args in
-    let p = blocksOf (now (a .code)) (now (a .blocks)) in
-    let h = hops (a .wide) p (a .a) in
-    let w = ap h (c .before .before .before .before .before .before .end-of .ensures ∙ ap (λ (x : List Code). shown (endOf x)) (c .before .before .before .before .before .before .before .block .ensures)) ∙ hops-shown (a .wide) p (a .a) (endOf (getD p (a .a) [])) in
-    both refl (ap not (ne-eqb _ _ (c .before .if1 .taken))) (c .copied .ensures) ∙ sym (ap h (c .before .before .before .before .e .given .1)) ∙ w
+returns c =
+    let x = c .before .before .before .before .before .before in
+    let a = x .before .before .before .args in
+    let p = blocksOf (now (a .code)) (now (a .table)) in
+    let h = mayHop (a .wide) p (a .a) in
+    both refl (ap not (ne-eqb _ _ (c .before .if1 .taken))) (c .copied .ensures) ∙ sym (ap h (c .before .before .before .before .e .given .1)) ∙ ap h (x .end-at .ensures)
 
 returns-2 : tie.Need-returns-2
-returns-2 c = let a = c .before .before .before .before .before .before .before .before .before .args in
-    let p = blocksOf (now (a .code)) (now (a .blocks)) in
-    let h = hops (a .wide) p (a .a) in
-    let w = ap h (c .before .before .before .before .before .end-of .ensures ∙ ap (λ (x : List Code). shown (endOf x)) (c .before .before .before .before .before .before .block .ensures)) ∙ hops-shown (a .wide) p (a .a) (endOf (getD p (a .a) [])) in
-    rw (eq-eqb _ _ (c .if1 .left)) refl ∙ sym (ap h (c .before .before .before .e .given .1)) ∙ w
+returns-2 c =
+    let x = c .before .before .before .before .before in
+    let a = x .before .before .before .args in
+    let p = blocksOf (now (a .code)) (now (a .table)) in
+    let h = mayHop (a .wide) p (a .a) in
+    rw (eq-eqb _ _ (c .if1 .left)) refl ∙ sym (ap h (c .before .before .before .e .given .1)) ∙ ap h (x .end-at .ensures)
 
 returns-3 : tie.Need-returns-3
-returns-3 c = let a = c .before .before .before .before .before .before .before .before .before .before .args in
-    let p = blocksOf (now (a .code)) (now (a .blocks)) in
-    let h = hops (a .wide) p (a .a) in
-    let w = ap h (c .before .before .before .before .before .before .end-of .ensures ∙ ap (λ (x : List Code). shown (endOf x)) (c .before .before .before .before .before .before .before .block .ensures)) ∙ hops-shown (a .wide) p (a .a) (endOf (getD p (a .a) [])) in
-    c .if2 .taken ∙ either _ (sym (c .before .lone-cond-br .ensures) ∙ c .if2 .taken) ∙ sym (ap h (c .before .before .before .before .e2 .given .1)) ∙ w
+returns-3 c =
+    let x = c .before .before .before .before .before in
+    let a = x .before .before .before .args in
+    let p = blocksOf (now (a .code)) (now (a .table)) in
+    let h = mayHop (a .wide) p (a .a) in
+    c .if2 .taken ∙ either _ (sym (c .before .lone-cond-br .ensures) ∙ c .if2 .taken) ∙ sym (ap h (c .before .before .before .e2 .given .1)) ∙ ap h (x .end-at .ensures)
 
 returns-4 : tie.Need-returns-4
-returns-4 c = let a = c .before .before .before .before .before .before .before .before .before .before .before .before .args in
-    let p = blocksOf (now (a .code)) (now (a .blocks)) in
-    let h = hops (a .wide) p (a .a) in
-    let w = ap h (c .before .before .before .before .before .before .before .before .end-of .ensures ∙ ap (λ (x : List Code). shown (endOf x)) (c .before .before .before .before .before .before .before .before .before .block .ensures)) ∙ hops-shown (a .wide) p (a .a) (endOf (getD p (a .a) [])) in
-    otherwise (sym (c .before .before .before .lone-cond-br .ensures) ∙ c .before .before .if2 .left) (c .lone-cond-br2 .ensures) ∙ sym (ap h (c .before .before .before .before .before .before .e2 .given .1)) ∙ w
+returns-4 c =
+    let x = c .before .before .before .before .before .before in
+    let a = x .before .before .before .args in
+    let p = blocksOf (now (a .code)) (now (a .table)) in
+    let h = mayHop (a .wide) p (a .a) in
+    otherwise (sym (c .before .before .lone-cond-br .ensures) ∙ c .before .if2 .left) (c .lone-cond-br2 .ensures) ∙ sym (ap h (c .before .before .before .before .e2 .given .1)) ∙ ap h (x .end-at .ensures)
 
 returns-5 : tie.Need-returns-5
-returns-5 c = let a = c .before .before .before .before .before .before .args in
-    let p = blocksOf (now (a .code)) (now (a .blocks)) in
-    let h = hops (a .wide) p (a .a) in
-    let w = ap h (c .before .before .end-of .ensures ∙ ap (λ (x : List Code). shown (endOf x)) (c .before .before .before .block .ensures)) ∙ hops-shown (a .wide) p (a .a) (endOf (getD p (a .a) [])) in
-    sym (ap h (c .enum-told .given .1)) ∙ w
+returns-5 c =
+    let x = c .before .before in
+    let a = x .before .before .before .args in
+    let p = blocksOf (now (a .code)) (now (a .table)) in
+    let h = mayHop (a .wide) p (a .a) in
+    sym (ap h (c .enum-told .given .1)) ∙ ap h (x .end-at .ensures)
 
 returns-6 : tie.Need-returns-6
-returns-6 c = let a = c .before .before .before .before .before .before .args in
-    let p = blocksOf (now (a .code)) (now (a .blocks)) in
-    let h = hops (a .wide) p (a .a) in
-    let w = ap h (c .before .before .end-of .ensures ∙ ap (λ (x : List Code). shown (endOf x)) (c .before .before .before .block .ensures)) ∙ hops-shown (a .wide) p (a .a) (endOf (getD p (a .a) [])) in
-    sym (ap h (c .enum-told2 .given .1)) ∙ w
+returns-6 c =
+    let x = c .before .before in
+    let a = x .before .before .before .args in
+    let p = blocksOf (now (a .code)) (now (a .table)) in
+    let h = mayHop (a .wide) p (a .a) in
+    sym (ap h (c .enum-told2 .given .1)) ∙ ap h (x .end-at .ensures)
 
 pub may-hop-spec : {M : Type 1} → statement M
 may-hop-spec =
     tie.close
     (tie.spec
-    block-requires
-    end-of-requires
+    end-at-requires
     enum-known-e
     cast-if1
     copied-requires
     enum-known-e-2
-    cast-lone-cond-br
     lone-cond-br-requires
-    cast-lone-cond-br-2
     lone-cond-br-requires-2
     enum-told
     enum-told-2

@@ -5,17 +5,19 @@ use borrow.Author.Needs.{needs}
 use denote.Ref.{now}
 use lib.ListN.{length, drop}
 use Rattle.steps.specs.Gate.{mayThreadFrom, mayThread}
-use Rattle.gate.specs.Blocks.{blocksOf}
-use Rattle.gate.proofs.Parts.{length-blocks}
+use Rattle.blocks.specs.Blocks.{blocksOf}
+use Rattle.blocks.proofs.Parts.{length-blocks}
 use Rattle.gate.proofs.Laws.{hop-pass, hop-stop, hop-end}
 use Rattle.gate.proofs.may_thread.Statement.{statement}
 use Rattle.gate.proofs.may_thread.Tie as tie
 
 abbrev Inv-loop : tie.InvT-loop
-Inv-loop code blocks wide n a₀ a = (a ≤ n) × (n ≡ length blocks / 32) × (mayThreadFrom wide (blocksOf code blocks) a (drop a (blocksOf code blocks)) ≡ mayThread wide (blocksOf code blocks))
+Inv-loop code table wide n a₀ a =
+    let P = blocksOf code table in
+    (a ≤ n) × (n ≡ length table / 32) × (mayThreadFrom wide P a (drop a P) ≡ mayThread wide P)
 
 abbrev μ-loop : tie.MeasureT-loop
-μ-loop code blocks wide n a₀ a = n - a
+μ-loop code table wide n a₀ a = n - a
 
 loop-holds : tie.Need-loop-holds Inv-loop μ-loop
 loop-holds c = (omega arith, refl, refl)
@@ -26,8 +28,8 @@ may-hop-requires c κs = search needs
 returns : tie.Need-returns Inv-loop μ-loop
 returns c = let l = c .before .before .before in
     let a = l .before .before .before .args in
-    let p = blocksOf (now (a .code)) (now (a .blocks)) in
-    let n = length-blocks (now (a .code)) (now (a .blocks)) in
+    let p = blocksOf (now (a .code)) (now (a .table)) in
+    let n = length-blocks (now (a .code)) (now (a .table)) in
     hop-stop p (l .loop .a) (a .wide) p (rw n (c .before .before .loop-test .taken)) (sym (c .before .may-hop .ensures) ∙ c .if1 .taken) ∙ l .loop .inv .2
 
 add-a : tie.Need-add-a Inv-loop μ-loop
@@ -39,15 +41,15 @@ loop-less c = search needs
 loop-again : tie.Need-loop-again Inv-loop μ-loop
 loop-again c = let l = c .before .before .before in
     let a = l .before .before .before .args in
-    let p = blocksOf (now (a .code)) (now (a .blocks)) in
-    let n = length-blocks (now (a .code)) (now (a .blocks)) in
+    let p = blocksOf (now (a .code)) (now (a .table)) in
+    let n = length-blocks (now (a .code)) (now (a .table)) in
     (omega arith, l .loop .inv .1, hop-pass p (l .loop .a) (a .wide) p (rw n (c .before .before .loop-test .taken)) (sym (c .before .may-hop .ensures) ∙ c .if1 .left) ∙ l .loop .inv .2)
 
 returns-2 : tie.Need-returns-2 Inv-loop μ-loop
 returns-2 c = let l = c .before in
     let a = l .before .before .before .args in
-    let p = blocksOf (now (a .code)) (now (a .blocks)) in
-    let n = length-blocks (now (a .code)) (now (a .blocks)) in
+    let p = blocksOf (now (a .code)) (now (a .table)) in
+    let n = length-blocks (now (a .code)) (now (a .table)) in
     hop-end p (l .loop .a) (a .wide) p (rw n (omega arith)) ∙ l .loop .inv .2
 
 pub may-thread-spec : {M : Type 1} → statement M

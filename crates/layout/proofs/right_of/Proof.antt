@@ -1,7 +1,7 @@
 use mathlib.Core.Path.{refl, _∙_}
 use borrow.Author.Tests.{eq-eqb, ne-eqb}
-use Rattle.shape.proofs.Laws.{both, neither}
 use borrow.Author.Needs.{needs}
+use Rattle.general.proofs.Booleans.{both, neither}
 use Rattle.layout.proofs.right_of.Statement.{statement}
 use Rattle.layout.proofs.right_of.Tie as tie
 

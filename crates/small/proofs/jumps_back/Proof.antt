@@ -1,5 +1,5 @@
 use mathlib.Core.Path.{sym, ap}
-use Rattle.small.specs.Flags.{jumpsBack}
+use Rattle.steps.specs.Small.{jumpsBack}
 use borrow.Author.Needs.{needs}
 use Rattle.small.proofs.jumps_back.Statement.{statement}
 use Rattle.small.proofs.jumps_back.Tie as tie

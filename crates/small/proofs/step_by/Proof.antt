@@ -1,11 +1,11 @@
 use mathlib.Core.Path.{refl, sym, ap, _∙_}
-use mathlib.Core.List.{[], _∷_}
+use mathlib.Core.List.{List, [], _∷_}
 use mathlib.Core.Bool.{false, _||_}
 use Prim.Native.Nat.{ℕ}
 use lib.Dec.{eqb}
+use Rattle.general.proofs.Booleans.{both, neither}
 use Rattle.inst.proofs.Tags.{by-kind}
-use Rattle.inst.specs.declared.Inst.{Inst}
-use Rattle.shape.proofs.Laws.{both, neither}
+use Rattle.ends.specs.Forms.{formOf}
 use Rattle.steps.specs.Small.{stepBy}
 use Rattle.small.proofs.Laws.{no-step}
 use borrow.Author.Needs.{needs}
@@ -25,19 +25,22 @@ add-or-sub-requires-2 : tie.Need-add-or-sub-requires-2
 add-or-sub-requires-2 c κs = search needs
 
 returns : tie.Need-returns
-unfolding stepBy
-returns c = c .add-or-sub .ensures ∙ sym (ap (λ (x : Inst). stepBy (c .before .before .before .before .args .wide) x) (c .before .before .i .given .1))
+unfolding stepBy formOf
+returns c = c .add-or-sub .ensures ∙ sym (ap (stepBy (c .before .before .before .before .args .wide)) (c .before .before .i .given .1))
 
 returns-2 : tie.Need-returns-2
-unfolding stepBy
-returns-2 c = both refl (c .before .if1 .taken) (c .add-or-sub2 .ensures) ∙ sym (ap (λ (x : Inst). stepBy (c .before .before .before .before .before .args .wide) x) (c .before .before .before .i2 .given .1))
+unfolding stepBy formOf
+returns-2 c = both refl (c .before .if1 .taken) (c .add-or-sub2 .ensures) ∙ sym (ap (stepBy (c .before .before .before .before .before .args .wide)) (c .before .before .before .i2 .given .1))
 
 returns-3 : tie.Need-returns-3
-unfolding stepBy
-returns-3 c = c .if1 .left ∙ neither _ refl (c .if1 .left) ∙ sym (ap (λ (x : Inst). stepBy (c .before .before .before .before .args .wide) x) (c .before .before .i2 .given .1))
+unfolding stepBy formOf
+returns-3 c = c .if1 .left ∙ neither _ refl (c .if1 .left) ∙ sym (ap (stepBy (c .before .before .before .before .args .wide)) (c .before .before .i2 .given .1))
 
 returns-4 : tie.Need-returns-4
-returns-4 c = sym (no-step (c .before .args .wide) (c .before .args .i) (sym (by-kind (λ (k : ℕ). eqb k 7 || eqb k 8) false (0 ∷ 1 ∷ 2 ∷ 3 ∷ 4 ∷ 5 ∷ 6 ∷ 9 ∷ 10 ∷ 11 ∷ 12 ∷ 13 ∷ 14 ∷ 15 ∷ 16 ∷ 17 ∷ 18 ∷ 19 ∷ 20 ∷ 21 ∷ 22 ∷ 23 ∷ []) (c .before .args .i) tt (c .match .keys3))))
+returns-4 c =
+    let a = c .before .args in
+    let others : List ℕ = 0 ∷ 1 ∷ 2 ∷ 3 ∷ 4 ∷ 5 ∷ 6 ∷ 9 ∷ 10 ∷ 11 ∷ 12 ∷ 13 ∷ 14 ∷ 15 ∷ 16 ∷ 17 ∷ 18 ∷ 19 ∷ 20 ∷ 21 ∷ 22 ∷ 23 ∷ [] in
+    sym (no-step (a .wide) (a .i) (sym (by-kind (λ (k : ℕ). eqb k 7 || eqb k 8) false others (a .i) tt (c .match .keys3))))
 
 pub step-by-spec : {M : Type 1} → statement M
 step-by-spec =

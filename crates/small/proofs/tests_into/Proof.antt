@@ -1,6 +1,6 @@
 use borrow.Author.Tests.{eq-eqb, ne-eqb}
 use mathlib.Core.Path.{refl, sym, ap, _∙_}
-use Rattle.small.specs.Flags.{testsInto}
+use Rattle.steps.specs.Small.{testsInto}
 use borrow.Author.Needs.{needs}
 use Rattle.small.proofs.tests_into.Statement.{statement}
 use Rattle.small.proofs.tests_into.Tie as tie
@@ -27,10 +27,14 @@ returns : tie.Need-returns
 returns c = search needs
 
 returns-2 : tie.Need-returns-2
-returns-2 c = rw (eq-eqb _ _ (c .if1 .taken)) refl ∙ sym (ap (testsInto (c .before .before .before .before .before .args .l)) (c .before .before .before .e .given .1))
+returns-2 c =
+    let b = c .before .before .before in
+    rw (eq-eqb _ _ (c .if1 .taken)) refl ∙ sym (ap (testsInto (b .before .before .args .l)) (b .e .given .1))
 
 returns-3 : tie.Need-returns-3
-returns-3 c = rw (ne-eqb _ _ (c .before .if1 .left)) refl ∙ sym (ap (testsInto (c .before .before .before .before .before .before .args .l)) (c .before .before .before .before .e .given .1))
+returns-3 c =
+    let b = c .before .before .before .before in
+    rw (ne-eqb _ _ (c .before .if1 .left)) refl ∙ sym (ap (testsInto (b .before .before .args .l)) (b .e .given .1))
 
 returns-4 : tie.Need-returns-4
 returns-4 c = search needs

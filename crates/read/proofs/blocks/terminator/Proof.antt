@@ -1,6 +1,6 @@
 use mathlib.Core.Path.{refl, _∙_}
 use borrow.Author.Tests.{le-leb, lt-leb}
-use Rattle.shape.proofs.Laws.{both, neither}
+use Rattle.general.proofs.Booleans.{both, neither}
 use Rattle.read.proofs.blocks.terminator.Statement.{statement}
 use Rattle.read.proofs.blocks.terminator.Tie as tie
 

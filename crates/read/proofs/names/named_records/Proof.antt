@@ -5,11 +5,12 @@ use borrow.Author.Needs.{needs}
 use borrow.Author.Tests.{not-true, not-false}
 use denote.Ref.{now}
 use lib.ListN.{length, drop}
+use Rattle.general.proofs.Booleans.{told}
 use Rattle.format.specs.Record.{recordsOf, blank}
 use Rattle.format.proofs.Laws.{length-records}
 use Rattle.shape.specs.Exist.{namesExist}
 use Rattle.layout.specs.Walk.{lead}
-use Rattle.layout.proofs.Walks.{lead-pass, lead-stop, lead-end, told}
+use Rattle.layout.proofs.Walks.{lead-pass, lead-stop, lead-end}
 use Rattle.read.proofs.names.named_records.Statement.{statement}
 use Rattle.read.proofs.names.named_records.Tie as tie
 
@@ -29,10 +30,13 @@ names-exist-requires : tie.Need-names-exist-requires Inv-loop μ-loop
 names-exist-requires c κs = search needs
 
 returns : tie.Need-returns Inv-loop μ-loop
-returns c = let l = c .before .before .before .before in
+returns c =
+    let l = c .before .before .before .before in
     let a = l .before .before .args in
     let b = now (a .b) in
-    lead-stop (namesExist (a .n)) (recordsOf b) (l .loop .k) blank (rw (length-records b) (omega arith)) (told (namesExist (a .n)) (c .before .before .record-at .ensures) (c .before .names-exist .ensures) (not-true _ (c .if1 .taken))) ∙ l .loop .inv .1
+    let test = told (namesExist (a .n)) (c .before .before .record-at .ensures) (c .before .names-exist .ensures) in
+    let stop = lead-stop (namesExist (a .n)) (recordsOf b) (l .loop .k) blank (rw (length-records b) (omega arith)) in
+    stop (test (not-true _ (c .if1 .taken))) ∙ l .loop .inv .1
 
 add-k : tie.Need-add-k Inv-loop μ-loop
 add-k c = search needs
@@ -41,10 +45,13 @@ loop-less : tie.Need-loop-less Inv-loop μ-loop
 loop-less c = search needs
 
 loop-again : tie.Need-loop-again Inv-loop μ-loop
-loop-again c = let l = c .before .before .before .before in
+loop-again c =
+    let l = c .before .before .before .before in
     let a = l .before .before .args in
     let b = now (a .b) in
-    (omega arith, lead-pass (namesExist (a .n)) (recordsOf b) (l .loop .k) blank (rw (length-records b) (omega arith)) (told (namesExist (a .n)) (c .before .before .record-at .ensures) (c .before .names-exist .ensures) (not-false _ (c .if1 .left))) ∙ l .loop .inv .1)
+    let test = told (namesExist (a .n)) (c .before .before .record-at .ensures) (c .before .names-exist .ensures) in
+    let pass = lead-pass (namesExist (a .n)) (recordsOf b) (l .loop .k) blank (rw (length-records b) (omega arith)) in
+    (omega arith, pass (test (not-false _ (c .if1 .left))) ∙ l .loop .inv .1)
 
 returns-2 : tie.Need-returns-2 Inv-loop μ-loop
 returns-2 c = let l = c .before in

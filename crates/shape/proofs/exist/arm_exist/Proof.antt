@@ -1,6 +1,7 @@
 use mathlib.Core.Path.{ap}
-use Rattle.shape.proofs.Laws.{at-rest, past}
 use mathlib.Core.List.{List, []}
+use Rattle.general.proofs.Lists.{at-rest}
+use Rattle.general.proofs.Numbers.{past}
 use Rattle.format.specs.Kinds.{Place, armPlaces, fields}
 use Rattle.shape.specs.Exist.{allExist}
 use borrow.Author.Needs.{needs}

@@ -1,6 +1,7 @@
 use mathlib.Core.Path.{ap, _∙_}
-use Rattle.shape.proofs.Laws.{at-rest, past}
 use mathlib.Core.List.{List, []}
+use Rattle.general.proofs.Lists.{at-rest}
+use Rattle.general.proofs.Numbers.{past}
 use Rattle.format.specs.Kinds.{Place, allFit, armPlaces, fields}
 use borrow.Author.Needs.{needs}
 use Rattle.shape.proofs.fit.arm_fits.Statement.{statement}
@@ -19,7 +20,9 @@ returns-2 : tie.Need-returns-2
 returns-2 c = rw (c .before .match .keys2) (c .all-zero .ensures)
 
 returns-3 : tie.Need-returns-3
-returns-3 c = c .blank .ensures ∙ ap (λ (l : List Place). allFit l (fields (c .before .before .args .r))) (at-rest armPlaces [] (past 2 _ (c .before .match .rest)))
+returns-3 c =
+    c .blank .ensures
+    ∙ ap (λ (l : List Place). allFit l (fields (c .before .before .args .r))) (at-rest armPlaces [] (past 2 _ (c .before .match .rest)))
 
 pub arm-fits-spec : {M : Type 1} → statement M
 arm-fits-spec = tie.close (tie.spec all-zero-requires blank-requires returns returns-2 returns-3)

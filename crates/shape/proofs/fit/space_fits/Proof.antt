@@ -1,6 +1,7 @@
 use mathlib.Core.Path.{ap}
-use Rattle.shape.proofs.Laws.{at-rest, past}
 use mathlib.Core.List.{[], _∷_}
+use Rattle.general.proofs.Lists.{at-rest}
+use Rattle.general.proofs.Numbers.{past}
 use Rattle.format.specs.Kinds.{Place, unused, small, number, fit}
 use borrow.Author.Needs.{needs}
 use Rattle.shape.proofs.fit.space_fits.Statement.{statement}

@@ -1,39 +1,55 @@
 use Prim.Native.Nat.{_-_, _≤_}
-use mathlib.Core.Path.{_≡_, refl, sym, _∙_}
+use mathlib.Core.Path.{_≡_, refl, _∙_}
 use mathlib.Core.List.{map}
 use native.Mathlib.Omega.{arith}
 use denote.Ref.{now}
 use lib.ListN.{drop}
 use Rattle.format.specs.Record.{recordsOf}
 use Rattle.format.proofs.Laws.{length-records}
-use Rattle.read.specs.Parts.{part}
+use Rattle.read.specs.Work.{part}
 use Rattle.read.proofs.Laws.{part-length}
 use Rattle.codec.specs.Codec.{codeOf}
-use Rattle.lead.specs.Lead.{arcs}
-use Rattle.tidy.specs.Tidy.{reads, placedIn}
-use Rattle.tidy.specs.Work.{Kept, judgedAll, operandsIn}
+use Rattle.tidy.specs.Tidy.{placedIn}
+use Rattle.tidy.specs.Work.Parts.{operandsIn}
+use Rattle.tidy.specs.Work.Marks.{edgesIn, Kept}
+use Rattle.tidy.specs.Work.Reads.{judgedIn, readsIn}
+use Rattle.tidy.proofs.Search.{none-kept}
 use Rattle.tidy.proofs.Verdicts.{judged-next, judged-end}
 use Rattle.tidy.proofs.reads.read_block.Statement.{statement}
 use Rattle.tidy.proofs.reads.read_block.Tie as tie
 
 abbrev Inv-loop : tie.InvT-loop
-Inv-loop b l ws targets rows₀ first count block t₀ k₀ rows t k =
-    (k ≤ count) × Kept targets rows × (judgedAll (arcs targets) (l .blocks) ws t (reads (operandsIn (recordsOf b) l) (placedIn block k (drop k (map codeOf (part first count (recordsOf b)))))) ≡ judgedAll (arcs targets) (l .blocks) ws t₀ (reads (operandsIn (recordsOf b) l) (placedIn block 0 (map codeOf (part first count (recordsOf b))))))
+Inv-loop b l ws targets first count block marks₀ t₀ k₀ marks t k =
+    let rs = recordsOf b in
+    let cs = map codeOf (part first count rs) in
+    let all = judgedIn targets ws l in
+    (k ≤ count)
+    × Kept targets (block .0) marks
+    × (all t (readsIn rs l (placedIn (block .0) k (drop k cs))) ≡ all t₀ (readsIn rs l (placedIn (block .0) 0 cs)))
 
 abbrev μ-loop : tie.MeasureT-loop
-μ-loop b l ws targets rows₀ first count block t₀ k₀ rows t k = count - k
+μ-loop b l ws targets first count block marks₀ t₀ k₀ marks t k = count - k
 
 loop-holds : tie.Need-loop-holds Inv-loop μ-loop
-loop-holds c = (omega arith, c .before .before .before .pre .3, refl)
+loop-holds c = let s = c .before .before in (omega arith, none-kept (now (s .args .targets)) (s .pre .1 .0) (s .args .block .0) (s .pre .0 .1) refl, refl)
 
 add-read-inst : tie.Need-add-read-inst Inv-loop μ-loop
-add-read-inst c = let p = c .before .before .before .before .before .before .pre in let f = p .0 in let e = p .4 in let q = length-records (now (c .before .before .before .before .before .before .args .b)) in omega arith
+add-read-inst c =
+    let s = c .before .before .before .before .before in
+    let f = s .pre .0 .0 in
+    let e = s .pre .1 .1 in
+    let q = length-records (now (s .args .b)) in
+    omega arith
 
 cast-read-inst : tie.Need-cast-read-inst Inv-loop μ-loop
-cast-read-inst c = let p = c .before .before .before .before .before .before .pre in let f = p .0 in let e = p .4 in omega arith
+cast-read-inst c =
+    let s = c .before .before .before .before .before in
+    let f = s .pre .0 .0 in
+    let e = s .pre .1 .1 in
+    omega arith
 
 read-inst-requires : tie.Need-read-inst-requires Inv-loop μ-loop
-read-inst-requires c κs = let p = c .before .before .before .before .before .before .pre in (p .0, p .1, p .2, c .before .before .loop .inv .1)
+read-inst-requires c κs = let p = c .before .before .before .before .before .pre in (p .0 .0, p .0 .2, c .before .before .loop .inv .1)
 
 add-k : tie.Need-add-k Inv-loop μ-loop
 add-k c = omega arith
@@ -42,18 +58,30 @@ loop-less : tie.Need-loop-less Inv-loop μ-loop
 loop-less c = omega arith
 
 loop-again : tie.Need-loop-again Inv-loop μ-loop
-loop-again c = let s = c .before .before .before .before .before .before .before .before .before in let a = s .args in let p = s .pre in let l = c .before .before .before .before .before in
+loop-again c =
+    let s = c .before .before .before .before .before .before in
+    let a = s .args in
+    let p = s .pre in
     let rs = recordsOf (now (a .b)) in
-    let e = c .before .before .read-inst .ensures in
-    (omega arith, e .0, judged-next (arcs (now (a .targets))) (a .l .blocks) (now (a .ws)) (operandsIn rs (a .l)) rs (a .first) (a .count) (p .4) (a .block) (l .loop .k) (l .loop .t) (c .before .before .before .before .loop-test .taken) (e .1) ∙ l .loop .inv .2)
-
-same-length : tie.Need-same-length Inv-loop μ-loop
-same-length c = c .before .loop .inv .1 .size ∙ sym (c .before .before .before .before .before .pre .3 .size)
+    let es = edgesIn (now (a .targets)) in
+    let ops = operandsIn rs (a .l) in
+    let l = c .before .before .before .loop in
+    let e = c .read-inst .ensures in
+    let at = judged-next es (a .l .blocks) (now (a .ws)) ops rs (a .first) (a .count) (p .1 .1) (a .block .0) (l .k) (l .t) in
+    (omega arith, e .0, at (c .before .before .loop-test .taken) (e .1) ∙ l .inv .2)
 
 returns : tie.Need-returns Inv-loop μ-loop
-returns c = let s = c .before .before .before .before .before in let a = s .args in let p = s .pre in let l = c .before in
+returns c =
+    let s = c .before .before .before .before in
+    let a = s .args in
+    let p = s .pre in
     let rs = recordsOf (now (a .b)) in
-    (l .loop .inv .1, judged-end (arcs (now (a .targets))) (a .l .blocks) (now (a .ws)) (operandsIn rs (a .l)) (part (a .first) (a .count) rs) (a .block) (l .loop .k) (l .loop .t) (rw (part-length rs (a .first) (a .count) (p .4)) (c .loop-test .left)) ∙ l .loop .inv .2)
+    let es = edgesIn (now (a .targets)) in
+    let ops = operandsIn rs (a .l) in
+    let l = c .before .loop in
+    judged-end es (a .l .blocks) (now (a .ws)) ops (part (a .first) (a .count) rs) (a .block .0) (l .k) (l .t)
+    (rw (part-length rs (a .first) (a .count) (p .1 .1)) (c .loop-test .left))
+    ∙ l .inv .2
 
 pub read-block-spec : {M : Type 1} → statement M
 read-block-spec =
@@ -68,5 +96,4 @@ read-block-spec =
     add-k
     loop-less
     loop-again
-    same-length
     returns)

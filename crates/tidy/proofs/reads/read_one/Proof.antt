@@ -1,15 +1,22 @@
 use mathlib.Core.Path.{sym, _∙_}
 use native.Mathlib.Omega.{arith}
+use borrow.Author.Needs.{needs}
 use borrow.Author.Tests.{not-true, not-false}
 use denote.Ref.{now}
-use Rattle.lead.specs.Lead.{arcs}
+use Rattle.tidy.specs.Work.Marks.{edgesIn}
 use Rattle.tidy.proofs.Verdicts.{step-past, step-right, step-wrong}
-use borrow.Author.Needs.{needs}
 use Rattle.tidy.proofs.reads.read_one.Statement.{statement}
 use Rattle.tidy.proofs.reads.read_one.Tie as tie
 
+cast-k : tie.Need-cast-k
+cast-k c = search needs
+
 returns : tie.Need-returns
-returns c = let s = c .before .before .before in let a = s .args in let t = arcs (now (a .targets)) in (s .pre .2, step-past t (a .registers) (now (a .ws)) (a .block) (a .place) (a .s) (a .r) (c .if1 .taken))
+returns c =
+    let s = c .before .before .before in
+    let a = s .args in
+    let es = edgesIn (now (a .targets)) in
+    (s .pre .1, step-past es (a .registers) (now (a .ws)) (a .block .0) (a .place) (a .s) (a .r .0) (c .if1 .taken))
 
 mul-wrong : tie.Need-mul-wrong
 mul-wrong c = search needs
@@ -18,33 +25,37 @@ shared-slice-read-wrong : tie.Need-shared-slice-read-wrong
 shared-slice-read-wrong c = search needs
 
 wrong-requires : tie.Need-wrong-requires
-wrong-requires c κs = search needs
-
-same-length : tie.Need-same-length
-same-length c = search needs
+wrong-requires c κs = c .before .before .before .before .before .pre .1
 
 returns-2 : tie.Need-returns-2
-returns-2 c = let s = c .before .before .before .before .before .before .before .before .before in let a = s .args in let t = arcs (now (a .targets)) in let w = c .before .before .before .wrong .ensures in (w .0, step-right t (a .registers) (now (a .ws)) (a .block) (a .place) (a .s) (a .r) (omega arith) (sym (w .1) ∙ not-true _ (c .if2 .taken)))
+returns-2 c =
+    let s = c .before .before .before .before .before .before .before in
+    let a = s .args in
+    let es = edgesIn (now (a .targets)) in
+    let w = c .before .wrong .ensures in
+    (w .0, step-right es (a .registers) (now (a .ws)) (a .block .0) (a .place) (a .s) (a .r .0) (omega arith) (sym (w .1) ∙ not-true _ (c .if2 .taken)))
 
 lower-requires : tie.Need-lower-requires
 lower-requires c κs = search needs
 
-same-length-2 : tie.Need-same-length-2
-same-length-2 c = search needs
-
 returns-3 : tie.Need-returns-3
-returns-3 c = let s = c .before .before .before .before .before .before .before .before .before .before in let a = s .args in let t = arcs (now (a .targets)) in let w = c .before .before .before .before .wrong .ensures in (w .0, c .lower .ensures ∙ step-wrong t (a .registers) (now (a .ws)) (a .block) (a .place) (a .s) (a .r) (omega arith) (sym (w .1) ∙ not-false _ (c .before .if2 .left)))
+returns-3 c =
+    let s = c .before .before .before .before .before .before .before .before in
+    let a = s .args in
+    let es = edgesIn (now (a .targets)) in
+    let w = c .before .before .wrong .ensures in
+    let is = sym (w .1) ∙ not-false _ (c .before .if2 .left) in
+    (w .0, c .lower .ensures ∙ step-wrong es (a .registers) (now (a .ws)) (a .block .0) (a .place) (a .s) (a .r .0) (omega arith) is)
 
 pub read-one-spec : {M : Type 1} → statement M
 read-one-spec =
     tie.close
     (tie.spec
+    cast-k
     returns
     mul-wrong
     shared-slice-read-wrong
     wrong-requires
-    same-length
     returns-2
     lower-requires
-    same-length-2
     returns-3)

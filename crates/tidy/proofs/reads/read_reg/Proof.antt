@@ -1,8 +1,8 @@
 use denote.Ref.{now}
-use Rattle.format.specs.Record.{recordsOf}
-use Rattle.tidy.specs.Work.{operandsIn}
-use Rattle.tidy.proofs.Verdicts.{read-field, read-operand}
 use borrow.Author.Needs.{needs}
+use Rattle.format.specs.Record.{recordsOf}
+use Rattle.tidy.specs.Work.Parts.{operandsIn}
+use Rattle.tidy.proofs.Verdicts.{read-field, read-operand}
 use Rattle.tidy.proofs.reads.read_reg.Statement.{statement}
 use Rattle.tidy.proofs.reads.read_reg.Tie as tie
 
@@ -15,11 +15,14 @@ add-k c = search needs
 mul-result : tie.Need-mul-result
 mul-result c = search needs
 
-array-read-result : tie.Need-array-read-result
-array-read-result c = search needs
+array-copy-out-result : tie.Need-array-copy-out-result
+array-copy-out-result c = search needs
 
 returns : tie.Need-returns
-returns c = let s = c .before .before .before .before .before in let a = s .args in read-field (operandsIn (recordsOf (now (a .b))) (a .l)) (a .roles) (s .pre .1) (a .j) (c .before .before .if1 .taken)
+returns c =
+    let s = c .before .before .before .before .before .before in
+    let a = s .args in
+    read-field (operandsIn (recordsOf (now (a .b))) (a .l)) (a .roles) (s .pre .1) (a .j) (c .before .before .before .if1 .taken)
 
 cast-start : tie.Need-cast-start
 cast-start c = search needs
@@ -34,7 +37,10 @@ record-at-requires : tie.Need-record-at-requires
 record-at-requires c κs = search needs
 
 returns-2 : tie.Need-returns-2
-returns-2 c = let s = c .before .before .before .before .before .before .before in let a = s .args in read-operand (s .pre .0) (a .roles) (s .pre .1) (a .j) (c .before .before .before .before .if1 .left) (s .pre .2) (c .record-at .ensures)
+returns-2 c =
+    let s = c .before .before .before .before .before .before .before in
+    let a = s .args in
+    read-operand (s .pre .0) (a .roles) (s .pre .1) (a .j) (c .before .before .before .before .if1 .left) (s .pre .2) (c .record-at .ensures)
 
 pub read-reg-spec : {M : Type 1} → statement M
 read-reg-spec =
@@ -43,7 +49,7 @@ read-reg-spec =
     sub-fields
     add-k
     mul-result
-    array-read-result
+    array-copy-out-result
     returns
     cast-start
     add-record-at

@@ -1,15 +1,45 @@
-use Rattle.tidy.proofs.Judging.{target-br, target-cond, target-none}
+use mathlib.Core.Path.{refl, sym, subst}
+use borrow.Author.Needs.{needs}
+use Rattle.ends.specs.declared.End.{End}
+use Rattle.ends.specs.Ends.{targets}
+use Rattle.tidy.specs.Work.Marks.{Pair}
 use Rattle.tidy.proofs.targets.targets_of.Statement.{statement}
 use Rattle.tidy.proofs.targets.targets_of.Tie as tie
 
+enum-known-e : tie.Need-enum-known-e
+enum-known-e c = search needs
+
+enum-known-e-2 : tie.Need-enum-known-e-2
+enum-known-e-2 c = search needs
+
+enum-known-e-3 : tie.Need-enum-known-e-3
+enum-known-e-3 c = search needs
+
+enum-told : tie.Need-enum-told
+enum-told c = search needs
+
 returns : tie.Need-returns
-returns c = target-br (c .before .before .args .r) (c .if1 .taken)
+returns c = subst (λ (x : End). Pair (targets x) (c .before .e .given .0 .0 .0) 160) (sym (c .before .e .given .1)) (refl, refl)
 
 returns-2 : tie.Need-returns-2
-returns-2 c = target-cond (c .before .before .before .before .args .r) (c .if2 .taken)
+returns-2 c = subst (λ (x : End). Pair (targets x) (c .before .e2 .given .0 .1 .0 .0) (c .before .e2 .given .0 .1 .1 .0 .0))
+    (sym (c .before .e2 .given .1)) (refl, refl)
 
 returns-3 : tie.Need-returns-3
-returns-3 c = target-none (c .before .before .before .before .args .r) (c .before .before .if1 .left) (c .if2 .left)
+returns-3 c = subst (λ (x : End). Pair (targets x) 160 160) (sym (c .before .e3 .given .1)) (refl, refl)
+
+returns-4 : tie.Need-returns-4
+returns-4 c = subst (λ (x : End). Pair (targets x) 160 160) (sym (c .enum-told .given .1)) (refl, refl)
 
 pub targets-of-spec : {M : Type 1} → statement M
-targets-of-spec = tie.close (tie.spec returns returns-2 returns-3)
+targets-of-spec =
+    tie.close
+    (tie.spec
+    enum-known-e
+    enum-known-e-2
+    enum-known-e-3
+    enum-told
+    returns
+    returns-2
+    returns-3
+    returns-4)

@@ -1,4 +1,3 @@
-use Rattle.read.proofs.Laws.{part-length}
 use Prim.Native.Nat.{_-_, _≤_}
 use mathlib.Core.Path.{_≡_, refl, ap, _∙_}
 use mathlib.Core.List.{map}
@@ -8,16 +7,21 @@ use denote.Ref.{now}
 use lib.ListN.{length, drop}
 use Rattle.format.specs.Record.{recordsOf}
 use Rattle.format.proofs.Laws.{length-records}
-use Rattle.read.specs.Parts.{part}
+use Rattle.read.specs.Work.{part}
+use Rattle.read.proofs.Laws.{part-length}
 use Rattle.codec.specs.Codec.{codeOf}
 use Rattle.tidy.specs.Tidy.{written, placedIn}
-use Rattle.tidy.specs.Work.{noted}
+use Rattle.tidy.specs.Work.Writers.{noted}
 use Rattle.tidy.proofs.Tables.{noted-next, noted-none, length-noted}
 use Rattle.tidy.proofs.writers.note_block.Statement.{statement}
 use Rattle.tidy.proofs.writers.note_block.Tie as tie
 
 abbrev Inv-loop : tie.InvT-loop
-Inv-loop b first count block ws₀ k₀ ws k = (k ≤ count) × (length ws ≡ length ws₀) × (noted ws (written (placedIn block k (drop k (map codeOf (part first count (recordsOf b)))))) ≡ noted ws₀ (written (placedIn block 0 (map codeOf (part first count (recordsOf b))))))
+Inv-loop b first count block ws₀ k₀ ws k =
+    let cs = map codeOf (part first count (recordsOf b)) in
+    (k ≤ count)
+    × (length ws ≡ length ws₀)
+    × (noted ws (written (placedIn (block .0) k (drop k cs))) ≡ noted ws₀ (written (placedIn (block .0) 0 cs)))
 
 abbrev μ-loop : tie.MeasureT-loop
 μ-loop b first count block ws₀ k₀ ws k = count - k
@@ -41,14 +45,24 @@ loop-less : tie.Need-loop-less Inv-loop μ-loop
 loop-less c = search needs
 
 loop-again : tie.Need-loop-again Inv-loop μ-loop
-loop-again c = let l = c .before .before .before .before .before in let a = l .before .before .before .args in let rs = recordsOf (now (a .b)) in let e = c .before .before .note-inst .ensures in
-    (omega arith, ap length e ∙ length-noted _ (l .loop .ws) ∙ l .loop .inv .1, noted-next (l .loop .ws) rs (a .first) (a .count) (omega arith) (a .block) (l .loop .k) (omega arith) e ∙ l .loop .inv .2)
+loop-again c =
+    let l = c .before .before .before .before .before .loop in
+    let a = c .before .before .before .before .before .before .before .before .args in
+    let rs = recordsOf (now (a .b)) in
+    let e = c .before .before .note-inst .ensures in
+    let n = ap length e ∙ length-noted _ (l .ws) ∙ l .inv .1 in
+    (omega arith, n, noted-next (l .ws) rs (a .first) (a .count) (omega arith) (a .block .0) (l .k) (omega arith) e ∙ l .inv .2)
 
 same-length : tie.Need-same-length Inv-loop μ-loop
 same-length c = omega arith
 
 returns : tie.Need-returns Inv-loop μ-loop
-returns c = let l = c .before in let a = l .before .before .before .args in let rs = recordsOf (now (a .b)) in noted-none (l .loop .ws) (part (a .first) (a .count) rs) (a .block) (l .loop .k) (rw (part-length rs (a .first) (a .count) (omega arith)) (c .loop-test .left)) ∙ l .loop .inv .2
+returns c =
+    let l = c .before .loop in
+    let a = c .before .before .before .before .args in
+    let rs = recordsOf (now (a .b)) in
+    noted-none (l .ws) (part (a .first) (a .count) rs) (a .block .0) (l .k) (rw (part-length rs (a .first) (a .count) (omega arith)) (c .loop-test .left))
+    ∙ l .inv .2
 
 pub note-block-spec : {M : Type 1} → statement M
 note-block-spec =

@@ -1,20 +1,20 @@
-use mathlib.Core.List.{List}
-use Prim.Native.Nat.{ℕ}
-use lib.ListN.{getD}
-use lib.Seq.{length-take-le, getD-take}
-use Rattle.tidy.specs.Work.{note}
-use Prim.Native.Nat.{_+_, _-_, _≤_}
+use Prim.Native.Nat.{ℕ, _+_, _-_, _≤_}
 use mathlib.Core.Path.{_≡_, refl, sym, ap, _∙_}
+use mathlib.Core.List.{List}
 use native.Mathlib.Omega.{arith}
 use borrow.Author.Needs.{needs}
-use lib.ListN.{length, take, drop}
-use Rattle.tidy.specs.Work.{notes}
+use lib.ListN.{length, getD, take, drop}
+use lib.Seq.{length-take-le, getD-take}
+use Rattle.roles.specs.Roles.{numbersOf}
+use Rattle.roles.proofs.Laws.{numbers-length, number-at}
+use Rattle.tidy.specs.Work.Writers.{note, notes}
 use Rattle.tidy.proofs.Tables.{notes-step, notes-end, length-note}
 use Rattle.tidy.proofs.writers.note_defs.Statement.{statement}
 use Rattle.tidy.proofs.writers.note_defs.Tie as tie
 
 abbrev Inv-loop : tie.InvT-loop
-Inv-loop ws₀ v reg defs j₀ ws j = (j ≤ defs) × (length ws ≡ length ws₀) × (notes ws v (drop j (take defs reg)) ≡ notes ws₀ v (take defs reg))
+Inv-loop ws₀ v reg defs j₀ ws j =
+    (j ≤ defs) × (length ws ≡ length ws₀) × (notes ws v (drop j (take defs (numbersOf reg))) ≡ notes ws₀ v (take defs (numbersOf reg)))
 
 abbrev μ-loop : tie.MeasureT-loop
 μ-loop ws₀ v reg defs j₀ ws j = defs - j
@@ -22,11 +22,11 @@ abbrev μ-loop : tie.MeasureT-loop
 loop-holds : tie.Need-loop-holds Inv-loop μ-loop
 loop-holds c = (omega arith, refl, refl)
 
-mul-note-write : tie.Need-mul-note-write Inv-loop μ-loop
-mul-note-write c = search needs
+mul-r : tie.Need-mul-r Inv-loop μ-loop
+mul-r c = search needs
 
-array-read-note-write : tie.Need-array-read-note-write Inv-loop μ-loop
-array-read-note-write c = search needs
+array-copy-out-r : tie.Need-array-copy-out-r Inv-loop μ-loop
+array-copy-out-r c = search needs
 
 note-write-requires : tie.Need-note-write-requires Inv-loop μ-loop
 note-write-requires c κs = search needs
@@ -38,15 +38,34 @@ loop-less : tie.Need-loop-less Inv-loop μ-loop
 loop-less c = search needs
 
 loop-again : tie.Need-loop-again Inv-loop μ-loop
-loop-again c = let l = c .before .before .before .before .before in let a = l .before .before .before .args in let t = take (a .roles .defs) (a .roles .reg) in let q = l .before .before .before .pre in let n : length t ≡ a .roles .defs = length-take-le (a .roles .defs) (a .roles .reg) (omega arith) in
-    let e : c .before .before .note-write .last .0 ≡ note (l .loop .ws) (getD t (l .loop .j) 0) (a .v) = c .before .before .note-write .ensures ∙ ap (λ (x : ℕ). note (l .loop .ws) x (a .v)) (sym (getD-take (a .roles .defs) (a .roles .reg) (l .loop .j) 0 (omega arith))) in
-    (omega arith, ap length e ∙ length-note (l .loop .ws) (getD t (l .loop .j) 0) (a .v) ∙ l .loop .inv .1, ap (λ (w : List ℕ). notes w (a .v) (drop (l .loop .j + 1) t)) e ∙ notes-step (l .loop .ws) (a .v) t (l .loop .j) (omega arith) ∙ l .loop .inv .2)
+loop-again c =
+    let l = c .before .before .before .before .before .before .loop in
+    let s = c .before .before .before .before .before .before .before .before .before in
+    let a = s .args in
+    let q = s .pre in
+    let regs = numbersOf (a .roles .reg) in
+    let t = take (a .roles .defs) regs in
+    let n : length t ≡ a .roles .defs = length-take-le (a .roles .defs) regs (let z = numbers-length (a .roles .reg) in omega arith) in
+    let g = getD-take (a .roles .defs) regs (l .j) 0 (omega arith) ∙ number-at (a .roles .reg) (l .j) 0 in
+    let e : c .before .before .note-write .last .0 ≡ note (l .ws) (getD t (l .j) 0) (a .v) =
+    c .before .before .note-write .ensures ∙ ap (λ (x : ℕ). note (l .ws) x (a .v)) (sym g)
+    in
+    let next = ap (λ (w : List ℕ). notes w (a .v) (drop (l .j + 1) t)) e ∙ notes-step (l .ws) (a .v) t (l .j) (omega arith) in
+    (omega arith, ap length e ∙ length-note (l .ws) (getD t (l .j) 0) (a .v) ∙ l .inv .1, next ∙ l .inv .2)
 
 same-length : tie.Need-same-length Inv-loop μ-loop
 same-length c = omega arith
 
 returns : tie.Need-returns Inv-loop μ-loop
-returns c = let l = c .before in let a = l .before .before .before .args in let t = take (a .roles .defs) (a .roles .reg) in let q = l .before .before .before .pre in let n : length t ≡ a .roles .defs = length-take-le (a .roles .defs) (a .roles .reg) (omega arith) in notes-end (l .loop .ws) (a .v) t (l .loop .j) (omega arith) ∙ l .loop .inv .2
+returns c =
+    let l = c .before .loop in
+    let s = c .before .before .before .before in
+    let a = s .args in
+    let q = s .pre in
+    let regs = numbersOf (a .roles .reg) in
+    let t = take (a .roles .defs) regs in
+    let n : length t ≡ a .roles .defs = length-take-le (a .roles .defs) regs (let z = numbers-length (a .roles .reg) in omega arith) in
+    notes-end (l .ws) (a .v) t (l .j) (omega arith) ∙ l .inv .2
 
 pub note-defs-spec : {M : Type 1} → statement M
 note-defs-spec =
@@ -55,8 +74,8 @@ note-defs-spec =
     Inv-loop
     μ-loop
     loop-holds
-    mul-note-write
-    array-read-note-write
+    mul-r
+    array-copy-out-r
     note-write-requires
     add-j
     loop-less

@@ -1,8 +1,10 @@
-use mathlib.Core.Path.{_∙_}
+use mathlib.Core.Path.{ap, _∙_}
 use native.Mathlib.Omega.{arith}
-use denote.Ref.{now}
-use Rattle.tidy.proofs.Fields.{kind-most, five-of, inst-noted}
 use borrow.Author.Needs.{needs}
+use denote.Ref.{now}
+use Rattle.inst.specs.declared.Code.{Code}
+use Rattle.ends.proofs.Laws.{code-at}
+use Rattle.tidy.proofs.Fields.{kind-most, five-of, inst-noted}
 use Rattle.tidy.proofs.writers.note_inst.Statement.{statement}
 use Rattle.tidy.proofs.writers.note_inst.Tie as tie
 
@@ -22,22 +24,28 @@ mul-v-2 : tie.Need-mul-v-2
 mul-v-2 c = search needs
 
 add-v-2 : tie.Need-add-v-2
-add-v-2 c = let k = kind-most (c .before .inst-at .result) in let e = c .kind .ensures in omega arith
+add-v-2 c = let k = kind-most (c .before .before .inst-at .result) in let e = c .before .kind .ensures in omega arith
 
 add-v-3 : tie.Need-add-v-3
-add-v-3 c = let k = kind-most (c .before .inst-at .result) in let e = c .kind .ensures in omega arith
+add-v-3 c = let k = kind-most (c .before .before .inst-at .result) in let e = c .before .kind .ensures in omega arith
 
 roles-of-requires : tie.Need-roles-of-requires
 roles-of-requires c κs = search needs
 
 note-defs-requires : tie.Need-note-defs-requires
-note-defs-requires c κs = let f = five-of (c .before .before .before .inst-at .result) (c .roles-of .ensures) in (omega arith, f .size)
+note-defs-requires c κs = let f = five-of (c .before .before .before .before .inst-at .result) (c .roles-of .ensures) in (omega arith, f .size)
 
 same-length : tie.Need-same-length
 same-length c = search needs
 
 returns : tie.Need-returns
-returns c = let s = c .before .before .before .before .before .before .before .before .before .args in c .before .before .note-defs .ensures ∙ inst-noted (now (s .ws)) (s .block) (s .place) (c .before .before .before .before .before .before .inst-at .result) (c .before .before .before .before .before .before .inst-at .ensures) (c .before .before .before .roles-of .ensures) (c .before .before .before .before .before .kind .ensures)
+returns c =
+    let a = c .before .before .before .before .before .before .before .before .before .before .args in
+    let i = c .before .before .before .before .before .before .before .inst-at in
+    let is = i .ensures ∙ ap (λ (x : Code). x .inst) (code-at (now (a .b)) (a .at)) in
+    c .before .before .note-defs .ensures
+    ∙ inst-noted (now (a .ws)) (a .block .0) (a .place) (i .result) is (c .before .before .before .roles-of .ensures)
+    (c .before .before .before .before .before .before .kind .ensures)
 
 pub note-inst-spec : {M : Type 1} → statement M
 note-inst-spec =

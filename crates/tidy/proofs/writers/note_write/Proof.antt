@@ -1,11 +1,14 @@
 use denote.Ref.{now}
-use Rattle.tidy.proofs.Tables.{note-out, note-first, note-again}
 use borrow.Author.Needs.{needs}
+use Rattle.tidy.proofs.Tables.{note-out, note-first, note-again}
 use Rattle.tidy.proofs.writers.note_write.Statement.{statement}
 use Rattle.tidy.proofs.writers.note_write.Tie as tie
 
+cast-k : tie.Need-cast-k
+cast-k c = search needs
+
 returns : tie.Need-returns
-returns c = let a = c .before .args in note-out (now (a .ws)) (a .r) (a .v) (c .if1 .taken)
+returns c = let a = c .before .before .args in note-out (now (a .ws)) (a .r .0) (a .v) (c .if1 .taken)
 
 mul-if2 : tie.Need-mul-if2
 mul-if2 c = search needs
@@ -23,7 +26,7 @@ same-length : tie.Need-same-length
 same-length c = search needs
 
 returns-2 : tie.Need-returns-2
-returns-2 c = let a = c .before .before .before .args in note-first (now (a .ws)) (a .r) (a .v) (c .if2 .taken)
+returns-2 c = let a = c .before .before .before .before .args in note-first (now (a .ws)) (a .r .0) (a .v) (c .if2 .taken)
 
 mul-ws-2 : tie.Need-mul-ws-2
 mul-ws-2 c = search needs
@@ -35,12 +38,13 @@ same-length-2 : tie.Need-same-length-2
 same-length-2 c = search needs
 
 returns-3 : tie.Need-returns-3
-returns-3 c = let a = c .before .before .before .args in note-again (now (a .ws)) (a .r) (a .v) (c .if2 .left)
+returns-3 c = let a = c .before .before .before .before .args in note-again (now (a .ws)) (a .r .0) (a .v) (c .if2 .left)
 
 pub note-write-spec : {M : Type 1} → statement M
 note-write-spec =
     tie.close
     (tie.spec
+    cast-k
     returns
     mul-if2
     slice-read-if2

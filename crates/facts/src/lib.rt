@@ -1,0 +1,71 @@
+ghost use mathlib.Core.Path.{_≡_};
+ghost use Prim.Native.Nat.{_<_};
+ghost use lib.ListN.{length, getD};
+ghost use Rattle.facts.specs.Storage.{cell, kindsIn, singleIn, usesIn, constAt, konstAt, wordIn};
+use inst::Reg;
+
+// A word, or none.
+pub enum Word {
+    Some(u64),
+    None,
+}
+
+// Word j of a register's row, or another where it has none.
+fn cell_of(table: &[u64], r: Reg, j: usize, other: u64) -> u64
+    requires { ⌜ j < 5 ⌝ }
+    ensures { λ z. ⌜ z ≡ cell (now (table .entry)) (r .0) j other ⌝ }
+{
+    let k = r.0 as usize;
+    if k < table.len() / 5 {
+        return table[5 * k + j];
+    }
+    other
+}
+
+// How many registers the file has.
+pub fn registers(table: &[u64]) -> usize
+    ensures { λ z. ⌜ z ≡ length (kindsIn (now (table .entry))) ⌝ }
+{
+    table.len() / 5
+}
+
+// A register's kind; 5 for a register that the file doesn't have.
+pub fn kind_of(table: &[u64], r: Reg) -> u8
+    ensures { λ z. ⌜ z ≡ getD (kindsIn (now (table .entry))) (r .0) 5 ⌝ }
+{
+    let k = cell_of(table, r, 0, 5);
+    if k < 5 {
+        return k as u8;
+    }
+    5
+}
+
+// Written by one field of the code.
+pub fn is_single(table: &[u64], r: Reg) -> bool
+    ensures { λ z. ⌜ z ≡ singleIn (now (table .entry)) (r .0) ⌝ }
+{
+    cell_of(table, r, 1, 0) == 1
+}
+
+pub fn uses_of(table: &[u64], r: Reg) -> u64
+    ensures { λ z. ⌜ z ≡ usesIn (now (table .entry)) (r .0) ⌝ }
+{
+    cell_of(table, r, 2, 0)
+}
+
+// The source's kc: the v of a register that a Const alone writes.
+pub fn const_of(table: &[u64], r: Reg) -> Word
+    ensures { λ z. ⌜ wordIn z ≡ constAt (now (table .entry)) (r .0) ⌝ }
+{
+    if cell_of(table, r, 3, 0) == 1 {
+        return Word::Some(cell_of(table, r, 4, 0));
+    }
+    Word::None
+}
+
+// The source's kdef: a register that a Const, a ConstF or a non-Up AddrOf alone writes.
+pub fn is_konst(table: &[u64], r: Reg) -> bool
+    ensures { λ z. ⌜ z ≡ konstAt (now (table .entry)) (r .0) ⌝ }
+{
+    cell_of(table, r, 3, 0) != 0
+}

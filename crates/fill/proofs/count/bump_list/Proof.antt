@@ -1,0 +1,108 @@
+use native.Mathlib.Omega.{arith}
+use Prim.Native.Nat.{_+_, _-_, _<_}
+use mathlib.Core.Path.{_≡_, refl, sym, ap, _∙_}
+use lib.ListN.{length, take, drop}
+use denote.Ref.{now}
+use Rattle.facts.specs.Storage.{operandsIn}
+use Rattle.fill.specs.Filling.{counted, over}
+use Rattle.fill.proofs.Laws.{over-again, over-done, operands-length, operand-at, part-at, part-in, part-short, part-over}
+use borrow.Author.Needs.{needs}
+use Rattle.fill.proofs.count.bump_list.Statement.{statement}
+use Rattle.fill.proofs.count.bump_list.Tie as tie
+
+abbrev Inv-loop : tie.InvT-loop
+Inv-loop table₀ j most operands start len k₀ table k =
+    let part = take len (drop start (operandsIn operands)) in
+    (over (counted j most) table (drop k part) ≡ over (counted j most) table₀ part)
+    × ((start < 4294967296) × ((len < 4294967296) × (length table ≡ length table₀)))
+
+abbrev μ-loop : tie.MeasureT-loop
+μ-loop table₀ j most operands start len k₀ table k = len - k
+
+cast-start : tie.Need-cast-start Inv-loop μ-loop
+cast-start c = search needs
+
+cast-len : tie.Need-cast-len Inv-loop μ-loop
+cast-len c = search needs
+
+loop-holds : tie.Need-loop-holds Inv-loop μ-loop
+loop-holds c = (refl, (search needs, (search needs, refl)))
+
+add-if1 : tie.Need-add-if1 Inv-loop μ-loop
+add-if1 c = search needs
+
+same-length : tie.Need-same-length Inv-loop μ-loop
+same-length c = search needs
+
+returns : tie.Need-returns Inv-loop μ-loop
+returns c =
+    let l = c .before .before in
+    let a = l .before .before .before .before .before .args in
+    let ops = operandsIn (now (a .operands)) in
+    let part = take (a .list .len) (drop (a .list .start) ops) in
+    let short = part-short ops (a .list .start) (a .list .len) (l .loop .k) (rw (operands-length (now (a .operands))) (c .if1 .taken)) in
+    over-done (counted (a .j) (a .most)) part (l .loop .k) short (l .loop .inv .0)
+
+add-record-at : tie.Need-add-record-at Inv-loop μ-loop
+add-record-at c = search needs
+
+record-at-requires : tie.Need-record-at-requires Inv-loop μ-loop
+record-at-requires c κs = search needs
+
+bump-requires : tie.Need-bump-requires Inv-loop μ-loop
+bump-requires c κs = search needs
+
+add-k : tie.Need-add-k Inv-loop μ-loop
+add-k c = search needs
+
+loop-less : tie.Need-loop-less Inv-loop μ-loop
+loop-less c = search needs
+
+loop-again : tie.Need-loop-again Inv-loop μ-loop
+loop-again c =
+    let t = c .before .before .before .before .before .before in
+    let l = t .before in
+    let a = l .before .before .before .before .before .args in
+    let b = now (a .operands) in
+    let ops = operandsIn b in
+    let part = take (a .list .len) (drop (a .list .start) ops) in
+    let step = counted (a .j) (a .most) in
+    let at = part-at ops (a .list .start) (a .list .len) (l .loop .k) (t .loop-test .taken) in
+    let there = ap (λ r. r .p1) (c .before .before .before .before .record-at .ensures) ∙ sym (operand-at b (a .list .start + l .loop .k)) ∙ sym at in
+    let in-part = part-in ops (a .list .start) (a .list .len) (l .loop .k) (t .loop-test .taken) (rw (operands-length b) (omega arith)) in (
+      over-again step part (l .loop .k) 0 in-part (c .before .before .bump .ensures ∙ ap (step (l .loop .table)) there) (l .loop .inv .0),
+      (l .loop .inv .1 .0, (l .loop .inv .1 .1 .0, search needs)),
+    )
+
+same-length-2 : tie.Need-same-length-2 Inv-loop μ-loop
+same-length-2 c = search needs
+
+returns-2 : tie.Need-returns-2 Inv-loop μ-loop
+returns-2 c =
+    let l = c .before in
+    let a = l .before .before .before .before .before .args in
+    let ops = operandsIn (now (a .operands)) in
+    let part = take (a .list .len) (drop (a .list .start) ops) in
+    let past = part-over ops (a .list .start) (a .list .len) (l .loop .k) (c .loop-test .left) in
+    over-done (counted (a .j) (a .most)) part (l .loop .k) past (l .loop .inv .0)
+
+pub bump-list-spec : {M : Type 1} → statement M
+bump-list-spec =
+    tie.close
+    (tie.spec
+    Inv-loop
+    μ-loop
+    cast-start
+    cast-len
+    loop-holds
+    add-if1
+    same-length
+    returns
+    add-record-at
+    record-at-requires
+    bump-requires
+    add-k
+    loop-less
+    loop-again
+    same-length-2
+    returns-2)

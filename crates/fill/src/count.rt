@@ -1,0 +1,76 @@
+ghost use mathlib.Core.Path.{_≡_};
+ghost use Prim.Native.Nat.{_≤_, _<_};
+ghost use lib.ListN.{take, drop};
+ghost use Rattle.roles.specs.Roles.{operandsOf};
+ghost use Rattle.procedure.specs.Procedure.{codesOf};
+ghost use Rattle.facts.specs.Storage.{operandsIn};
+ghost use Rattle.fill.specs.Filling.{over, counted, countInst, countCode};
+use inst::Inst;
+use inst::Reg;
+use inst::Regs;
+
+// One more in column j of a register's row, up to the most; nothing where the table has no such place.
+fn bump(table: &mut [u64], j: usize, most: u64, r: Reg)
+    requires { ⌜ j < 5 ⌝ }
+    ensures { λ u. ⌜ now (table .exit) ≡ counted j most (now (table .entry)) (r .0) ⌝ }
+{
+    let at = 5 * (r.0 as usize) + j;
+    if at < table.len() {
+        let x = table[at];
+        if x < most {
+            table[at] = x + 1;
+        }
+    }
+}
+
+// The registers from place a up to place e.
+fn bump_regs(table: &mut [u64], j: usize, most: u64, reg: [u32; 5], a: usize, e: usize)
+    requires { ⌜ (e ≤ 5) × (j < 5) ⌝ }
+    ensures { λ u. ⌜ now (table .exit) ≡ over (counted j most) (now (table .entry)) (drop a (take e reg)) ⌝ }
+{
+    let mut k = a;
+    while k < e {
+        bump(table, j, most, Reg(reg[k]));
+        k += 1;
+    }
+}
+
+// The operands of a list, from the operand records.
+fn bump_list(table: &mut [u64], j: usize, most: u64, operands: &[u8], list: Regs)
+    requires { ⌜ j < 5 ⌝ }
+    ensures { λ u. ⌜ now (table .exit) ≡ over (counted j most) (now (table .entry)) (operandsOf (operandsIn (now (operands .entry))) list) ⌝ }
+{
+    let start = list.start as usize;
+    let len = list.len as usize;
+    let mut k = 0;
+    while k < len {
+        if operands.len() / 32 <= start + k {
+            return;
+        }
+        let r = format::record_at(operands, start + k);
+        bump(table, j, most, Reg(r.p1));
+        k += 1;
+    }
+}
+
+// An instruction's definitions, up to 255, and its uses.
+fn count_inst(table: &mut [u64], operands: &[u8], i: Inst)
+    ensures { λ u. ⌜ now (table .exit) ≡ countInst (operandsIn (now (operands .entry))) (now (table .entry)) i ⌝ }
+{
+    let q = roles::roles_of(i);
+    let reg = q.reg;
+    bump_regs(table, 1, 255, reg, 0, q.defs);
+    bump_regs(table, 2, 4294967295, reg, q.defs, q.n);
+    bump_list(table, 2, 4294967295, operands, q.list);
+}
+
+// The definitions and uses of each register.
+pub fn count(code: &[u8], operands: &[u8], table: &mut [u64])
+    ensures { λ u. ⌜ now (table .exit) ≡ over (countCode (operandsIn (now (operands .entry)))) (now (table .entry)) (codesOf (now (code .entry))) ⌝ }
+{
+    let mut k = 0;
+    while k < code.len() / 32 {
+        count_inst(table, operands, codec::inst_of(format::record_at(code, k)));
+        k += 1;
+    }
+}

@@ -1,0 +1,40 @@
+ghost use mathlib.Core.Path.{_≡_};
+ghost use Prim.Native.Nat.{_*_, _/_, _≤_, min};
+ghost use lib.ListN.{length};
+ghost use Rattle.procedure.specs.Procedure.{codesOf};
+ghost use Rattle.facts.specs.Storage.{rows, rowOf, tableOf, kindsOf, operandsIn};
+
+mod class;
+mod count;
+mod start;
+
+fn least(a: usize, b: usize) -> usize
+    ensures { λ z. ⌜ z ≡ min a b ⌝ }
+{
+    if a < b {
+        return a;
+    }
+    b
+}
+
+// A row for each register of the table.
+fn fill(code: &[u8], operands: &[u8], registers: &[u8], table: &mut [u64])
+    requires { ⌜ (length (now table) ≡ 5 * (length (now table) / 5)) × (length (now table) / 5 ≤ length (now registers) / 32) ⌝ }
+    ensures { λ u. ⌜ now (table .exit)
+        ≡ rows (length (now (table .entry)) / 5)
+        (rowOf (kindsOf (now (registers .entry))) (operandsIn (now (operands .entry))) (codesOf (now (code .entry)))) ⌝ }
+{
+    start::start(registers, table);
+    count::count(code, operands, table);
+    class::class(code, table);
+}
+
+// The facts of a file, from its code, operand and register records: five words for each register that the table
+// has room for. What stands behind them is left.
+pub fn facts(code: &[u8], operands: &[u8], registers: &[u8], table: &mut [u64])
+    ensures { λ u. ⌜ now (table .exit)
+        ≡ tableOf (now (table .entry)) (kindsOf (now (registers .entry))) (operandsIn (now (operands .entry))) (codesOf (now (code .entry))) ⌝ }
+{
+    let n = least(registers.len() / 32, table.len() / 5);
+    fill(code, operands, registers, &mut table[..5 * n]);
+}

@@ -1,0 +1,1 @@
+// Laws alone: of Booleans, numbers and lists, for any crate.

@@ -1,0 +1,59 @@
+// What the program says of itself: on standard output where it is asked, else on standard error.
+use crate::line;
+use crate::quote;
+use crate::status;
+use crate::status::Status;
+use libc::STDERR_FILENO;
+use libc::STDOUT_FILENO;
+
+fn say_usage(fd: i32) -> bool {
+    io::write_all(
+        fd,
+        b"usage: halivomue read|tidy [--words] [--] [FILE..]
+       halivomue --help|--version
+",
+    )
+}
+
+pub fn usage() -> Status {
+    say_usage(STDERR_FILENO);
+    Status::Usage
+}
+
+pub fn version() -> Status {
+    status::of(line::say(b"halivomue 0.2\n"))
+}
+
+pub fn help() -> Status {
+    if !say_usage(STDOUT_FILENO) {
+        os::fail(b"standard output");
+        return Status::Failed;
+    }
+    status::of(line::say(
+        b"  read      of each file: accepted, or refused, number and record
+  tidy      of each file: yes, or no and the lowest offending register, or refused
+  --words   what the numbers mean, beside them
+  --status  writes 0, 1 (a file was refused or failed) or 2 (usage) to descriptor 3
+  --        what follows are names, even with a dash in front
+Without a name the bare answer of standard input; the name - is standard input.
+",
+    ))
+}
+
+// A word that is no command, or no option.
+pub fn unknown(what: &[u8], word: &[u8]) -> Status {
+    let mut text = [0u8; 1024];
+    let n = quote::put_name(&mut text, 0, word);
+    io::write_all(STDERR_FILENO, b"halivomue: unknown ");
+    io::write_all(STDERR_FILENO, what);
+    io::write_all(STDERR_FILENO, b" ");
+    io::write_all(STDERR_FILENO, &text[..n]);
+    io::write_all(STDERR_FILENO, b"\n");
+    usage()
+}
+
+pub fn unknown_option(i: usize) -> Status {
+    let mut word = io::buffer();
+    let n = os::arg(i, &mut word);
+    unknown(b"option", &word[..n])
+}

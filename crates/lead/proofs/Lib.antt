@@ -1,4 +1,0 @@
-pub mod Laws
-pub mod Paths
-pub mod Searching
-pub mod Threading

@@ -1,0 +1,10 @@
+pub mod Lists
+pub mod Bytes
+pub mod Sections
+pub mod Blocks
+pub mod Ends
+pub mod Tables
+pub mod Accepted
+pub mod FromRecords
+pub mod ToRecords
+pub mod Laws

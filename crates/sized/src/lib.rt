@@ -1,0 +1,1 @@
+// Laws alone: what the steps leave is well formed and within the sizes of document 01.

@@ -1,0 +1,173 @@
+//! Times a library's `halivomue_shorten` beside the published Rust with a plain reader and writer.
+//! Usage: bench-shorten                             all sorts of files and sizes, as a table
+//!        bench-shorten library|rust <sort> <n>     one file of n instructions once, to be counted
+//! HALIVOMUE_LIBRARY names the shared object. To be built with `--profile speed`.
+
+use checks::reader;
+use halivomue_reference::library::{Library, Shortening};
+use halivomue_reference::plain::{self, Ready};
+use halivomue_reference::read::Refusal;
+use halivomue_reference::record::RECORD;
+use halivomue_reference::sorts::{SIZES, SORTS, files};
+use std::ffi::c_int;
+use std::hint::black_box;
+use std::time::Duration;
+
+/// The counts of classes 1 to 6, from the Rust reader that Read is timed beside.
+fn read(bytes: &[u8]) -> Result<[usize; 6], Refusal> {
+    match reader::Procedure::read(bytes) {
+        Ok(p) => Ok([p.registers, p.blocks, p.bodies, p.code, p.operands, p.arms].map(<[_]>::len)),
+        Err(refusal) => Err((refusal.number, refusal.record)),
+    }
+}
+
+fn shorten_into(bytes: &[u8], out: &mut [u8]) -> Shortening {
+    plain::shorten_into(read, bytes, out)
+}
+
+const TURN: Duration = Duration::from_millis(10);
+const TURNS: usize = 15;
+
+/// The best time of each for one pass over the files, taken in turns.
+fn best<const N: usize>(functions: [&dyn Fn(); N]) -> [Duration; N] {
+    let passes = functions.map(|f| {
+        let once = time(10, f);
+        (TURN.as_nanos() / once.as_nanos().max(1)).clamp(1, 1_000_000) as u32
+    });
+    let mut best = [Duration::MAX; N];
+    for _ in 0..TURNS {
+        for k in 0..N {
+            best[k] = best[k].min(time(passes[k], functions[k]));
+        }
+    }
+    best
+}
+
+fn time(passes: u32, function: &dyn Fn()) -> Duration {
+    let start = processor_time();
+    (0..passes).for_each(|_| function());
+    (processor_time() - start) / passes
+}
+
+/// What this thread has taken of a processor: other programs on the machine don't count.
+fn processor_time() -> Duration {
+    #[repr(C)]
+    struct Time {
+        seconds: i64,
+        nanoseconds: i64,
+    }
+    unsafe extern "C" {
+        fn clock_gettime(clock: c_int, time: *mut Time) -> c_int;
+    }
+    const THREAD: c_int = 3;
+    let mut time = Time { seconds: 0, nanoseconds: 0 };
+    // On 64-bit Linux a timespec is two such numbers.
+    let failed = unsafe { clock_gettime(THREAD, &mut time) };
+    assert_eq!(failed, 0, "no clock");
+    Duration::new(time.seconds as u64, time.nanoseconds as u32)
+}
+
+/// Times of one file, in nanoseconds.
+struct Row {
+    library: f64,
+    rust: f64,
+    /// The library without its reading, where it can be told; the steps take no longer.
+    library_steps: Option<f64>,
+    run: f64,
+}
+
+fn row(library: Library, files: &[Vec<u8>]) -> Row {
+    let out = std::cell::RefCell::new(vec![0; 65_536]);
+    let ready: Vec<Ready> = files.iter().map(|f| Ready::new(f)).collect();
+    let each = |f: &dyn Fn(&[u8], &mut [u8]) -> Shortening| {
+        files.iter().for_each(|file| {
+            black_box(f(black_box(file), &mut out.borrow_mut()));
+        })
+    };
+    let [library_time, rust, read, copy_and_run, copy] = best([
+        &|| each(&|bytes, out| library.shorten(bytes, out)),
+        &|| each(&shorten_into),
+        &|| {
+            files.iter().for_each(|file| {
+                black_box(library.read(black_box(file)));
+            })
+        },
+        &|| ready.iter().for_each(|r| drop(black_box(black_box(r).copy_and_run()))),
+        &|| ready.iter().for_each(|r| drop(black_box(black_box(r).copy()))),
+    ]);
+    let each = |time: Duration| time.as_secs_f64() * 1e9 / files.len() as f64;
+    Row {
+        library: each(library_time),
+        rust: each(rust),
+        library_steps: library.read(&[]).map(|_| each(library_time) - each(read)),
+        run: each(copy_and_run) - each(copy),
+    }
+}
+
+/// All sorts and sizes.
+fn table(library: Library) {
+    println!("{:>16} {:>23} {:>6} {:>24} {:>6}", "", "(a) bytes to bytes, ns", "ratio", "(b) steps, ns", "ratio");
+    println!(
+        "{:>8} {:>7} {:>11} {:>11} {:>6} {:>12} {:>11} {:>6}",
+        "files", "instr.", "library", "Rust", "", "library at", "run", ""
+    );
+    println!("{:>57} {:>6}", "", "most");
+    for sort in SORTS {
+        let mut by_size = Vec::new();
+        for n in SIZES {
+            let r = row(library, &files(sort, n));
+            let steps =
+                r.library_steps.map_or(("-".into(), "-".into()), |s| (format!("{s:.0}"), format!("{:.2}", r.run / s)));
+            println!(
+                "{:>8} {n:>7} {:>11.0} {:>11.0} {:>6.2} {:>12} {:>11.0} {:>6}",
+                format!("{sort:?}").to_lowercase(),
+                r.library,
+                r.rust,
+                r.rust / r.library,
+                steps.0,
+                r.run,
+                steps.1
+            );
+            by_size.push(r);
+        }
+        let grows = |f: &dyn Fn(&Row) -> f64| f(&by_size[4]) / f(&by_size[3]);
+        println!("{:>8} (c) from 240 to 480: library {:.2}, Rust {:.2}", "", grows(&|r| r.library), grows(&|r| r.rust));
+    }
+    println!("A ratio is above 1 where the library is the faster.");
+}
+
+/// The call that callgrind counts.
+#[inline(never)]
+#[unsafe(no_mangle)]
+fn counted_library(library: Library, bytes: &[u8], out: &mut [u8]) -> Shortening {
+    black_box(library.shorten(bytes, out))
+}
+
+/// The same with the Rust.
+#[inline(never)]
+#[unsafe(no_mangle)]
+fn counted_rust(_: Library, bytes: &[u8], out: &mut [u8]) -> Shortening {
+    black_box(shorten_into(bytes, out))
+}
+
+/// One file shortened once, to be counted; prints its instructions and records.
+fn once(library: Library, which: &str, sort: &str, n: usize) {
+    let sort = SORTS.into_iter().find(|s| format!("{s:?}").to_lowercase() == sort).expect("a sort of files");
+    let bytes = files(sort, n).remove(0);
+    let mut out = vec![0; 65_536];
+    match which {
+        "library" => counted_library(library, black_box(&bytes), &mut out),
+        _ => counted_rust(library, black_box(&bytes), &mut out),
+    };
+    println!("{n} {}", bytes.len() / RECORD);
+}
+
+fn main() {
+    let library = Library::from_environment().unwrap_or_else(|why| panic!("{why}"));
+    let arguments: Vec<String> = std::env::args().skip(1).collect();
+    match arguments.as_slice() {
+        [] => table(library),
+        [which, sort, n] => once(library, which, sort, n.parse().expect("a number is due")),
+        _ => eprintln!("usage: bench-shorten [library|rust <sort> <instructions>]"),
+    }
+}
