@@ -9,6 +9,7 @@ use borrow.Author.Tests.{leb-true, le-leb, lt-ltb, eq-eqb}
 use lib.ListN.{length, getD, take, drop, set, length-drop, length-map, List·getD-map}
 use lib.Seq.{take-take, take-suc-set, drop-set-add, length-take-le, set-set, getD-set-same}
 use Rattle.general.proofs.Numbers.{order}
+use Rattle.general.proofs.Lists.{map-take, map-set}
 use Rattle.format.specs.declared.Record.{Record}
 use Rattle.format.specs.Record.{recordsOf, recordAt}
 use Rattle.format.proofs.Laws.{length-records}
@@ -22,7 +23,7 @@ use Rattle.ends.specs.Ends.{front}
 use Rattle.blocks.specs.Blocks.{blockRecordsIn, blocksOf, Canonical}
 use Rattle.blocks.specs.Rewrite.{Holds, Apart}
 use Rattle.blocks.proofs.Parts.{records-at, codes-at, length-blocks}
-use Rattle.blocks.proofs.Rewrites.{front-take, map-take, map-set}
+use Rattle.blocks.proofs.Rewrites.{front-take}
 use Rattle.blocks.proofs.Bytes.{put-bytes}
 use Rattle.blocks.proofs.Apart.{outside}
 use Rattle.arena.specs.Arena.{Arena, arena, Topped, topped, pointed, room, popped, pop, grows, push}
