@@ -89,13 +89,6 @@ unfolding over
 over-append f s [] m = refl
 over-append f s (x ∷ l) m = over-append f (f s x) l m
 
--- the instructions of some records
-pub codes-length : (b : List ℕ) → length (codesOf b) ≡ length b / 32
-codes-length b = length-map (recordsOf b) codeOf ∙ length-records b
-
-pub inst-at : (b : List ℕ) (k : ℕ) {r : Record} {i : Inst} → r ≡ recordAt b k → i ≡ instOf r → i ≡ getD (codesOf b) k (codeOf blank) .inst
-inst-at b k e f = f ∙ ap instOf e ∙ sym (ap (λ (x : Code). x .inst) (List·getD-map codeOf (recordsOf b) k blank))
-
 -- an instruction's definitions, then its uses: its own fields and those of its list
 module _ (i : Inst) {q : Roles} (e : q ≡ rolesOf i) (ops t : List ℕ) {t₁ t₂ t₃ : List ℕ} where
   pub count-one : t₁ ≡ over (counted 1 255) t (take (q .defs) (q .reg)) → t₂ ≡ over (counted 2 cap) t₁ (drop (q .defs) (take (q .n) (q .reg))) →

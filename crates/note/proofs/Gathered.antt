@@ -19,9 +19,6 @@ use Rattle.steps.specs.Facts.{Facts}
 use Rattle.facts.specs.Storage.{factsIn}
 use Rattle.steps.specs.Note.{Known, forgetAll, sourceOf, learn, note, notes}
 
-pub inst-at : (b : List ℕ) (k : ℕ) {r : Record} {x : Inst} → r ≡ recordAt b k → x ≡ instOf r → x ≡ getD (codesOf b) k (codeOf blank) .inst
-inst-at b k e f = f ∙ ap instOf e ∙ sym (ap (λ (y : Code). y .inst) (List·getD-map codeOf (recordsOf b) k blank))
-
 module _ (f : Facts) (l : List Code) (k : ℕ) (s : Known) {w : Known} where
   pub notes-again : (d : Code) {t : Known} → k < length l → t ≡ note f s (getD l k d .inst) → notes f s (drop k l) ≡ w → notes f t (drop (k + 1) l) ≡ w
   unfolding notes
