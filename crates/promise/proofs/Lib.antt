@@ -1,1 +1,2 @@
 pub mod Tidied
+pub mod Formed
