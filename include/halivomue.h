@@ -12,8 +12,8 @@
  *          thread or a device changes during the call; nothing else is written,
  *          so nothing else can overlap them.
  * Stack    HALIVOMUE_READ_STACK and HALIVOMUE_TIDY_STACK bytes suffice below the
- *          caller's frame; signal handlers come on top. Without recursion, so
- *          the need is the same for every file.
+ *          caller's frame, for every file: there is no recursion. Signal handlers
+ *          come on top.
  * Errors   there are none: every function ends, on any bytes, with its answer.
  */
 #ifndef HALIVOMUE_H
@@ -30,7 +30,7 @@ extern "C" {
 
 /* Bytes of stack that suffice for a call. tests/stack/run measures them. */
 #define HALIVOMUE_READ_STACK 1024
-#define HALIVOMUE_TIDY_STACK 40960
+#define HALIVOMUE_TIDY_STACK 8192
 
 /* Why a file is refused: the first of these that applies, in this order.
  * docs/FORMAT.md describes the file, docs/MENDING.md how to mend one.

@@ -3,10 +3,10 @@
 
     tests/definition/try.py [--all] [--list FILE] [NAME...]
 
-Takes the answers for files of at most 64 records, accepted with 6 to 24 instructions or refused,
-or those named; with --all every answer. For each it writes a claim, to be proved by `refl`, into
-a scratch crate in a temporary folder, has it checked, and says how many hold. With --all some of
-the largest files take more steps than antt allows one declaration; else that is a failure.
+Takes the answers for files of at most 150 records, or those named; with --all every answer. For
+each it writes a claim, to be proved by `refl`, into a scratch crate in a temporary folder, has it
+checked, and says how many hold. With --all some of the largest files take more steps than antt
+allows one declaration; else that is a failure.
 """
 
 import os
@@ -23,14 +23,23 @@ from answers import answers  # noqa: E402
 
 # All that is known here of the definition: where it stands, and how an answer is claimed of it.
 CRATE = "steps"
-DEFINITION = "Rattle.steps.specs.Shorten.{Answer, shorten}"
+DEFINITION = "Rattle.steps.specs.Shorten.{Outcome, shorten}"
 
 
 def claim(answer):
-    numbers = answer.number, answer.record, answer.moved, answer.grown, answer.fresh, answer.rescued, answer.length
-    fields = zip("number place moved grown fresh rescued length".split(), numbers)
+    entry, exit = buffers(answer)
+    numbers = answer.number, answer.record, answer.length, answer.moved, answer.grown, answer.fresh, answer.rescued
+    fields = zip("number place length moved grown fresh rescued".split(), numbers)
     record = "; ".join(f"{field} = {value}" for field, value in fields)
-    return f"shorten {bytes_of(answer.input)} {answer.room} ≡ record {{ {record}; bytes = {bytes_of(answer.output)} }}"
+    outcome = f"record {{ answer = record {{ {record} }}; output = {bytes_of(exit)} }}"
+    return f"shorten {bytes_of(answer.input)} {bytes_of(entry)} ≡ {outcome}"
+
+
+def buffers(answer):
+    """A buffer at entry with which the answer is due, and the buffer at exit; no longer than need be."""
+    room = answer.room if answer.number == 9 else min(answer.room, answer.length + 7)
+    entry = bytes((7 * k + 0x5A) % 256 for k in range(room))
+    return entry, answer.output + entry[len(answer.output):]
 
 
 A_FILE = 20  # answers in one file of the scratch crate
@@ -153,7 +162,7 @@ def main(words):
     if wanted:
         chosen = [a for a in stored if a.name in wanted]
     else:
-        chosen = [a for a in stored if every or (a.small or a.number > 0) and len(a.input) <= 2048]
+        chosen = [a for a in stored if every or len(a.input) <= 150 * 32]
 
     start = time.time()
     made = subprocess.run(["rt", "check", CRATE], cwd=ROOT, capture_output=True, text=True)

@@ -57,8 +57,8 @@ def printed(done, path):
 
 def run(command, folder):
     environment = dict(os.environ, PATH=folder + "/bin:" + os.environ["PATH"], LC_ALL="C")
-    return subprocess.run(["bash", "-c", command], cwd=folder, env=environment, stdin=subprocess.DEVNULL,
-                          capture_output=True, timeout=60)
+    return subprocess.run(["timeout", "300", "bash", "-c", command], cwd=folder, env=environment,
+                          stdin=subprocess.DEVNULL, capture_output=True, check=False)
 
 
 def replay(path, write):

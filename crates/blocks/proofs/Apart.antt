@@ -9,14 +9,15 @@ use borrow.Author.Tests.{eqb-true, ltb-true, leb-true}
 use lib.Dec.{eqb, ltb, leb}
 use lib.ListN.{length, getD, take, drop, set, length-drop, List·getD-map}
 use lib.Seq.{drop-set-lt, drop-set-add, take-set-le, take-set-lt, getD-take, getD-drop, length-take-le, set-getD}
+use Rattle.general.proofs.Booleans.{and-first, and-second}
+use Rattle.general.proofs.Numbers.{order}
 use Rattle.format.specs.declared.Record.{Record}
 use Rattle.format.specs.Record.{recordsOf, recordAt, blank}
 use Rattle.format.proofs.Laws.{length-records}
 use Rattle.layout.specs.Walk.{walk}
 use Rattle.layout.proofs.Walks.{walk-head, walk-tail}
-use Rattle.layout.proofs.Order.{and-first, and-second}
 use Rattle.store.specs.Store.{Bytes}
-use Rattle.store.proofs.Laws.{order, put-records, fits-at}
+use Rattle.store.proofs.Laws.{put-records, fits-at}
 use Rattle.read.specs.Structure.{State, tiles, nextBlock, codeOf as recordsOfBlock}
 use Rattle.inst.specs.declared.Inst.{Inst}
 use Rattle.codec.specs.Codec.{codeOf, recordOf, inRange}
@@ -48,10 +49,10 @@ row n s (r ∷ rs) e =
     let p = t .0 in
     (omega arith, t .1, t .2, row n (nextBlock s r) rs (walk-tail (tiles n) nextBlock s r rs e))
 
-row-within : (n due : ℕ) (rs : List Record) → Row n due rs → (k : ℕ) → getD rs k blank .p2 ≤ n
-row-within n due [] a k = omega arith
-row-within n due (r ∷ rs) a zero = a .2
-row-within n due (r ∷ rs) a (suc k) = row-within n (r .p2) rs (a .3) k
+row-within : (n due : ℕ) (rs : List Record) → Row n due rs → (k x : ℕ) → Holds (getD rs k blank) x → x < n
+row-within n due [] a k x h = absurd (let t = h .to in omega arith)
+row-within n due (r ∷ rs) a zero x h = let t = h .to in let b = a .2 in omega arith
+row-within n due (r ∷ rs) a (suc k) x h = row-within n (r .p2) rs (a .3) k x h
 
 row-after : (n due : ℕ) (rs : List Record) → Row n due rs → (k x : ℕ) → Holds (getD rs k blank) x → due ≤ x
 row-after n due [] a k x h = absurd (let t = h .to in omega arith)
@@ -123,6 +124,10 @@ module _ {A : Type 0} (c : List A) (s e x : ℕ) (v : A) where
       ∙ ap (take (e - s)) (drop-set-add s c (x - s) v)
       ∙ take-set-lt (e - s) (drop s c) (x - s) v (omega arith)
 
+-- a block that isn't empty holds its last place
+pub last-place : (r : Record) → r .p1 < r .p2 → Holds r (r .p2 - 1)
+last-place r h = record { from = omega arith; to = omega arith }
+
 -- a store at a block's own last place
 pub own-last : (c : List Record) (r : Record) (f : Record → Record) → r .p1 < r .p2 → r .p2 ≤ length c
     → recordsOfBlock (set c (r .p2 - 1) (f (getD c (r .p2 - 1) blank))) r ≡ lastBy f (recordsOfBlock c r)
@@ -156,7 +161,7 @@ module _
     written g =
         let r = recordAt table k in
         let old = recordAt code (r .p2 - 1) in
-        let w = a .within k in
+        let w = a .within k (r .p2 - 1) (last-place r g) in
         let f = written-fits (withInst i (codeOf old)) (record { inst = h; stmt = fits-at code (r .p2 - 1) bytes .stmt }) in
         ap recordsOf (sym (end-rewritten code r i g)) ∙ put-records code (r .p2 - 1) (rewritten old i) (omega arith) f
 
@@ -183,9 +188,9 @@ module _
             let v = rewritten (recordAt code x) i in
             let rs = recordsOf table in
             let f : Record → Record = λ q. rewritten q i in
-            let w = a .within k in
+            let mine = last-place r g in
+            let w = a .within k x mine in
             let m = length-records code in
-            let mine : Holds r x = record { from = omega arith; to = omega arith } in
             ap (λ (d : List Record). map (recordsOfBlock d) rs) (written g)
             ∙ map-one (recordsOfBlock c) (recordsOfBlock (set c x v)) rs rs k (lastBy f (getD (blockRecordsIn code table) k [])) refl
             (λ j ne. let q = recordAt table j in outside c (q .p1) (q .p2) x v (λ s t. ne (a .alone j k x (record { from = s; to = t }) mine)))

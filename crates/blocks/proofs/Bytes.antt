@@ -6,6 +6,7 @@ use mathlib.Core.Bool.{Bool, true, false, cond}
 use mathlib.Core.List.{List, [], _∷_, _++_}
 use lib.ListN.{length, getD, take, drop}
 use lib.Dec.{ltb}
+use lib.Seq.{paste}
 use Rattle.format.specs.declared.Record.{Record}
 use Rattle.format.specs.Record.{recordAt}
 use Rattle.store.specs.Store.{wordBytes, tagBytes, recordBytes, putOf, Bytes}
@@ -70,6 +71,15 @@ small-record r =
 -- what is taken out of bytes are bytes
 pub bytes-part : (n s : ℕ) (b : List ℕ) → Bytes b → Bytes (take n (drop s b))
 bytes-part n s b h = small-bytes (take n (drop s b)) (small-take n (drop s b) (small-drop s b (bytes-small b h)))
+
+pub bytes-drop : (n : ℕ) (b : List ℕ) → Bytes b → Bytes (drop n b)
+bytes-drop n b h = small-bytes (drop n b) (small-drop n b (bytes-small b h))
+
+-- and what is copied to them
+pub bytes-paste : (d : List ℕ) (at : ℕ) (s : List ℕ) (n : ℕ) → Bytes d → Bytes s → Bytes (paste d at s n)
+bytes-paste d at s n h g =
+    let f = small-append (take at d) (take n s) (small-take at d (bytes-small d h)) (small-take n s (bytes-small s g)) in
+    small-bytes (paste d at s n) (small-append (take at d ++ take n s) (drop (at + n) d) f (small-drop (at + n) d (bytes-small d h)))
 
 -- and what is written to them
 pub put-bytes : (b : List ℕ) (k : ℕ) (r : Record) → Bytes b → Bytes (putOf b k r)

@@ -33,7 +33,8 @@ module _ (code : List ℕ) (r : Record) (i : Inst) where
 pub front-records : (code : List ℕ) → recordsOf (frontBytes code) ≡ take (length code / 32 - 1) (recordsOf code)
 front-records code = records-part code 0 (length code / 32 - 1) (omega arith)
 
-front-take : (c : List Code) → take (length c - 1) c ≡ front c
+-- a block without its last is one shorter
+pub front-take : (c : List Code) → take (length c - 1) c ≡ front c
 unfolding front
 front-take [] = refl
 front-take (x ∷ []) = refl

@@ -36,9 +36,9 @@ pub record Holds (r : Record) (x : ℕ) : Type 0 where
   pub from : r .p1 ≤ x
   pub to : x < r .p2
 
--- the blocks of a table end within n records, and no place is of two blocks
+-- the blocks of a table lie within the first n records, and no place is of two blocks
 pub record Apart (n : ℕ) (table : List ℕ) : Type 0 where
-  pub within : (k : ℕ) → recordAt table k .p2 ≤ n
+  pub within : (k x : ℕ) → Holds (recordAt table k) x → x < n
   pub alone : (j k x : ℕ) → Holds (recordAt table j) x → Holds (recordAt table k) x → j ≡ k
 
 -- "blocks tile the code", as Read has it

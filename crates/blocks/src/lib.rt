@@ -8,7 +8,8 @@ use inst::Code;
 use inst::Inst;
 use inst::StmtId;
 
-fn least(a: usize, b: usize) -> usize
+// The lesser of two numbers.
+pub fn least(a: usize, b: usize) -> usize
     ensures { λ r. ⌜ r ≡ min a b ⌝ }
 {
     if a <= b { a } else { b }
@@ -37,10 +38,11 @@ pub fn front<'a>(code: &'a [u8]) -> &'a [u8]
 pub fn rewritten(old: Record, i: Inst) -> Record
     ensures { λ r. ⌜ r ≡ spec.rewritten old i ⌝ }
 {
-    codec::record_of(Code {
+    let code = Code {
         inst: i,
         stmt: StmtId(old.stmt),
-    })
+    };
+    codec::record_of(code)
 }
 
 // The last instruction of block k is rewritten; nothing is where block k is empty or ends past the code.

@@ -9,7 +9,7 @@ use lib.Dec.{ltb, eqb, lit<}
 use lib.ListN.{length, getD}
 use borrow.Author.Tests.{lt-ltb, ltb-true, eqb-true}
 use Rattle.general.proofs.Booleans.{and-first, and-second}
-use Rattle.general.proofs.Numbers.{below, order}
+use Rattle.general.proofs.Numbers.{Below, below, order}
 use Rattle.format.specs.declared.Record.{Record}
 use Rattle.format.specs.Record.{recordAt}
 use Rattle.format.specs.Kinds.{right, fields, instructionPlaces, instructionOps, allFit}
@@ -101,8 +101,17 @@ written-class (i.Ret v) = refl
 written-class (i.Unreachable w) = refl
 written-class i.Stmt = refl
 
-ops-few : (k : ℕ) → k < 24 → instructionOps k < 256
-ops-few = below (λ (k : ℕ). instructionOps k < 256) 24 ((((((((((((((((((((((((tt, lit< tt), lit< tt), lit< tt), lit< tt), lit< tt), lit< tt), lit< tt), lit< tt), lit< tt), lit< tt), lit< tt), lit< tt), lit< tt), lit< tt), lit< tt), lit< tt), lit< tt), lit< tt), lit< tt), lit< tt), lit< tt), lit< tt), lit< tt), lit< tt)
+abbrev Few : ℕ → Type 0
+Few k = instructionOps k < 256
+
+ops-few-8 : Below Few 8
+ops-few-8 = ((((((((tt, lit< tt), lit< tt), lit< tt), lit< tt), lit< tt), lit< tt), lit< tt), lit< tt)
+
+ops-few-16 : Below Few 16
+ops-few-16 = ((((((((ops-few-8, lit< tt), lit< tt), lit< tt), lit< tt), lit< tt), lit< tt), lit< tt), lit< tt)
+
+ops-few : (k : ℕ) → k < 24 → Few k
+ops-few = below Few 24 ((((((((ops-few-16, lit< tt), lit< tt), lit< tt), lit< tt), lit< tt), lit< tt), lit< tt), lit< tt)
 
 word : (p : ℕ) (b : Bool) → (ltb p (2 ^ 32) && b) ≡ true → p < 2 ^ 32
 word p b h = ltb-true p (2 ^ 32) (and-first (ltb p (2 ^ 32)) b h)

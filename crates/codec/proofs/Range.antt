@@ -6,7 +6,7 @@ use mathlib.Core.Bool.{true}
 use lib.Dec.{ltb}
 use lib.ListN.{getD}
 use borrow.Author.Tests.{lt-ltb, ltb-true}
-use Rattle.general.proofs.Numbers.{below}
+use Rattle.general.proofs.Numbers.{Below, below}
 use Rattle.real.proofs.Laws.{real-canonical}
 use Rattle.inst.specs.declared.Inst.the-variants as i
 use Rattle.ops.specs.Ops.{spaceOf, optOf, optArg}
@@ -137,5 +137,11 @@ ranged-unreachable : Ranged 22
 unfolding inRange
 ranged-unreachable op p1 p2 p3 p4 p5 p6 w = rw (w .w1)
 
+ranged-8 : Below Ranged 8
+ranged-8 = ((((((((tt, ranged-const), ranged-constf), ranged-move), ranged-addrof), ranged-select), ranged-cmp), ranged-bool), ranged-bin)
+
+ranged-16 : Below Ranged 16
+ranged-16 = ((((((((ranged-8, ranged-binrange), ranged-load), ranged-store), ranged-check), ranged-makedope), ranged-dopelen), ranged-boundslen), ranged-alloc)
+
 pub ranged : (k : ℕ) → k < 23 → Ranged k
-ranged = below Ranged 23 (((((((((((((((((((((((tt, ranged-const), ranged-constf), ranged-move), ranged-addrof), ranged-select), ranged-cmp), ranged-bool), ranged-bin), ranged-binrange), ranged-load), ranged-store), ranged-check), ranged-makedope), ranged-dopelen), ranged-boundslen), ranged-alloc), ranged-takebounds), ranged-callnative), ranged-br), ranged-condbr), ranged-case), ranged-ret), ranged-unreachable)
+ranged = below Ranged 23 (((((((ranged-16, ranged-takebounds), ranged-callnative), ranged-br), ranged-condbr), ranged-case), ranged-ret), ranged-unreachable)

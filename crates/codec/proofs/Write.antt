@@ -8,7 +8,7 @@ use lib.Dec.{ltb, eqb}
 use lib.ListN.{getD}
 use borrow.Author.Tests.{ltb-true, eqb-true}
 use Rattle.general.proofs.Booleans.{and-first, and-second}
-use Rattle.general.proofs.Numbers.{below}
+use Rattle.general.proofs.Numbers.{Below, below}
 use Rattle.format.specs.Kinds.{right, instructionPlaces, instructionOps, allFit, zeros}
 use Rattle.real.proofs.Laws.{bits-real}
 use Rattle.inst.specs.declared.Inst.the-variants as i
@@ -281,5 +281,11 @@ kept-stmt op p1 p2 p3 p4 p5 p6 o w2 w3 f =
     let z = all-zero (p1 ∷ p2 ∷ p3 ∷ p4 ∷ p5 ∷ p6 ∷ []) f in
     cc
 
+kept-8 : Below Kept 8
+kept-8 = ((((((((tt, kept-const), kept-constf), kept-move), kept-addrof), kept-select), kept-cmp), kept-bool), kept-bin)
+
+kept-16 : Below Kept 16
+kept-16 = ((((((((kept-8, kept-binrange), kept-load), kept-store), kept-check), kept-makedope), kept-dopelen), kept-boundslen), kept-alloc)
+
 pub kept : (k : ℕ) → k < 24 → Kept k
-kept = below Kept 24 ((((((((((((((((((((((((tt, kept-const), kept-constf), kept-move), kept-addrof), kept-select), kept-cmp), kept-bool), kept-bin), kept-binrange), kept-load), kept-store), kept-check), kept-makedope), kept-dopelen), kept-boundslen), kept-alloc), kept-takebounds), kept-callnative), kept-br), kept-condbr), kept-case), kept-ret), kept-unreachable), kept-stmt)
+kept = below Kept 24 ((((((((kept-16, kept-takebounds), kept-callnative), kept-br), kept-condbr), kept-case), kept-ret), kept-unreachable), kept-stmt)

@@ -15,7 +15,8 @@ use Rattle.inst.specs.declared.AddrSpace.{AddrSpace}
 use Rattle.inst.specs.declared.AddrSpace.the-variants as s
 use Rattle.inst.specs.declared.Inst.{Inst}
 use Rattle.inst.specs.declared.Inst.the-variants as i
-use Rattle.ops.specs.Ops.{cmpOf, cmpNum, boolOf, boolNum, intOf, intNum, widthOf, widthNum, checkOf, checkNum, spaceOf, spaceNum, spaceArg, optOf, optNum, optArg}
+use Rattle.ops.specs.Ops.{cmpOf, cmpNum, boolOf, boolNum, intOf, intNum, widthOf, widthNum, checkOf, checkNum}
+use Rattle.ops.specs.Ops.{spaceOf, spaceNum, spaceArg, optOf, optNum, optArg}
 
 -- "v (p2 low, p3 high)"
 abbrev pub wordOf : ℕ → ℕ → ℕ

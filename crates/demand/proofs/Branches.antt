@@ -21,7 +21,8 @@ use Rattle.codec.specs.Codec.{withInst}
 use Rattle.machine.specs.Machine.{Regs, effect, goes}
 use Rattle.demand.specs.Setting.{In, Each, Front, Setting, does, defsAt, readsAt, Written, Read, Exposed, Hidden, Fine, Loaded, Behind}
 use Rattle.demand.proofs.Basics.{clash}
-use Rattle.demand.proofs.Effects.{Shape, constant, computed, acting, going, testing, casing, ending, shape}
+use Rattle.demand.proofs.Effects.{Shape, computed, acting, going, testing, casing, ending, shape}
+use Rattle.demand.proofs.Rescued.{constant}
 use Rattle.demand.proofs.Codes.{each-append, each-left, each-right, front-each, each-front, exposed-left, exposed-right, exposed-split, read-exposed, Ended, set-block}
 use Rattle.demand.proofs.Edit.{Tail, Block, whole, part}
 
@@ -179,10 +180,10 @@ module _ (E : Setting) where
       end-good =
           rw (t .rewritten x)
           (set-good m (pre ++ (y ∷ [])) (omega arith)
-            (each-append (Fine E) pre (y ∷ []) pre-fine (λ r k. absurd (subst (In r) writes-none k), tt))
-            end-hidden
-            (each-append (Low m) pre (y ∷ []) (each-left (Low m) pre (t .last ∷ []) (subst (Each (Low m)) (t .is) (good .low a))) (end-low, tt))
-            (each-front NoEnd pre (y ∷ []) pre-formed tt))
+          (each-append (Fine E) pre (y ∷ []) pre-fine (λ r k. absurd (subst (In r) writes-none k), tt))
+          end-hidden
+          (each-append (Low m) pre (y ∷ []) (each-left (Low m) pre (t .last ∷ []) (subst (Each (Low m)) (t .is) (good .low a))) (end-low, tt))
+          (each-front NoEnd pre (y ∷ []) pre-formed tt))
 
       pub end-blocks : (κ : ℕ) (rs rs′ : List ℕ) (Q : Regs → Type 0) → ((g : Regs) → Loaded E g → Behind E Q pre g)
           → Tail E κ rs rs′ P (set P a (pre ++ (y ∷ []))) Q (t .last ∷ []) (y ∷ [])

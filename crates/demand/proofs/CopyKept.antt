@@ -146,7 +146,7 @@ module _ (E : Setting) (f : Facts) (same-one : (r : ℕ) → (ltb r (length (f .
         by r k q e (some j) z = let t = found-old d m local r j z in let i : j ≡ k = cc in let b = g .1 r j z in omega arith
         by r k q (yes e) none z =
             let t : found r (local ++ ((d, m) ∷ [])) ≡ some m =
-                subst (λ u. found u (local ++ ((d, m) ∷ [])) ≡ some m) (sym e) (found-new d m local (subst (λ u. found u local ≡ none) e z)) in
+            subst (λ u. found u (local ++ ((d, m) ∷ [])) ≡ some m) (sym e) (found-new d m local (subst (λ u. found u local ≡ none) e z)) in
             let i : m ≡ k = cc in
             omega arith
         by r k q (no e) none z = clash-some q (found-other d m local r e ∙ z)

@@ -69,7 +69,7 @@ module _ (E : Setting) (f : Facts) (same-one : (r : ℕ) → (ltb r (length (f .
       by i (some j) z = let t = found-old e m local r j z in let u : j ≡ k = cc in let v = g r j z in (omega (arith, v .0), v .1)
       by (yes i) none z =
           let t : found r (local ++ ((e, m) ∷ [])) ≡ some m =
-              subst (λ u. found u (local ++ ((e, m) ∷ [])) ≡ some m) (sym i) (found-new e m local (subst (λ u. found u local ≡ none) i z)) in
+          subst (λ u. found u (local ++ ((e, m) ∷ [])) ≡ some m) (sym i) (found-new e m local (subst (λ u. found u local ≡ none) i z)) in
           let u : m ≡ k = cc in
           (omega arith, ap owned i ∙ o)
       by (no i) none z = clash-some q (found-other e m local r i ∙ z)

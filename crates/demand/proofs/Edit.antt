@@ -75,7 +75,7 @@ module _ (E : Setting) where
         → new .cost (at (x′ ∷ c′) g′ h′) ≤ old .cost (at (x ∷ c) g h)
     weigh x x′ c c′ g g′ h h′ e =
         let p : entry (E .outside) (E .address) (code E rs′ P′) (at (x′ ∷ c′) g′ h′) ≡ entry (E .outside) (E .address) (code E rs P) (at (x ∷ c) g h) =
-            entry-is rs′ P′ x′ c′ g′ h′ ∙ ap (entryOf (E .outside) (E .address) (code E rs′ P′)) (sym e) ∙ sym (entry-same (does E x g)) ∙ sym (entry-is rs P x c g h) in
+        entry-is rs′ P′ x′ c′ g′ h′ ∙ ap (entryOf (E .outside) (E .address) (code E rs′ P′)) (sym e) ∙ sym (entry-same (does E x g)) ∙ sym (entry-is rs P x c g h) in
         omega (arith, ap (λ z. κ * z) p)
 
     module _ (Q : Regs → Type 0) where
@@ -134,8 +134,8 @@ module _ (E : Setting) where
               let e = same-does x c′ g g′ a in
               together old new R _ _ (weigh x x c c′ g g′ h h e)
               (subst₂ R (sym (step-is rs P x c g h))
-                (sym (step-is rs′ P′ x c′ g′ h ∙ ap (λ z. after (E .outside) (E .address) (code E rs′ P′) z (defsAt x) c′ g′ h) (sym e)))
-                (go (does E x g) (keeps E x g f l) b))
+              (sym (step-is rs′ P′ x c′ g′ h ∙ ap (λ z. after (E .outside) (E .address) (code E rs′ P′) z (defsAt x) c′ g′ h) (sym e)))
+              (go (does E x g) (keeps E x g f l) b))
 
         passes-unit : (e : Effect) (ws : List ℕ) (g : Regs) → Passes e ws (λ g. Unit {0}) g
         passes-unit (writes vs) ws g = tt

@@ -114,7 +114,7 @@ module _ (E : Setting) where
           set-good E m P good a range (m + length (kindsOf f c)) (pre ++ copy) (omega arith)
           (each-append (Fine E) pre copy pre-fine (well .fine)) join-hidden
           (each-append (Low E (m + length (kindsOf f c))) pre copy
-            (more-low pre (each-left (Low E m) pre (end .last ∷ []) (subst (Each (Low E m)) (end .is) (good .low a)))) (well .low))
+          (more-low pre (each-left (Low E m) pre (end .last ∷ []) (subst (Each (Low E m)) (end .is) (good .low a)))) (well .low))
           (each-front (NoEnd E) pre copy (front-each (NoEnd E) (getD P a []) (good .formed a)) (well .formed))
 
       ready : (g g′ : Regs) → Loaded E g → Meet E g g′ → Ready E f same-one own m above c [] m g g′

@@ -327,9 +327,9 @@ module _ (E : Setting) (f : Facts) (same-one : (r : ℕ) → (ltb r (length (f .
         pass w (way-new e p q z k) ih =
             subst (λ e. Sim (x ∷ c) (renamed local (written e m) x ∷ copyFrom f own c (local ++ ((e, m) ∷ [])) (suc m)) g g′) (sym i)
             (abreast _ _ _ _ (at c (upd d v g) h) _ (at c′ (upd m v g′) h) old-step
-              (new-step (written d m) c′ ∙ ap (λ w. at c′ (upd w v g′) h) to-m) refl refl
-              (weigh E κ rs rs′ P P′ x (renamed local (written d m) x) c c′ g g′ h h (sym (copy-does (written d m))))
-              (ih (local ++ ((d, m) ∷ [])) (suc m) (upd d v g) (upd m v g′) (ready-new one-d (ap (all-own E f same-one own) (sym i) ∙ z) local-d)))
+            (new-step (written d m) c′ ∙ ap (λ w. at c′ (upd w v g′) h) to-m) refl refl
+            (weigh E κ rs rs′ P P′ x (renamed local (written d m) x) c c′ g g′ h h (sym (copy-does (written d m))))
+            (ih (local ++ ((d, m) ∷ [])) (suc m) (upd d v g) (upd m v g′) (ready-new one-d (ap (all-own E f same-one own) (sym i) ∙ z) local-d)))
           where
             c′ : List Code
             c′ = copyFrom f own c (local ++ ((d, m) ∷ [])) (suc m)
@@ -365,8 +365,8 @@ module _ (E : Setting) (f : Facts) (same-one : (r : ℕ) → (ltb r (length (f .
       finish l w (way-kept k) =
           together _ _ _ _ _ (weigh E κ rs rs′ P P′ x (renamed local (λ r. r) x) [] [] g g′ h h (sym same))
           (subst₂ (Same E κ rs rs′ P P′) (sym (step-is E rs P x [] g h))
-            (sym (step-is E rs′ P′ (renamed local (λ r. r) x) [] g′ h ∙ ap (λ e. after (E .outside) (E .address) (code E rs′ P′) e (defsAt (renamed local (λ r. r) x)) [] g′ h) same))
-            (left (does E x g) (l .leaves g) _ _))
+          (sym (step-is E rs′ P′ (renamed local (λ r. r) x) [] g′ h ∙ ap (λ e. after (E .outside) (E .address) (code E rs′ P′) e (defsAt (renamed local (λ r. r) x)) [] g′ h) same))
+          (left (does E x g) (l .leaves g) _ _))
         where
           same : does E (renamed local (λ r. r) x) g′ ≡ does E x g
           same = renamed-does E (readThrough local) (λ r. r) x (l .unlisted) g g′ same-reads

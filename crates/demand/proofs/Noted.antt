@@ -210,7 +210,7 @@ module _ (E : Setting) (f : Facts) (known : (r v : ℕ) → f .const r ≡ some 
           let same : g s ≡ g s′ = source-holds k′ g h₀ s in
           with-copy (alike f d s′) d s′ (withValueIf d (valueOf f k′ s′) k′) (upd d (g s) g)
           (with-value d (valueOf f k′ s′) k′ (upd d (g s) g) h₁
-            (λ v q. upd-same d (g s) g d refl ∙ same ∙ value-holds k′ g l h₀ s′ v q))
+          (λ v q. upd-same d (g s) g d refl ∙ same ∙ value-holds k′ g l h₀ s′ v q))
           (upd-same d (g s) g d refl ∙ same ∙ sym (upd-other d (g s) g s′ off))
 
   bool-holds : (op : BoolOp) (x y : ℕ) (k : Known) (g : Regs) → Loaded E g → Holds k g → (v : ℕ) → boolOf op (valueOf f k x) (valueOf f k y) ≡ some v
@@ -248,7 +248,7 @@ module _ (E : Setting) (f : Facts) (known : (r v : ℕ) → f .const r ≡ some 
       by (bool op d y z) q =
           rw (q .1, q .0, q .2)
           (with-value (d .0) _ _ _ (forget-holds (d .0) _ k g h)
-            (λ v e. upd-same (d .0) _ g (d .0) refl ∙ bool-holds op (y .0) (z .0) (forget (d .0) k) g l (forget-was (d .0) k g h) v e))
+          (λ v e. upd-same (d .0) _ g (d .0) refl ∙ bool-holds op (y .0) (z .0) (forget (d .0) k) g l (forget-was (d .0) k g h) v e))
       by (bin ranged op) q = plain
       by (jump e) q = plain
       by other q = plain

@@ -97,7 +97,7 @@ module _ (E : Setting) where
       one d q r =
           together m m′ R _ _ (omega arith)
           (subst₂ R (sym (step-is E rs P x c g h ∙ ap (λ d. after (E .outside) (E .address) (code E rs P) d (defsAt x) c g h) q))
-            (sym (step-is E rs′ P′ x c g h ∙ ap (λ d. after (E .outside) (E .address) (code E rs′ P′) d (defsAt x) c g h) q)) r)
+          (sym (step-is E rs′ P′ x c g h ∙ ap (λ d. after (E .outside) (E .address) (code E rs′ P′) d (defsAt x) c g h) q)) r)
 
       answer-on : (o : Option (List ℕ)) (a : Act) → ((vs : List ℕ) → Loaded E (stores (defsAt x) vs g))
           → R (answered (E .outside) (E .address) (code E rs P) o a (defsAt x) c g h) (answered (E .outside) (E .address) (code E rs′ P′) o a (defsAt x) c g h)

@@ -29,7 +29,8 @@ use Rattle.demand.specs.Setting.{In, Each, Setting, code, defsAt, Fine, 
 use Rattle.demand.specs.Whole.{Whole, Inside}
 use Rattle.demand.specs.Claim.{Reaches, Kept}
 use Rattle.demand.proofs.Basics.{clash, clash-some, and-both, any-in, eqb-eq}
-use Rattle.demand.proofs.Effects.{Shape, constant, computed, acting, going, testing, casing, ending, shape, fixed-constant, varies}
+use Rattle.demand.proofs.Effects.{Shape, computed, acting, going, testing, casing, ending, shape, fixed-constant, varies}
+use Rattle.demand.proofs.Rescued.{constant}
 use Rattle.demand.proofs.Codes.{each-map, end-append}
 use Rattle.demand.proofs.Edit.{Meet}
 use Rattle.demand.proofs.Branches.{Good}
@@ -161,13 +162,13 @@ module _ (p : Procedure) (whole : Whole p) (inside : Inside p) where
         alike outside address p q b κ g g′ 0 (κ * intoZero b) (omega arith)
         (rescued-quiet F [] (q .registers) others moved constants fine-others some b g′ (s .loaded′))
         (subst (Shorter (mach outside address κ p) (mach outside address 0 q) (start outside address p b g))
-          (sym (rescued-front F [] (q .registers) others moved constants fine-others some b g′ (s .loaded′)))
-          (shorter-trans (to-good outside address g g′ s (nextNumber f w) (w .blocks) shortens-w good-w κ [] b)
-            (shorter-trans
-              (unreached F (Marked (p .tables) (w .blocks)) κ [] [] (w .blocks) others
-                (λ b m. block-leads F (Marked (p .tables) (w .blocks)) (getD (w .blocks) b []) (good-w .formed b) (λ t i. reached-closed (p .tables) (w .blocks) b t m i))
-                (λ b m. kept-block 0 marks (w .blocks) b m) b m g′ [])
-              (rescued-runs F [] (q .registers) others moved constants fine-others some b g′ [] (s .loaded′)))))
+        (sym (rescued-front F [] (q .registers) others moved constants fine-others some b g′ (s .loaded′)))
+        (shorter-trans (to-good outside address g g′ s (nextNumber f w) (w .blocks) shortens-w good-w κ [] b)
+        (shorter-trans
+        (unreached F (Marked (p .tables) (w .blocks)) κ [] [] (w .blocks) others
+        (λ b m. block-leads F (Marked (p .tables) (w .blocks)) (getD (w .blocks) b []) (good-w .formed b) (λ t i. reached-closed (p .tables) (w .blocks) b t m i))
+        (λ b m. kept-block 0 marks (w .blocks) b m) b m g′ [])
+        (rescued-runs F [] (q .registers) others moved constants fine-others some b g′ [] (s .loaded′)))))
       where
         κ : ℕ
         κ = length moved
@@ -209,7 +210,7 @@ module _ (p : Procedure) (whole : Whole p) (inside : Inside p) where
         by zero m i =
             front-leads (getD (w .blocks) 0 []) t
             (subst (λ c. In t (leads (p .tables) (endOf c)))
-              (at-front F [] (q .registers) others moved constants fine-others some ∙ ap (λ c. moved ++ c) (kept-block 0 marks (w .blocks) 0 m)) i)
+            (at-front F [] (q .registers) others moved constants fine-others some ∙ ap (λ c. moved ++ c) (kept-block 0 marks (w .blocks) 0 m)) i)
         by (suc a) m i =
             subst (λ c. In t (leads (p .tables) (endOf c)))
             (elsewhere F [] (q .registers) others moved constants fine-others some a ∙ kept-block 0 marks (w .blocks) (suc a) m) i

@@ -7,8 +7,8 @@ use mathlib.Core.List.{List, []}
 use lib.Dec.{leb}
 use lib.ListN.{length, getD, drop, drop-of-length-le}
 use lib.Seq.{drop-cons}
+use Rattle.general.proofs.Booleans.{both, neither}
 use Rattle.inst.specs.declared.Code.{Code}
-use Rattle.shape.proofs.Laws.{both, neither}
 use Rattle.procedure.specs.Lists.{anyOf}
 use Rattle.ends.specs.declared.End.{End}
 use Rattle.ends.specs.Ends.{endOf, targets}

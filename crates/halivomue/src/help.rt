@@ -1,26 +1,22 @@
 // What the program says of itself: on standard output where it is asked, else on standard error.
-ghost use Rattle.io.specs.Counts.{Counts};
 use crate::line;
 use crate::quote;
 use crate::status;
 use crate::status::Status;
 use libc::STDERR_FILENO;
+use libc::STDOUT_FILENO;
 
-fn put_usage(text: &mut [u8], at: usize) -> usize
-    ensures { λ r. ⌜ Counts r (now (text .exit)) ⌝ }
-{
-    let n = line::put(
-        text,
-        at,
-        b"usage: halivomue read|tidy [--words] [--] [FILE..]\n",
-    );
-    line::put(text, n, b"       halivomue --help|--version\n")
+fn say_usage(fd: i32) -> bool {
+    io::write_all(
+        fd,
+        b"usage: halivomue read|tidy [--words] [--] [FILE..]
+       halivomue --help|--version
+",
+    )
 }
 
 pub fn usage() -> Status {
-    let mut text = [0u8; 1024];
-    let n = put_usage(&mut text, 0);
-    io::write_all(STDERR_FILENO, &text[..n]);
+    say_usage(STDERR_FILENO);
     Status::Usage
 }
 
@@ -29,39 +25,19 @@ pub fn version() -> Status {
 }
 
 pub fn help() -> Status {
-    let mut text = [0u8; 1024];
-    let n = put_usage(&mut text, 0);
-    let n = line::put(
-        &mut text,
-        n,
-        b"  read      of each file: accepted, or refused, number and record\n",
-    );
-    let n = line::put(
-        &mut text,
-        n,
-        b"  tidy      of each file: yes, or no and the lowest offending register, or refused\n",
-    );
-    let n = line::put(
-        &mut text,
-        n,
-        b"  --words   what the numbers mean, beside them\n",
-    );
-    let n = line::put(
-        &mut text,
-        n,
-        b"  --status  writes 0, 1 (a file was refused or failed) or 2 (usage) to descriptor 3\n",
-    );
-    let n = line::put(
-        &mut text,
-        n,
-        b"  --        what follows are names, even with a dash in front\n",
-    );
-    let n = line::put(
-        &mut text,
-        n,
-        b"Without a name the bare answer of standard input; the name - is standard input.\n",
-    );
-    status::of(line::say(&text[..n]))
+    if !say_usage(STDOUT_FILENO) {
+        os::fail(b"standard output");
+        return Status::Failed;
+    }
+    status::of(line::say(
+        b"  read      of each file: accepted, or refused, number and record
+  tidy      of each file: yes, or no and the lowest offending register, or refused
+  --words   what the numbers mean, beside them
+  --status  writes 0, 1 (a file was refused or failed) or 2 (usage) to descriptor 3
+  --        what follows are names, even with a dash in front
+Without a name the bare answer of standard input; the name - is standard input.
+",
+    ))
 }
 
 // A word that is no command, or no option.

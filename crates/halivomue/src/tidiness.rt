@@ -12,7 +12,7 @@ fn put_words(line: &mut [u8], at: usize, reg: u32) -> usize
     line::put(
         line,
         n,
-        b" has one write, and is read where that write need not have come before)\n",
+        b" is written once, and read elsewhere than later in the same block)\n",
     )
 }
 

@@ -21,7 +21,8 @@ use Rattle.store.specs.Store.{Fits}
 use Rattle.codec.specs.Codec.{wordOf, lowOf, highOf}
 use Rattle.codec.proofs.Read.{word-join}
 use Rattle.codec.proofs.Write.{all-zero, low-word, high-word}
-use Rattle.items.specs.Items.{rowOf, registerOf, registerRecord, blockOf, blockRecord, bodyOf, bodyRecord, operandOf, operandRecord, armOf, armKind, armRecord, ArmInRange}
+use Rattle.items.specs.Items.{rowOf, registerOf, registerRecord, blockOf, blockRecord, bodyOf, bodyRecord}
+use Rattle.items.specs.Items.{operandOf, operandRecord, armOf, armKind, armRecord, ArmInRange}
 
 -- what a right record of a class other than 4 has
 pub record Plain (class : ℕ) (r : Record) : Type 0 where
@@ -54,7 +55,9 @@ plain class r e a =
 abbrev fullOf : ℕ → ℕ → ℕ → ℕ → ℕ → ℕ → ℕ → ℕ → ℕ → ℕ → ℕ → Record
 fullOf c k o z s p1 p2 p3 p4 p5 p6 = record { class = c; kind = k; op = o; zero = z; stmt = s; p1 = p1; p2 = p2; p3 = p3; p4 = p4; p5 = p5; p6 = p6 }
 
-register-same : (c k o z s p1 p2 p3 p4 p5 p6 : ℕ) → c ≡ 1 → o ≡ 0 → z ≡ 0 → s ≡ 0 → k < 5 → zeros (p1 ∷ p2 ∷ p3 ∷ p4 ∷ p5 ∷ p6 ∷ []) ≡ true → rowOf 1 (regTyNum (regTyOf k)) 0 0 0 0 0 0 ≡ fullOf c k o z s p1 p2 p3 p4 p5 p6
+register-same :
+    (c k o z s p1 p2 p3 p4 p5 p6 : ℕ) → c ≡ 1 → o ≡ 0 → z ≡ 0 → s ≡ 0 → k < 5 → zeros (p1 ∷ p2 ∷ p3 ∷ p4 ∷ p5 ∷ p6 ∷ []) ≡ true →
+    rowOf 1 (regTyNum (regTyOf k)) 0 0 0 0 0 0 ≡ fullOf c k o z s p1 p2 p3 p4 p5 p6
 register-same c k o z s p1 p2 p3 p4 p5 p6 ec eo ez es h f =
     let ek = reg-ty-num k h in
     let e = all-zero (p1 ∷ p2 ∷ p3 ∷ p4 ∷ p5 ∷ p6 ∷ []) f in
@@ -64,9 +67,12 @@ pub register-write-back : (r : Record) → right r ≡ true → r .class ≡ 1 �
 unfolding right
 register-write-back r h e =
     let l = plain 1 r e (rw e at h) in
-    register-same (r .class) (r .kind) (r .op) (r .zero) (r .stmt) (r .p1) (r .p2) (r .p3) (r .p4) (r .p5) (r .p6) (l .class-is) (l .op) (l .zero) (l .stmt) (l .kind) (l .places)
+    register-same (r .class) (r .kind) (r .op) (r .zero) (r .stmt) (r .p1) (r .p2) (r .p3) (r .p4) (r .p5) (r .p6) (l .class-is) (l .op) (l .zero)
+    (l .stmt) (l .kind) (l .places)
 
-block-same : (c k o z s p1 p2 p3 p4 p5 p6 : ℕ) → c ≡ 2 → o ≡ 0 → z ≡ 0 → s ≡ 0 → k < 1 → zeros (p3 ∷ p4 ∷ p5 ∷ p6 ∷ []) ≡ true → rowOf 2 0 p1 p2 0 0 0 0 ≡ fullOf c k o z s p1 p2 p3 p4 p5 p6
+block-same :
+    (c k o z s p1 p2 p3 p4 p5 p6 : ℕ) → c ≡ 2 → o ≡ 0 → z ≡ 0 → s ≡ 0 → k < 1 → zeros (p3 ∷ p4 ∷ p5 ∷ p6 ∷ []) ≡ true →
+    rowOf 2 0 p1 p2 0 0 0 0 ≡ fullOf c k o z s p1 p2 p3 p4 p5 p6
 block-same c k o z s p1 p2 p3 p4 p5 p6 ec eo ez es h f =
     let ek : k ≡ 0 = omega arith in
     let e = all-zero (p3 ∷ p4 ∷ p5 ∷ p6 ∷ []) f in
@@ -76,9 +82,12 @@ pub block-write-back : (r : Record) → right r ≡ true → r .class ≡ 2 → 
 unfolding right
 block-write-back r h e =
     let l = plain 2 r e (rw e at h) in
-    block-same (r .class) (r .kind) (r .op) (r .zero) (r .stmt) (r .p1) (r .p2) (r .p3) (r .p4) (r .p5) (r .p6) (l .class-is) (l .op) (l .zero) (l .stmt) (l .kind) (l .places)
+    block-same (r .class) (r .kind) (r .op) (r .zero) (r .stmt) (r .p1) (r .p2) (r .p3) (r .p4) (r .p5) (r .p6) (l .class-is) (l .op) (l .zero)
+    (l .stmt) (l .kind) (l .places)
 
-body-same : (c k o z s p1 p2 p3 p4 p5 p6 : ℕ) → c ≡ 3 → o ≡ 0 → z ≡ 0 → s ≡ 0 → k < 1 → zeros (p2 ∷ p3 ∷ p4 ∷ p5 ∷ p6 ∷ []) ≡ true → rowOf 3 0 p1 0 0 0 0 0 ≡ fullOf c k o z s p1 p2 p3 p4 p5 p6
+body-same :
+    (c k o z s p1 p2 p3 p4 p5 p6 : ℕ) → c ≡ 3 → o ≡ 0 → z ≡ 0 → s ≡ 0 → k < 1 → zeros (p2 ∷ p3 ∷ p4 ∷ p5 ∷ p6 ∷ []) ≡ true →
+    rowOf 3 0 p1 0 0 0 0 0 ≡ fullOf c k o z s p1 p2 p3 p4 p5 p6
 body-same c k o z s p1 p2 p3 p4 p5 p6 ec eo ez es h f =
     let ek : k ≡ 0 = omega arith in
     let e = all-zero (p2 ∷ p3 ∷ p4 ∷ p5 ∷ p6 ∷ []) f in
@@ -88,9 +97,12 @@ pub body-write-back : (r : Record) → right r ≡ true → r .class ≡ 3 → b
 unfolding right
 body-write-back r h e =
     let l = plain 3 r e (rw e at h) in
-    body-same (r .class) (r .kind) (r .op) (r .zero) (r .stmt) (r .p1) (r .p2) (r .p3) (r .p4) (r .p5) (r .p6) (l .class-is) (l .op) (l .zero) (l .stmt) (l .kind) (l .places)
+    body-same (r .class) (r .kind) (r .op) (r .zero) (r .stmt) (r .p1) (r .p2) (r .p3) (r .p4) (r .p5) (r .p6) (l .class-is) (l .op) (l .zero)
+    (l .stmt) (l .kind) (l .places)
 
-operand-same : (c k o z s p1 p2 p3 p4 p5 p6 : ℕ) → c ≡ 5 → o ≡ 0 → z ≡ 0 → s ≡ 0 → k < 1 → zeros (p2 ∷ p3 ∷ p4 ∷ p5 ∷ p6 ∷ []) ≡ true → rowOf 5 0 p1 0 0 0 0 0 ≡ fullOf c k o z s p1 p2 p3 p4 p5 p6
+operand-same :
+    (c k o z s p1 p2 p3 p4 p5 p6 : ℕ) → c ≡ 5 → o ≡ 0 → z ≡ 0 → s ≡ 0 → k < 1 → zeros (p2 ∷ p3 ∷ p4 ∷ p5 ∷ p6 ∷ []) ≡ true →
+    rowOf 5 0 p1 0 0 0 0 0 ≡ fullOf c k o z s p1 p2 p3 p4 p5 p6
 operand-same c k o z s p1 p2 p3 p4 p5 p6 ec eo ez es h f =
     let ek : k ≡ 0 = omega arith in
     let e = all-zero (p2 ∷ p3 ∷ p4 ∷ p5 ∷ p6 ∷ []) f in
@@ -100,20 +112,23 @@ pub operand-write-back : (r : Record) → right r ≡ true → r .class ≡ 5 �
 unfolding right
 operand-write-back r h e =
     let l = plain 5 r e (rw e at h) in
-    operand-same (r .class) (r .kind) (r .op) (r .zero) (r .stmt) (r .p1) (r .p2) (r .p3) (r .p4) (r .p5) (r .p6) (l .class-is) (l .op) (l .zero) (l .stmt) (l .kind) (l .places)
+    operand-same (r .class) (r .kind) (r .op) (r .zero) (r .stmt) (r .p1) (r .p2) (r .p3) (r .p4) (r .p5) (r .p6) (l .class-is) (l .op) (l .zero)
+    (l .stmt) (l .kind) (l .places)
 
 arm-kind : (k : ℕ) → k < 2 → armKind (eqb k 1) ≡ k
 arm-kind = below (λ (k : ℕ). armKind (eqb k 1) ≡ k) 2 ((tt, refl), refl)
 
 arm-same : (c k o z s p1 p2 p3 p4 p5 p6 : ℕ) → c ≡ 6 → o ≡ 0 → z ≡ 0 → s ≡ 0 → k < 2 → p2 < 2 ^ 32 → p4 < 2 ^ 32 →
-    rowOf 6 (armKind (eqb k 1)) p1 (lowOf (wordOf p2 p3)) (highOf (wordOf p2 p3)) (lowOf (wordOf p4 p5)) (highOf (wordOf p4 p5)) p6 ≡ fullOf c k o z s p1 p2 p3 p4 p5 p6
+    rowOf 6 (armKind (eqb k 1)) p1 (lowOf (wordOf p2 p3)) (highOf (wordOf p2 p3)) (lowOf (wordOf p4 p5)) (highOf (wordOf p4 p5)) p6 ≡ fullOf c k o z s
+    p1 p2 p3 p4 p5 p6
 arm-same c k o z s p1 p2 p3 p4 p5 p6 ec eo ez es h w2 w4 = cc (arm-kind k h, low-word p2 p3 w2, high-word p2 p3 w2, low-word p4 p5 w4, high-word p4 p5 w4)
 
 pub arm-write-back : (r : Record) → right r ≡ true → r .class ≡ 6 → Fits r → armRecord (armOf r) ≡ r
 unfolding right
 arm-write-back r h e f =
     let l = plain 6 r e (rw e at h) in
-    arm-same (r .class) (r .kind) (r .op) (r .zero) (r .stmt) (r .p1) (r .p2) (r .p3) (r .p4) (r .p5) (r .p6) (l .class-is) (l .op) (l .zero) (l .stmt) (l .kind) (f .p2) (f .p4)
+    arm-same (r .class) (r .kind) (r .op) (r .zero) (r .stmt) (r .p1) (r .p2) (r .p3) (r .p4) (r .p5) (r .p6) (l .class-is) (l .op) (l .zero)
+    (l .stmt) (l .kind) (f .p2) (f .p4)
 
 pub register-read-back : (x : RegTy) → registerOf (registerRecord x) ≡ x
 register-read-back x = reg-ty-back x
@@ -171,8 +186,11 @@ arm-right x h = go (x .default) refl
     go true e = rw (e, h .low-zero e, h .high-zero e) (default-right (x .table) (x .to .0))
     go false e = rw e (other-right (x .table) (lowOf (x .low)) (highOf (x .low)) (lowOf (x .high)) (highOf (x .high)) (x .to .0))
 
-row-fits : (class kind p1 p2 p3 p4 p5 p6 : ℕ) → class < 256 → kind < 256 → p1 < 2 ^ 32 → p2 < 2 ^ 32 → p3 < 2 ^ 32 → p4 < 2 ^ 32 → p5 < 2 ^ 32 → p6 < 2 ^ 32 → Fits (rowOf class kind p1 p2 p3 p4 p5 p6)
-row-fits class kind p1 p2 p3 p4 p5 p6 hc hk h1 h2 h3 h4 h5 h6 = record { class = hc; kind = hk; op = lit< tt; zero = lit< tt; stmt = lit< tt; p1 = h1; p2 = h2; p3 = h3; p4 = h4; p5 = h5; p6 = h6 }
+row-fits :
+    (class kind p1 p2 p3 p4 p5 p6 : ℕ) → class < 256 → kind < 256 → p1 < 2 ^ 32 → p2 < 2 ^ 32 → p3 < 2 ^ 32 → p4 < 2 ^ 32 → p5 < 2 ^ 32 → p6 < 2 ^ 32 →
+    Fits (rowOf class kind p1 p2 p3 p4 p5 p6)
+row-fits class kind p1 p2 p3 p4 p5 p6 hc hk h1 h2 h3 h4 h5 h6 =
+    record { class = hc; kind = hk; op = lit< tt; zero = lit< tt; stmt = lit< tt; p1 = h1; p2 = h2; p3 = h3; p4 = h4; p5 = h5; p6 = h6 }
 
 pub register-fits : (x : RegTy) → Fits (registerRecord x)
 register-fits x = row-fits 1 (regTyNum x) 0 0 0 0 0 0 (lit< tt) (omega (arith, reg-ty-lt x)) (lit< tt) (lit< tt) (lit< tt) (lit< tt) (lit< tt) (lit< tt)
@@ -197,4 +215,6 @@ high-lt : (v : ℕ) → v < 2 ^ 64 → highOf v < 2 ^ 32
 high-lt v h = omega arith
 
 pub arm-fits : (x : Arm) → ArmInRange x → Fits (armRecord x)
-arm-fits x h = row-fits 6 (armKind (x .default)) (x .table) (lowOf (x .low)) (highOf (x .low)) (lowOf (x .high)) (highOf (x .high)) (x .to .0) (lit< tt) (kind-lt (x .default)) (h .table) (low-lt (x .low)) (high-lt (x .low) (h .low)) (low-lt (x .high)) (high-lt (x .high) (h .high)) (h .to)
+arm-fits x h =
+    row-fits 6 (armKind (x .default)) (x .table) (lowOf (x .low)) (highOf (x .low)) (lowOf (x .high)) (highOf (x .high)) (x .to .0) (lit< tt)
+    (kind-lt (x .default)) (h .table) (low-lt (x .low)) (high-lt (x .low) (h .low)) (low-lt (x .high)) (high-lt (x .high) (h .high)) (h .to)

@@ -1,5 +1,6 @@
 ghost use mathlib.Core.Path.{_≡_};
-ghost use Rattle.items.specs.Items.{rowOf, registerOf, registerRecord, blockOf, blockRecord, bodyOf, bodyRecord, operandOf, operandRecord, armOf, armRecord};
+ghost use Rattle.items.specs.Items.{rowOf, registerOf, registerRecord, blockOf, blockRecord, bodyOf, bodyRecord};
+ghost use Rattle.items.specs.Items.{operandOf, operandRecord, armOf, armRecord};
 use format::Record;
 use inst::Arm;
 use inst::Block;

@@ -17,7 +17,7 @@ use Rattle.format.specs.Kinds.{right}
 use Rattle.shape.proofs.Laws.{no-class}
 use Rattle.layout.specs.Walk.{walk, lead}
 use Rattle.layout.specs.Classes.{inOrder, ordered, ofClass, before}
-use Rattle.layout.specs.Spans.{rightOf}
+use Rattle.layout.specs.Work.{rightOf}
 use Rattle.layout.proofs.Walks.{walk-pass, walk-stop, walk-head, walk-tail, lead-le}
 
 -- how many records are right and in order after one of class p
@@ -80,13 +80,18 @@ unfolding Ordered walk
 first-class c [] = refl
 first-class c (r ∷ rs) = ⊎-elim (λ (e : rightOf c r ≡ true). yes c r rs e (first-class c rs)) (λ (e : rightOf c r ≡ false). no c r rs e) (cases (rightOf c r))
   where
-    yes : (c : ℕ) (r : Record) (rs : List Record) → rightOf c r ≡ true → Ordered c rs ≡ lead (rightOf c) rs + Ordered (suc c) (drop (lead (rightOf c) rs) rs) → Ordered c (r ∷ rs) ≡ lead (rightOf c) (r ∷ rs) + Ordered (suc c) (drop (lead (rightOf c) (r ∷ rs)) (r ∷ rs))
+    yes :
+        (c : ℕ) (r : Record) (rs : List Record) → rightOf c r ≡ true →
+        Ordered c rs ≡ lead (rightOf c) rs + Ordered (suc c) (drop (lead (rightOf c) rs) rs) →
+        Ordered c (r ∷ rs) ≡ lead (rightOf c) (r ∷ rs) + Ordered (suc c) (drop (lead (rightOf c) (r ∷ rs)) (r ∷ rs))
     yes c r rs e h =
         ordered-pass c r rs (right-in c r e)
         ∙ ap (λ (k : ℕ). suc (Ordered k rs)) (in-class c r e)
         ∙ rw (lead-in c r rs e, suc-add) (ap suc h)
 
-    no : (c : ℕ) (r : Record) (rs : List Record) → rightOf c r ≡ false → Ordered c (r ∷ rs) ≡ lead (rightOf c) (r ∷ rs) + Ordered (suc c) (drop (lead (rightOf c) (r ∷ rs)) (r ∷ rs))
+    no :
+        (c : ℕ) (r : Record) (rs : List Record) → rightOf c r ≡ false →
+        Ordered c (r ∷ rs) ≡ lead (rightOf c) (r ∷ rs) + Ordered (suc c) (drop (lead (rightOf c) (r ∷ rs)) (r ∷ rs))
     no c r rs e = ap (λ (t : Bool). cond t (suc (Ordered (r .class) rs)) 0) (out-next c r e) ∙ rw (lead-out c r rs e, zero-add)
 
 -- no record is of a class past the sixth
@@ -96,7 +101,9 @@ none-past [] = refl
 none-past (r ∷ rs) = ordered-stop 7 r rs (⊎-elim past before′ (cases (leb 7 (r .class))))
   where
     past : leb 7 (r .class) ≡ true → inOrder 7 r ≡ false
-    past t = let h = leb-true 7 (r .class) t in rw (← no-class r (λ e. omega arith) (λ e. omega arith) (λ e. omega arith) (λ e. omega arith) (λ e. omega arith) (λ e. omega arith))
+    past t =
+        let h = leb-true 7 (r .class) t in
+        rw (← no-class r (λ e. omega arith) (λ e. omega arith) (λ e. omega arith) (λ e. omega arith) (λ e. omega arith) (λ e. omega arith))
 
     before′ : leb 7 (r .class) ≡ false → inOrder 7 r ≡ false
     before′ t = rw t (mathlib.Core.Bool.and-false (right r))
@@ -141,9 +148,13 @@ before-none d p (r ∷ rs) h s = let i = class-from p r rs s in before-out d r r
 before-next : (c : ℕ) (rs : List Record) → Sorted c rs → before (suc c) rs ≡ lead (rightOf c) rs
 unfolding before walk
 before-next c [] s = refl
-before-next c (r ∷ rs) s = ⊎-elim (λ (e : rightOf c r ≡ true). yes c r rs e (before-next c rs (subst (λ (k : ℕ). Sorted k rs) (in-class c r e) (tail-in c r rs s)))) (λ (e : rightOf c r ≡ false). no c r rs e s) (cases (rightOf c r))
+before-next c (r ∷ rs) s =
+    ⊎-elim (λ (e : rightOf c r ≡ true). yes c r rs e (before-next c rs (subst (λ (k : ℕ). Sorted k rs) (in-class c r e) (tail-in c r rs s))))
+    (λ (e : rightOf c r ≡ false). no c r rs e s) (cases (rightOf c r))
   where
-    yes : (c : ℕ) (r : Record) (rs : List Record) → rightOf c r ≡ true → before (suc c) rs ≡ lead (rightOf c) rs → before (suc c) (r ∷ rs) ≡ lead (rightOf c) (r ∷ rs)
+    yes :
+        (c : ℕ) (r : Record) (rs : List Record) → rightOf c r ≡ true → before (suc c) rs ≡ lead (rightOf c) rs →
+        before (suc c) (r ∷ rs) ≡ lead (rightOf c) (r ∷ rs)
     yes c r rs e h = before-in (suc c) r rs (let i = in-class c r e in omega arith) ∙ ap suc h ∙ sym (lead-in c r rs e)
 
     later : (c : ℕ) (r : Record) (rs : List Record) → rightOf c r ≡ false → Sorted c (r ∷ rs) → suc c ≤ r .class
@@ -155,9 +166,14 @@ before-next c (r ∷ rs) s = ⊎-elim (λ (e : rightOf c r ≡ true). yes c r rs
 before-split : (c d : ℕ) (rs : List Record) → c < d → before d rs ≡ lead (rightOf c) rs + before d (drop (lead (rightOf c) rs) rs)
 unfolding before walk
 before-split c d [] h = refl
-before-split c d (r ∷ rs) h = ⊎-elim (λ (e : rightOf c r ≡ true). yes c d r rs h e (before-split c d rs h)) (λ (e : rightOf c r ≡ false). rw (lead-out c r rs e, zero-add)) (cases (rightOf c r))
+before-split c d (r ∷ rs) h =
+    ⊎-elim (λ (e : rightOf c r ≡ true). yes c d r rs h e (before-split c d rs h)) (λ (e : rightOf c r ≡ false). rw (lead-out c r rs e, zero-add))
+    (cases (rightOf c r))
   where
-    yes : (c d : ℕ) (r : Record) (rs : List Record) → c < d → rightOf c r ≡ true → before d rs ≡ lead (rightOf c) rs + before d (drop (lead (rightOf c) rs) rs) → before d (r ∷ rs) ≡ lead (rightOf c) (r ∷ rs) + before d (drop (lead (rightOf c) (r ∷ rs)) (r ∷ rs))
+    yes :
+        (c d : ℕ) (r : Record) (rs : List Record) → c < d → rightOf c r ≡ true →
+        before d rs ≡ lead (rightOf c) rs + before d (drop (lead (rightOf c) rs) rs) →
+        before d (r ∷ rs) ≡ lead (rightOf c) (r ∷ rs) + before d (drop (lead (rightOf c) (r ∷ rs)) (r ∷ rs))
     yes c d r rs h e i = before-in d r rs (let j = in-class c r e in omega arith) ∙ rw (lead-in c r rs e, suc-add) (ap suc i)
 
 sorted-next : (c : ℕ) (rs : List Record) → Sorted c rs → Sorted (suc c) (drop (lead (rightOf c) rs) rs)
@@ -167,7 +183,9 @@ sorted-next c rs s = let e = first-class c rs in let i = lead-le (rightOf c) rs 
 sorted-to : (c : ℕ) (rs : List Record) → Sorted 1 rs → Sorted (suc c) (drop (endOf c rs) rs)
 unfolding endOf
 sorted-to zero rs s = s
-sorted-to (suc c) rs s = subst (Sorted (suc (suc c))) (drop-drop (lead (rightOf (suc c)) (drop (endOf c rs) rs)) (endOf c rs) rs) (sorted-next (suc c) (drop (endOf c rs) rs) (sorted-to c rs s))
+sorted-to (suc c) rs s =
+    subst (Sorted (suc (suc c))) (drop-drop (lead (rightOf (suc c)) (drop (endOf c rs) rs)) (endOf c rs) rs)
+    (sorted-next (suc c) (drop (endOf c rs) rs) (sorted-to c rs s))
 
 before-to : (c d : ℕ) (rs : List Record) → c < d → before d rs ≡ endOf c rs + before d (drop (endOf c rs) rs)
 unfolding endOf
@@ -209,7 +227,9 @@ unfolding before ofClass
 before-count c [] = refl
 before-count c (r ∷ rs) = by (before-count c rs) (cases (ltb (r .class) c)) (cases (eqb (r .class) c))
   where
-    by : before (suc c) rs ≡ before c rs + length (ofClass c rs) → (ltb (r .class) c ≡ true) ⊎ (ltb (r .class) c ≡ false) → (eqb (r .class) c ≡ true) ⊎ (eqb (r .class) c ≡ false) → before (suc c) (r ∷ rs) ≡ before c (r ∷ rs) + length (ofClass c (r ∷ rs))
+    by :
+        before (suc c) rs ≡ before c rs + length (ofClass c rs) → (ltb (r .class) c ≡ true) ⊎ (ltb (r .class) c ≡ false) →
+        (eqb (r .class) c ≡ true) ⊎ (eqb (r .class) c ≡ false) → before (suc c) (r ∷ rs) ≡ before c (r ∷ rs) + length (ofClass c (r ∷ rs))
     by h (inl t) (inl e) = absurd (let i = ltb-true (r .class) c t in let j = eqb-true (r .class) c e in omega arith)
     by h (inl t) (inr e) =
         let i = ltb-true (r .class) c t in
@@ -229,7 +249,10 @@ unfolding before ofClass
 of-part c p [] s = refl
 of-part c p (r ∷ rs) s = by (of-part c (r .class) rs (tail-in p r rs s)) (cases (ltb (r .class) c)) (cases (eqb (r .class) c))
   where
-    by : ofClass c rs ≡ take (length (ofClass c rs)) (drop (before c rs) rs) → (ltb (r .class) c ≡ true) ⊎ (ltb (r .class) c ≡ false) → (eqb (r .class) c ≡ true) ⊎ (eqb (r .class) c ≡ false) → ofClass c (r ∷ rs) ≡ take (length (ofClass c (r ∷ rs))) (drop (before c (r ∷ rs)) (r ∷ rs))
+    by :
+        ofClass c rs ≡ take (length (ofClass c rs)) (drop (before c rs) rs) → (ltb (r .class) c ≡ true) ⊎ (ltb (r .class) c ≡ false) →
+        (eqb (r .class) c ≡ true) ⊎ (eqb (r .class) c ≡ false) →
+        ofClass c (r ∷ rs) ≡ take (length (ofClass c (r ∷ rs))) (drop (before c (r ∷ rs)) (r ∷ rs))
     by h (inl t) e = let i = ltb-true (r .class) c t in rw (of-out c r rs (λ j. omega arith), before-in c r rs i) h
     by h (inr t) (inl e) =
         let i = ltb-false (r .class) c t in

@@ -38,11 +38,17 @@ module _ {S R : Type 0} (ok : S → R → Bool) (next : S → R → S) where
   walk-tail s r rs h = let e = walk-pass rs (walk-head s r rs h) in omega arith
 
   -- the walk from place k of a list
-  pub pass-at : (l : List R) (k : ℕ) (d : R) (s : S) → k < length l → ok s (getD l k d) ≡ true → (k + 1) + walk ok next (next s (getD l k d)) (drop (k + 1) l) ≡ k + walk ok next s (drop k l)
-  pass-at l k d s h e = sym (ap (λ (xs : List R). k + walk ok next s xs) (drop-cons l k d h) ∙ ap (λ (n : ℕ). k + n) (walk-pass (drop (suc k) l) e) ∙ rw (add-one k) (omega arith))
+  pub pass-at :
+      (l : List R) (k : ℕ) (d : R) (s : S) → k < length l → ok s (getD l k d) ≡ true →
+      (k + 1) + walk ok next (next s (getD l k d)) (drop (k + 1) l) ≡ k + walk ok next s (drop k l)
+  pass-at l k d s h e =
+      sym
+      (ap (λ (xs : List R). k + walk ok next s xs) (drop-cons l k d h) ∙ ap (λ (n : ℕ). k + n) (walk-pass (drop (suc k) l) e) ∙ rw (add-one k)
+      (omega arith))
 
   pub stop-at : (l : List R) (k : ℕ) (d : R) (s : S) → k < length l → ok s (getD l k d) ≡ false → k ≡ k + walk ok next s (drop k l)
-  stop-at l k d s h e = sym (ap (λ (xs : List R). k + walk ok next s xs) (drop-cons l k d h) ∙ ap (λ (n : ℕ). k + n) (walk-stop (drop (suc k) l) e) ∙ add-zero k)
+  stop-at l k d s h e =
+      sym (ap (λ (xs : List R). k + walk ok next s xs) (drop-cons l k d h) ∙ ap (λ (n : ℕ). k + n) (walk-stop (drop (suc k) l) e) ∙ add-zero k)
 
   pub end-at : (l : List R) (k : ℕ) (s : S) → length l ≤ k → k ≡ k + walk ok next s (drop k l)
   unfolding walk

@@ -1,3 +1,3 @@
 pub mod Walk
 pub mod Classes
-pub mod Spans
+pub mod Work

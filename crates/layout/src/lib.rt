@@ -6,7 +6,7 @@ ghost use lib.ListN.{length, drop};
 ghost use Rattle.format.specs.Record.{recordsOf};
 ghost use Rattle.layout.specs.Walk.{lead};
 ghost use Rattle.layout.specs.Classes.{layoutOf};
-ghost use Rattle.layout.specs.Spans.{rightOf};
+ghost use Rattle.layout.specs.Work.{rightOf};
 use format::Record;
 
 // Where the records of each class start in a file, and where all end: registers start at 0.

@@ -22,7 +22,8 @@ use Rattle.inst.specs.declared.OptReg.{OptReg}
 use Rattle.inst.specs.declared.OptReg.the-variants as o
 use Rattle.inst.specs.declared.AddrSpace.{AddrSpace}
 use Rattle.inst.specs.declared.AddrSpace.the-variants as s
-use Rattle.ops.specs.Ops.{cmpOf, cmpNum, boolOf, boolNum, intOf, intNum, widthOf, widthNum, checkOf, checkNum, regTyOf, regTyNum, spaceOf, spaceNum, optOf, optNum, optArg}
+use Rattle.ops.specs.Ops.{cmpOf, cmpNum, boolOf, boolNum, intOf, intNum, widthOf, widthNum, checkOf, checkNum}
+use Rattle.ops.specs.Ops.{regTyOf, regTyNum, spaceOf, spaceNum, optOf, optNum, optArg}
 
 pub cmp-back : (x : CmpOp) → cmpOf (cmpNum x) ≡ x
 cmp-back c.Eq = refl

@@ -1,5 +1,6 @@
 ghost use mathlib.Core.Path.{_≡_};
-ghost use Rattle.ops.specs.Ops.{cmpOf, cmpNum, boolOf, boolNum, intOf, intNum, widthOf, widthNum, checkOf, checkNum, regTyOf, regTyNum, spaceOf, spaceNum, spaceArg, optOf, optNum, optArg};
+ghost use Rattle.ops.specs.Ops.{cmpOf, cmpNum, boolOf, boolNum, intOf, intNum, widthOf, widthNum, checkOf, checkNum, regTyOf, regTyNum};
+ghost use Rattle.ops.specs.Ops.{spaceOf, spaceNum, spaceArg, optOf, optNum, optArg};
 use inst::AddrSpace;
 use inst::BoolOp;
 use inst::CheckKind;

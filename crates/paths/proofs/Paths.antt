@@ -144,7 +144,9 @@ module _ (edges : List (List ℕ)) where
   Closed m = (x s : ℕ) → getD m x false ≡ true → isIn s (getD edges x []) ≡ true → s < length edges → getD m s false ≡ true
 
   -- hold every block that a marked one leads to
-  pub closed-leads : (m : List Bool) → Closed m → (b : ℕ) → b < length edges → (ss : List ℕ) (a : ℕ) → getD m a false ≡ true → Path edges b a ss → getD m b false ≡ true
+  pub closed-leads :
+      (m : List Bool) → Closed m → (b : ℕ) → b < length edges → (ss : List ℕ) (a : ℕ) → getD m a false ≡ true → Path edges b a ss
+      → getD m b false ≡ true
   closed-leads m c b h [] a e p = rw (← p) e
   closed-leads m c b h (s ∷ ss) a e p = closed-leads m c b h ss s (c a s e (p .0) (leads-inside b h ss s (p .1))) (p .1)
 
@@ -159,9 +161,12 @@ module _ (edges : List (List ℕ)) where
 
     module _ (b : ℕ) (stack : List ℕ) (m : List Bool) (g : Going (b ∷ stack) m) where
       -- a block of the list that is marked now, or stays on the list
-      moved : (more : List ℕ) (s : ℕ) → s < length edges → (getD m s false ≡ true) ⊎ (isIn s (b ∷ stack) ≡ true) → (getD (set m b true) s false ≡ true) ⊎ (isIn s (more ++ stack) ≡ true)
+      moved :
+          (more : List ℕ) (s : ℕ) → s < length edges → (getD m s false ≡ true) ⊎ (isIn s (b ∷ stack) ≡ true)
+          → (getD (set m b true) s false ≡ true) ⊎ (isIn s (more ++ stack) ≡ true)
       moved more s h (inl e) = inl (set-keeps m b s e)
-      moved more s h (inr e) = ⊎-elim (λ (i : b ≡ s). inl (rw i (getD-set-same m s true false (let z = g .size in omega arith)))) (λ (i : isIn s stack ≡ true). inr (in-right s more stack i)) (in-cons s b stack e)
+      moved more s h (inr e) = ⊎-elim (λ (i : b ≡ s). inl (rw i (getD-set-same m s true false (let z = g .size in omega arith))))
+          (λ (i : isIn s stack ≡ true). inr (in-right s more stack i)) (in-cons s b stack e)
 
       now-sound : (x : ℕ) → getD (set m b true) x false ≡ true → Leads edges a x
       now-sound x e = ⊎-elim (λ (i : x ≡ b). rw i (g .listed b (in-here b stack))) (λ (i : getD m x false ≡ true). g .sound x i) (set-marked m b x e)
@@ -186,11 +191,14 @@ module _ (edges : List (List ℕ)) where
         size = length-set m b true ∙ g .size;
         start = λ h. moved (getD edges b []) a h (g .start h);
         sound = now-sound;
-        listed = λ s i. ⊎-elim (λ (j : isIn s (getD edges b []) ≡ true). leads-on a b s (g .listed b (in-here b stack)) j) (λ (j : isIn s stack ≡ true). g .listed s (in-more s b stack j)) (in-append s (getD edges b []) stack i);
+        listed = λ s i. ⊎-elim (λ (j : isIn s (getD edges b []) ≡ true). leads-on a b s (g .listed b (in-here b stack)) j)
+            (λ (j : isIn s stack ≡ true). g .listed s (in-more s b stack j)) (in-append s (getD edges b []) stack i);
         ready = λ x s i j h. from x s j h (set-marked m b x i);
       }
         where
-          from : (x s : ℕ) → isIn s (getD edges x []) ≡ true → s < length edges → (x ≡ b) ⊎ (getD m x false ≡ true) → (getD (set m b true) s false ≡ true) ⊎ (isIn s (getD edges b [] ++ stack) ≡ true)
+          from :
+              (x s : ℕ) → isIn s (getD edges x []) ≡ true → s < length edges → (x ≡ b) ⊎ (getD m x false ≡ true)
+              → (getD (set m b true) s false ≡ true) ⊎ (isIn s (getD edges b [] ++ stack) ≡ true)
           from x s j h (inl i) = inr (in-left s (getD edges b []) stack (rw (← i) j))
           from x s j h (inr i) = moved (getD edges b []) s h (g .ready x s i j h)
 
@@ -204,7 +212,8 @@ module _ (edges : List (List ℕ)) where
         by :
             (getD m b true ≡ true) ⊎ (getD m b true ≡ false)
             → (length stack + due (set m b true) edges ≤ k → Going stack (set m b true) → Going [] (walk k edges stack (set m b true)))
-            → (length (getD edges b [] ++ stack) + due (set m b true) edges ≤ k → Going (getD edges b [] ++ stack) (set m b true) → Going [] (walk k edges (getD edges b [] ++ stack) (set m b true)))
+            → (length (getD edges b [] ++ stack) + due (set m b true) edges ≤ k → Going (getD edges b [] ++ stack) (set m b true)
+            → Going [] (walk k edges (getD edges b [] ++ stack) (set m b true)))
             → Going [] (walk k edges (pushed (getD m b true) (getD edges b []) stack) (set m b true))
         by (inl e) one two = rw e (one (let i = due-old m edges b in omega arith) (old b stack m g e))
         by (inr e) one two = rw e (two (let i = due-new m edges b e in let j = length-append (getD edges b []) stack in omega arith) (new b stack m g))
@@ -262,4 +271,5 @@ module _ (edges : List (List ℕ)) where
 
         by : (x : ℕ) → x < length edges → (getD m x false ≡ true) ⊎ (getD m x false ≡ false) → getD m x false ≡ getD n x false
         by x h (inl i) = i ∙ sym (reached-is x h .1 (sound x i))
-        by x h (inr i) = i ∙ sym (⊎-elim (λ (j : getD n x false ≡ true). false-true i (there x h j)) (λ (j : getD n x false ≡ false). j) (cases (getD n x false)))
+        by x h (inr i) = i ∙ sym
+            (⊎-elim (λ (j : getD n x false ≡ true). false-true i (there x h j)) (λ (j : getD n x false ≡ false). j) (cases (getD n x false)))

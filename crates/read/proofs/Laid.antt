@@ -24,7 +24,7 @@ use Rattle.layout.proofs.Order.{Sorted, sorted-of, before-none, before-count, b
 use Rattle.read.specs.declared.Reading.{Reading}
 use Rattle.read.specs.Structure.{State, tiles, nextBlock, tiled, ended, numbered, tables}
 use Rattle.read.specs.Reading.{answer, unless, countsOf, named, beyond, beyondLimit}
-use Rattle.read.specs.Parts.{part, InCode, LaidOut}
+use Rattle.read.specs.Work.{part, InCode, LaidOut}
 
 -- where each class starts, by how many records each has
 pub record Sizes (rs : List Record) (l : Layout) : Type 0 where
@@ -70,7 +70,9 @@ unfolding before
 names-from n p [] s = sym (zero-add _)
 names-from n p (r ∷ rs) s = by (names-from n (r .class) rs (tail-in p r rs s)) (cases (ltb (r .class) 3))
   where
-    by : lead (namesExist n) rs ≡ before 3 rs + lead (namesExist n) (drop (before 3 rs) rs) → (ltb (r .class) 3 ≡ true) ⊎ (ltb (r .class) 3 ≡ false) → lead (namesExist n) (r ∷ rs) ≡ before 3 (r ∷ rs) + lead (namesExist n) (drop (before 3 (r ∷ rs)) (r ∷ rs))
+    by :
+        lead (namesExist n) rs ≡ before 3 rs + lead (namesExist n) (drop (before 3 rs) rs) → (ltb (r .class) 3 ≡ true) ⊎ (ltb (r .class) 3 ≡ false) →
+        lead (namesExist n) (r ∷ rs) ≡ before 3 (r ∷ rs) + lead (namesExist n) (drop (before 3 (r ∷ rs)) (r ∷ rs))
     by h (inl t) =
         let i = ltb-true (r .class) 3 t in
         walk-pass (λ s r. namesExist n r) (λ s r. s) rs (sym (no-names n r (λ e. omega arith) (λ e. omega arith) (λ e. omega arith) (λ e. omega arith)))
@@ -110,7 +112,9 @@ module _ {rs : List Record} {l : Layout} (h : LaidOut rs l) where
   pub all-tables : (k : ℕ) {t : ℕ} → l .end - l .arms ≤ k → t ≡ tables (take k (part (l .arms) (l .end - l .arms) rs)) → t ≡ tables (ofClass 6 rs)
   all-tables k i e = let z = sizes h in e ∙ ap tables (ap (take k) the-arms ∙ take-all k (ofClass 6 rs) (omega arith))
 
-  pub counts-are : (n : Counts) → n .registers ≡ l .blocks → n .blocks ≡ l .bodies - l .blocks → n .tables ≡ tables (ofClass 6 rs) → n .operands ≡ l .arms - l .operands → n ≡ countsOf rs
+  pub counts-are :
+      (n : Counts) → n .registers ≡ l .blocks → n .blocks ≡ l .bodies - l .blocks → n .tables ≡ tables (ofClass 6 rs) →
+      n .operands ≡ l .arms - l .operands → n ≡ countsOf rs
   counts-are n a b c d =
       let z = sizes h in
       let a′ : n .registers ≡ length (ofClass 1 rs) = omega arith in
@@ -125,17 +129,22 @@ module _ {rs : List Record} {l : Layout} (h : LaidOut rs l) where
       ∙ sym (names-from n 1 rs (sorted-of rs (h .sorted)))
       ∙ ap (λ (m : Counts). lead (namesExist m) rs) e
 
-  pub blocks-tiled : {k : ℕ} → k ≡ tiled (l .operands - l .code) (part (l .blocks) (l .bodies - l .blocks) rs) → k ≡ tiled (length (ofClass 4 rs)) (ofClass 2 rs)
+  pub blocks-tiled :
+      {k : ℕ} → k ≡ tiled (l .operands - l .code) (part (l .blocks) (l .bodies - l .blocks) rs) → k ≡ tiled (length (ofClass 4 rs)) (ofClass 2 rs)
   blocks-tiled e =
       let z = sizes h in
       let n : l .operands - l .code ≡ length (ofClass 4 rs) = omega arith in
       e ∙ ap (tiled (l .operands - l .code)) the-blocks ∙ ap (λ (x : ℕ). tiled x (ofClass 2 rs)) n
 
-  pub blocks-ended : {k : ℕ} → k ≡ ended (part (l .code) (l .operands - l .code) rs) (part (l .blocks) (l .bodies - l .blocks) rs) → k ≡ ended (ofClass 4 rs) (ofClass 2 rs)
+  pub blocks-ended :
+      {k : ℕ} → k ≡ ended (part (l .code) (l .operands - l .code) rs) (part (l .blocks) (l .bodies - l .blocks) rs) →
+      k ≡ ended (ofClass 4 rs) (ofClass 2 rs)
   blocks-ended e = e ∙ ap (λ (c : List Record). ended c (part (l .blocks) (l .bodies - l .blocks) rs)) the-code ∙ ap (ended (ofClass 4 rs)) the-blocks
 
   -- where all blocks tile, they lie within the code
-  pub tiled-in : {k : ℕ} → k ≡ tiled (l .operands - l .code) (part (l .blocks) (l .bodies - l .blocks) rs) → l .bodies - l .blocks ≤ k → InCode (l .operands - l .code) (part (l .blocks) (l .bodies - l .blocks) rs)
+  pub tiled-in :
+      {k : ℕ} → k ≡ tiled (l .operands - l .code) (part (l .blocks) (l .bodies - l .blocks) rs) → l .bodies - l .blocks ≤ k →
+      InCode (l .operands - l .code) (part (l .blocks) (l .bodies - l .blocks) rs)
   tiled-in {k} e i =
       let bs = part (l .blocks) (l .bodies - l .blocks) rs in
       let n = l .operands - l .code in
@@ -157,7 +166,8 @@ module _ (rs : List Record) {l : Layout} (e : l ≡ layoutOf rs) where
   laid-of i =
       let m = walk-le inOrder (λ prev r. r .class) 1 rs in
       let o : ordered rs ≡ length rs = let f = end-is in omega arith in
-      let q : l ≡ record { blocks = before 2 rs; bodies = before 3 rs; code = before 4 rs; operands = before 5 rs; arms = before 6 rs; end = length rs } = e ∙ rw (eq-eqb (ordered rs) (length rs) o) in
+      let q : l ≡ record { blocks = before 2 rs; bodies = before 3 rs; code = before 4 rs; operands = before 5 rs; arms = before 6 rs; end = length rs } =
+      e ∙ rw (eq-eqb (ordered rs) (length rs) o) in
       record {
         sorted = o;
         blocks = ap (λ (m : Layout). m .blocks) q;
@@ -168,7 +178,9 @@ module _ (rs : List Record) {l : Layout} (e : l ≡ layoutOf rs) where
         end = ap (λ (m : Layout). m .end) q;
       }
 
-pub beyond-is : {rs : List Record} {l : Layout} → LaidOut rs l → beyond (l .blocks) (l .bodies - l .blocks) (l .code - l .bodies) (l .operands - l .code) (l .arms - l .operands) (l .end - l .arms) ≡ beyondLimit rs
+pub beyond-is :
+    {rs : List Record} {l : Layout} → LaidOut rs l →
+    beyond (l .blocks) (l .bodies - l .blocks) (l .code - l .bodies) (l .operands - l .code) (l .arms - l .operands) (l .end - l .arms) ≡ beyondLimit rs
 beyond-is {rs} {l} h =
     let z = sizes h in
     let b : l .bodies - l .blocks ≡ length (ofClass 2 rs) = omega arith in
@@ -183,4 +195,7 @@ or-second true b e = absurd (mathlib.Core.Bool.true≢false e)
 or-second false b e = e
 
 pub few-arms : (a b c d e f : ℕ) → beyond a b c d e f ≡ false → f ≤ 128
-few-arms a b c d e f h = ltb-false 128 f (or-second (ltb 128 e) _ (or-second (ltb 756 d) _ (or-second (ltb 1 c) _ (or-second (eqb b 0) _ (or-second (ltb 160 b) _ (or-second (ltb 756 a) _ h))))))
+few-arms a b c d e f h =
+    ltb-false 128 f
+    (or-second (ltb 128 e) _
+    (or-second (ltb 756 d) _ (or-second (ltb 1 c) _ (or-second (eqb b 0) _ (or-second (ltb 160 b) _ (or-second (ltb 756 a) _ h))))))

@@ -18,7 +18,7 @@ use Rattle.format.specs.Record.{blank}
 use Rattle.layout.specs.Walk.{walk, lead}
 use Rattle.layout.proofs.Walks.{pass-at, stop-at, end-at}
 use Rattle.read.specs.Structure.{State, codeOf, tiles, terminator, numbers, isDefault, tables}
-use Rattle.read.specs.Parts.{part, InCode}
+use Rattle.read.specs.Work.{part, InCode}
 
 module _ (rs : List Record) (first count : ℕ) (h : first + count ≤ length rs) where
   pub part-length : length (part first count rs) ≡ count
@@ -56,14 +56,19 @@ pub pair : {a b c d : ℕ} → a ≡ b → c ≡ d → _≡_ {A = State} (a, c) 
 pair e f = rw (e, f)
 
 -- a walk along a part of a file, whose records are read one by one
-module _ {S : Type 0} (ok : S → Record → Bool) (next : S → Record → S) (rs : List Record) (first count : ℕ) (h : first + count ≤ length rs) (k : ℕ) (s : S) where
-  pub part-pass : {r : Record} {f : Bool} {t : S} → k < count → r ≡ getD rs (first + k) blank → f ≡ ok s r → f ≡ true → t ≡ next s r → (k + 1) + walk ok next t (drop (k + 1) (part first count rs)) ≡ k + walk ok next s (drop k (part first count rs))
+module _ {S : Type 0} (ok : S → Record → Bool) (next : S → Record → S)
+    (rs : List Record) (first count : ℕ) (h : first + count ≤ length rs) (k : ℕ) (s : S) where
+  pub part-pass :
+      {r : Record} {f : Bool} {t : S} → k < count → r ≡ getD rs (first + k) blank → f ≡ ok s r → f ≡ true → t ≡ next s r →
+      (k + 1) + walk ok next t (drop (k + 1) (part first count rs)) ≡ k + walk ok next s (drop k (part first count rs))
   part-pass i e f g t =
       let e′ = e ∙ sym (part-at rs first count h k i) in
       ap (λ (u : S). (k + 1) + walk ok next u (drop (k + 1) (part first count rs))) (t ∙ ap (next s) e′)
       ∙ pass-at ok next (part first count rs) k blank s (rw (part-length rs first count h) i) (told (ok s) e′ f g)
 
-  pub part-stop : {r : Record} {f : Bool} → k < count → r ≡ getD rs (first + k) blank → f ≡ ok s r → f ≡ false → k ≡ k + walk ok next s (drop k (part first count rs))
+  pub part-stop :
+      {r : Record} {f : Bool} → k < count → r ≡ getD rs (first + k) blank → f ≡ ok s r → f ≡ false →
+      k ≡ k + walk ok next s (drop k (part first count rs))
   part-stop i e f g =
       let e′ = e ∙ sym (part-at rs first count h k i) in
       stop-at ok next (part first count rs) k blank s (rw (part-length rs first count h) i) (told (ok s) e′ f g)
@@ -73,7 +78,9 @@ module _ {S : Type 0} (ok : S → Record → Bool) (next : S → Record → S) (
 
 -- the same of a walk that only tests
 module _ (p : Record → Bool) (rs : List Record) (first count : ℕ) (h : first + count ≤ length rs) (k : ℕ) where
-  pub tests-pass : {r : Record} {f : Bool} → k < count → r ≡ getD rs (first + k) blank → f ≡ p r → f ≡ true → (k + 1) + lead p (drop (k + 1) (part first count rs)) ≡ k + lead p (drop k (part first count rs))
+  pub tests-pass :
+      {r : Record} {f : Bool} → k < count → r ≡ getD rs (first + k) blank → f ≡ p r → f ≡ true →
+      (k + 1) + lead p (drop (k + 1) (part first count rs)) ≡ k + lead p (drop k (part first count rs))
   tests-pass i e f g = part-pass (λ s r. p r) (λ s r. s) rs first count h k (tt {0}) i e f g refl
 
   pub tests-stop : {r : Record} {f : Bool} → k < count → r ≡ getD rs (first + k) blank → f ≡ p r → f ≡ false → k ≡ k + lead p (drop k (part first count rs))
@@ -89,7 +96,9 @@ code-part rs code n r h i =
     (ap (take (r .p2 - r .p1)) (drop-take (r .p1) n (drop code rs) ∙ ap (take (n - r .p1)) (drop-drop (r .p1) code rs))
     ∙ take-take (r .p2 - r .p1) (n - r .p1) (drop (code + r .p1) rs) (omega arith))
 
-pub in-code : (rs : List Record) (first count n k : ℕ) (h : first + count ≤ length rs) (r : Record) → InCode n (part first count rs) → k < count → r ≡ getD rs (first + k) blank → (r .p1 < r .p2) × (r .p2 ≤ n)
+pub in-code :
+    (rs : List Record) (first count n k : ℕ) (h : first + count ≤ length rs) (r : Record) → InCode n (part first count rs) → k < count →
+    r ≡ getD rs (first + k) blank → (r .p1 < r .p2) × (r .p2 ≤ n)
 in-code rs first count n k h r q i e = rw (e ∙ sym (part-at rs first count h k i)) (q k (rw (part-length rs first count h) i))
 
 -- the tests of an arm, in their order
@@ -108,7 +117,9 @@ unfolding tables
 tables-snoc [] r = omega arith
 tables-snoc (x ∷ l) r = let h = tables-snoc l r in omega arith
 
-pub tables-next : (rs : List Record) (first count k : ℕ) (h : first + count ≤ length rs) (r : Record) → k < count → r ≡ getD rs (first + k) blank → {t d : ℕ} → d ≡ tables (take k (part first count rs)) → t ≡ cond (isDefault r) 1 0 → d + t ≡ tables (take (k + 1) (part first count rs))
+pub tables-next :
+    (rs : List Record) (first count k : ℕ) (h : first + count ≤ length rs) (r : Record) → k < count → r ≡ getD rs (first + k) blank → {t d : ℕ} →
+    d ≡ tables (take k (part first count rs)) → t ≡ cond (isDefault r) 1 0 → d + t ≡ tables (take (k + 1) (part first count rs))
 tables-next rs first count k h r i e {t} {d} f g =
     rw (f, g, e ∙ sym (part-at rs first count h k i), add-one k, take-suc (part first count rs) k blank (rw (part-length rs first count h) i))
     (sym (tables-snoc (take k (part first count rs)) (getD (part first count rs) k blank)))

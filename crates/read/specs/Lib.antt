@@ -1,3 +1,3 @@
 pub mod Structure
 pub mod Reading
-pub mod Parts
+pub mod Work

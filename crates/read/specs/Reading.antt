@@ -31,7 +31,9 @@ beyond registers blocks bodies code operands arms =
     || ltb 128 arms)))))
 
 abbrev pub beyondLimit : List Record → Bool
-beyondLimit rs = beyond (length (ofClass 1 rs)) (length (ofClass 2 rs)) (length (ofClass 3 rs)) (length (ofClass 4 rs)) (length (ofClass 5 rs)) (length (ofClass 6 rs))
+beyondLimit rs =
+    beyond (length (ofClass 1 rs)) (length (ofClass 2 rs)) (length (ofClass 3 rs))
+    (length (ofClass 4 rs)) (length (ofClass 5 rs)) (length (ofClass 6 rs))
 
 -- 4 "blocks don't tile", 5 "terminator missing or early", 6 "tables misnumbered or undefaulted": `tiled`, `ended`, `numbered` of Structure
 

@@ -11,7 +11,8 @@ use Rattle.layout.specs.Walk.{walk, lead}
 abbrev pub State : Type 0
 State = ℕ × ℕ
 
--- "p1 start, p2 end (exclusive); blocks tile the code in order, none empty": after blocks that end at due, a block of a code of n instructions; the last one leaves no code over
+-- "p1 start, p2 end (exclusive); blocks tile the code in order, none empty":
+-- after blocks that end at due, a block of a code of n instructions; the last one leaves no code over
 unfoldable pub tiles : ℕ → State → Record → Bool
 tiles n s r = eqb (r .p1) (s .0) && (ltb (r .p1) (r .p2) && (leb (r .p2) n && (not (eqb (s .1) 1) || eqb (r .p2) n)))
 

@@ -4,7 +4,7 @@ ghost use Prim.Native.Nat.{ℕ, _+_, _≤_};
 ghost use lib.ListN.{length, take};
 ghost use Rattle.format.specs.Record.{recordsOf};
 ghost use Rattle.read.specs.Structure.{numbers as numbersAfter, numbered, tables, isDefault};
-ghost use Rattle.read.specs.Parts.{part};
+ghost use Rattle.read.specs.Work.{part};
 use format::Record;
 
 // How many arms were passed, and the tables that they end.

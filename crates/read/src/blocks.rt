@@ -7,7 +7,7 @@ ghost use lib.ListN.{length, take, drop};
 ghost use Rattle.format.specs.Record.{recordsOf};
 ghost use Rattle.layout.specs.Walk.{lead};
 ghost use Rattle.read.specs.Structure.{tiles as tilesAfter, tiled, terminator as isTerminator, ended, endsWell};
-ghost use Rattle.read.specs.Parts.{part, InCode};
+ghost use Rattle.read.specs.Work.{part, InCode};
 use format::Record;
 
 // The block starts where the one before it ended, holds code, and ends within the code; the last one ends with it.

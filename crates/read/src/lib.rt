@@ -5,7 +5,7 @@ ghost use lib.Dec.{ltb, eqb};
 ghost use lib.ListN.{length};
 ghost use Rattle.format.specs.Record.{recordsOf};
 ghost use Rattle.read.specs.Reading.{answer, beyond as beyondLimits, readTables, readBlocks, readRecords, reading};
-ghost use Rattle.read.specs.Parts.{LaidOut};
+ghost use Rattle.read.specs.Work.{LaidOut};
 use layout::Layout;
 use shape::exist::Counts;
 

@@ -133,9 +133,6 @@ regOf n = record { 0 = n }
 abbrev pub numbersOf : List Reg → List ℕ
 numbersOf rs = map (λ (r : Reg). r .0) rs
 
-abbrev pub rowOf : ℕ → ℕ → Reg → Reg → Reg → Reg → Reg → Regs → Roles
-rowOf defs n p q r s t list = record { defs = defs; n = n; reg = p ∷ q ∷ r ∷ s ∷ t ∷ []; list = list }
-
 -- some registers written and some read, five at most, with register 0 behind them
 abbrev pub filled : List ℕ → List ℕ → Regs → Roles
 filled defs uses list =
@@ -145,18 +142,6 @@ filled defs uses list =
       reg = map regOf (take 5 ((defs ++ uses) ++ (0 ∷ 0 ∷ 0 ∷ 0 ∷ 0 ∷ [])));
       list = list;
     }
-
-abbrev pub boolRoles : BoolOp → Reg → Reg → Reg → Roles
-boolRoles op d x y = filled (d .0 ∷ []) (boolUses op (x .0) (y .0)) noList
-
-abbrev pub checkRoles : CheckKind → Reg → Reg → Reg → Roles
-checkRoles c v lo hi = filled [] (checkUses c (v .0) (lo .0) (hi .0)) noList
-
-abbrev pub callRoles : Regs → OptReg → Roles
-callRoles args d = filled (optional d) [] args
-
-abbrev pub retRoles : OptReg → Roles
-retRoles v = filled [] (optional v) noList
 
 -- an instruction's roles: its fields written, its fields read, its list
 unfoldable pub rolesOf : Inst → Roles

@@ -1,5 +1,6 @@
 ghost use mathlib.Core.Path.{_≡_};
-ghost use Rattle.roles.specs.Roles.{rowOf, noList, boolRoles, checkRoles, callRoles, retRoles, rolesOf};
+ghost use Rattle.roles.specs.Roles.{noList, rolesOf};
+ghost use Rattle.roles.specs.Work.{rowOf, boolRoles, checkRoles, callRoles, retRoles};
 use inst::BoolOp;
 use inst::CheckKind;
 use inst::Inst;

@@ -8,11 +8,12 @@ use mathlib.Core.Logic.{_⊎_, inl, inr}
 use borrow.Author.Tests.{ltb-false, eqb-true, eqb-false, eq-eqb, ne-eqb, le-ltb, not-false}
 use lib.Dec.{eqb, ltb}
 use lib.ListN.{length}
+use Rattle.general.proofs.Booleans.{cases}
 use Rattle.format.specs.declared.Record.{Record}
 use Rattle.format.specs.Record.{recordsOf}
 use Rattle.shape.specs.Exist.{namesExist}
 use Rattle.layout.specs.Classes.{ofClass, ordered, before, inOrder}
-use Rattle.layout.proofs.Walks.{cases, walk-le, lead-le}
+use Rattle.layout.proofs.Walks.{walk-le, lead-le}
 use Rattle.read.specs.declared.Reading.{Reading}
 use Rattle.read.specs.Structure.{tiles, nextBlock, tiled, endsWell, ended, numbers, nextArm, numbered, codeOf as recordsOfBlock}
 use Rattle.read.specs.Reading.{unless, answer, reading, readRecords, readBlocks, readTables, countsOf, named, beyond, beyondLimit, wrongLength}

@@ -9,11 +9,11 @@ use borrow.Author.Tests.{ltb-true, leb-true, eqb-true, lt-ltb, le-leb, eq-eqb}
 use lib.Dec.{eqb, ltb, leb}
 use lib.ListN.{length, take, drop, length-append, length-map, length-drop, take-append-drop}
 use lib.Seq.{take-all, take-at, drop-at, drop-drop, length-take-le}
+use Rattle.general.proofs.Booleans.{cases, and-first, and-second}
 use Rattle.format.specs.declared.Record.{Record}
 use Rattle.layout.specs.Walk.{walk}
-use Rattle.layout.specs.Spans.{rightOf}
-use Rattle.layout.proofs.Walks.{cases, walk-pass, walk-head, walk-tail}
-use Rattle.layout.proofs.Order.{and-first, and-second}
+use Rattle.layout.specs.Work.{rightOf}
+use Rattle.layout.proofs.Walks.{walk-pass, walk-head, walk-tail}
 use Rattle.read.specs.Structure.{tiles, nextBlock, codeOf as recordsOfBlock}
 use Rattle.inst.specs.declared.Code.{Code}
 use Rattle.codec.specs.Codec.{codeOf, recordOf, InRange}

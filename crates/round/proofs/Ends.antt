@@ -7,9 +7,10 @@ use mathlib.Core.List.{List, [], _∷_, map}
 use mathlib.Core.Logic.{_⊎_, inl, inr}
 use borrow.Author.Tests.{eqb-true, eq-eqb}
 use lib.ListN.{length, length-map}
+use Rattle.general.proofs.Booleans.{cases}
 use Rattle.format.specs.declared.Record.{Record}
 use Rattle.layout.specs.Walk.{lead}
-use Rattle.layout.proofs.Walks.{cases, walk-pass, walk-stop}
+use Rattle.layout.proofs.Walks.{walk-pass, walk-stop}
 use Rattle.read.specs.Structure.{terminatorKind, terminator, endsWell}
 use Rattle.inst.specs.Inst.{kindOf}
 use Rattle.ends.specs.Ends.{terminatorOf}

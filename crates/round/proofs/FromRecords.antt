@@ -7,13 +7,13 @@ use mathlib.Core.List.{List, [], _∷_, _++_, map, append-nil}
 use borrow.Author.Tests.{ltb-true}
 use lib.Dec.{ltb}
 use lib.ListN.{length, drop, length-map}
+use Rattle.general.proofs.Booleans.{and-first}
 use Rattle.format.specs.declared.Record.{Record}
 use Rattle.format.specs.Kinds.{right, fields, kindCount, armPlaces}
 use Rattle.shape.specs.declared.exist.Counts.{Counts}
 use Rattle.shape.specs.Exist.{namesExist}
 use Rattle.layout.specs.Classes.{ofClass}
-use Rattle.layout.specs.Spans.{rightOf}
-use Rattle.layout.proofs.Order.{and-first}
+use Rattle.layout.specs.Work.{rightOf}
 use Rattle.read.specs.Structure.{endsWell, tables, codeOf as recordsOfBlock}
 use Rattle.read.specs.Reading.{countsOf}
 use Rattle.store.specs.Store.{Fits}

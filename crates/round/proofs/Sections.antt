@@ -10,13 +10,14 @@ use borrow.Author.Tests.{eqb-true, eq-eqb, ne-eqb, le-leb}
 use lib.Dec.{eqb}
 use lib.ListN.{length, getD, drop, take-append-drop}
 use lib.Seq.{drop-drop, drop-length}
+use Rattle.general.proofs.Booleans.{cases, and-first, and-second}
 use Rattle.format.specs.declared.Record.{Record}
 use Rattle.format.specs.Kinds.{right}
 use Rattle.layout.specs.Walk.{walk}
 use Rattle.layout.specs.Classes.{inOrder, ordered, ofClass, before}
-use Rattle.layout.specs.Spans.{rightOf}
-use Rattle.layout.proofs.Walks.{cases, walk-pass, walk-head, walk-tail}
-use Rattle.layout.proofs.Order.{Sorted, sorted-of, and-first, and-second, before-none, before-count, before-end, ordered-end, of-part}
+use Rattle.layout.specs.Work.{rightOf}
+use Rattle.layout.proofs.Walks.{walk-pass, walk-head, walk-tail}
+use Rattle.layout.proofs.Order.{Sorted, sorted-of, before-none, before-count, before-end, ordered-end, of-part}
 use Rattle.procedure.specs.Lists.{joined}
 use Rattle.round.specs.WellFormed.{All}
 

@@ -9,12 +9,12 @@ use mathlib.Core.Logic.{_⊎_, inl, inr}
 use borrow.Author.Tests.{eqb-true, eq-eqb}
 use lib.Dec.{eqb, ltb}
 use lib.ListN.{length, length-append, length-map}
+use Rattle.general.proofs.Booleans.{cases, and-first, and-second}
 use Rattle.format.specs.declared.Record.{Record}
 use Rattle.format.specs.Kinds.{right}
 use Rattle.layout.specs.Walk.{walk}
-use Rattle.layout.specs.Spans.{rightOf}
-use Rattle.layout.proofs.Walks.{cases, walk-pass, walk-head, walk-tail}
-use Rattle.layout.proofs.Order.{and-first, and-second}
+use Rattle.layout.specs.Work.{rightOf}
+use Rattle.layout.proofs.Walks.{walk-pass, walk-head, walk-tail}
 use Rattle.read.specs.Structure.{State, numbers, nextArm, isDefault, tables}
 use Rattle.store.specs.Store.{Fits}
 use Rattle.codec.specs.Codec.{wordOf, lowOf, highOf, blockOf}

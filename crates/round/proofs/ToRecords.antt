@@ -11,7 +11,7 @@ use Rattle.format.specs.declared.Record.{Record}
 use Rattle.shape.specs.declared.exist.Counts.{Counts}
 use Rattle.shape.specs.Exist.{namesExist}
 use Rattle.layout.specs.Classes.{ofClass}
-use Rattle.layout.specs.Spans.{rightOf}
+use Rattle.layout.specs.Work.{rightOf}
 use Rattle.read.specs.Structure.{endsWell, tables, codeOf as recordsOfBlock}
 use Rattle.read.specs.Reading.{countsOf}
 use Rattle.store.specs.Store.{Fits}

@@ -13,8 +13,9 @@ use Rattle.general.proofs.Lists.{at-rest}
 pub use Rattle.general.proofs.Booleans.{both, neither}
 pub use Rattle.general.proofs.Lists.{at-key}
 use Rattle.format.specs.declared.Record.{Record}
-use Rattle.format.specs.Kinds.{Place, spaceNumber, unused, register, optional, zeros, fields, allFit, places, kindCount, opCount, statementFits, instructionPlaces, right}
-use Rattle.shape.specs.Parts.{plain, below, listedPlaces}
+use Rattle.format.specs.Kinds.{Place, spaceNumber, unused, register, optional, zeros, fields, allFit, places, kindCount, opCount}
+use Rattle.format.specs.Kinds.{statementFits, instructionPlaces, right}
+use Rattle.shape.specs.Work.{plain, below, listedPlaces}
 use Rattle.shape.specs.declared.exist.Counts.{Counts}
 use Rattle.shape.specs.Exist.{exist, allExist, namesExist}
 
@@ -37,10 +38,14 @@ unfolding sum
 six-zeros a b c d e f = ap (λ (n : ℕ). eqb (a + (b + (c + (d + (e + n))))) 0) (sym (native.Mathlib.Nat.add-zero f)) ∙ sum-zeros (a ∷ b ∷ c ∷ d ∷ e ∷ f ∷ [])
 
 -- the places of an instruction, at a kind that is written out
-pub row-at : (r : Record) {k : ℕ} {x : Bool} → r .kind ≡ k → x ≡ allFit (getD (instructionPlaces (r .op)) k []) (fields r) → x ≡ allFit (getD (instructionPlaces (r .op)) (r .kind) []) (fields r)
+pub row-at :
+    (r : Record) {k : ℕ} {x : Bool} → r .kind ≡ k → x ≡ allFit (getD (instructionPlaces (r .op)) k []) (fields r) →
+    x ≡ allFit (getD (instructionPlaces (r .op)) (r .kind) []) (fields r)
 row-at r e f = f ∙ ap (λ (l : List Place). allFit l (fields r)) (at-key (instructionPlaces (r .op)) [] e)
 
-pub exist-at : (n : Counts) (r : Record) {k : ℕ} {x : Bool} → r .kind ≡ k → x ≡ allExist n (getD (instructionPlaces (r .op)) k []) (fields r) → x ≡ allExist n (getD (instructionPlaces (r .op)) (r .kind) []) (fields r)
+pub exist-at :
+    (n : Counts) (r : Record) {k : ℕ} {x : Bool} → r .kind ≡ k → x ≡ allExist n (getD (instructionPlaces (r .op)) k []) (fields r) →
+    x ≡ allExist n (getD (instructionPlaces (r .op)) (r .kind) []) (fields r)
 exist-at n r e f = f ∙ ap (λ (l : List Place). allExist n l (fields r)) (at-key (instructionPlaces (r .op)) [] e)
 
 -- a space's number names nothing
@@ -52,7 +57,8 @@ space-exists n (suc (suc (suc zero))) p q = refl
 space-exists n (suc (suc (suc (suc zero)))) p q = refl
 space-exists n (suc (suc (suc (suc (suc op))))) p q = refl
 
-pub address-exists : (n : Counts) (r : Record) {x : Bool} → x ≡ below (n .registers) (r .p1 ∷ []) → x ≡ allExist n (getD (instructionPlaces (r .op)) 3 []) (fields r)
+pub address-exists :
+    (n : Counts) (r : Record) {x : Bool} → x ≡ below (n .registers) (r .p1 ∷ []) → x ≡ allExist n (getD (instructionPlaces (r .op)) 3 []) (fields r)
 address-exists n r f = f ∙ ap (λ (b : Bool). ltb (r .p1) (n .registers) && (b && true)) (sym (space-exists n (r .op) (r .p2) (r .p3)))
 
 -- Stmt lists no place
@@ -63,7 +69,28 @@ pub past-kinds : (r : Record) → 23 ≤ r .kind → [] ≡ getD (instructionPla
 past-kinds r h = past-row (r .kind) (r .op) h
 
 -- the kinds whose places take any number
-pub plain-row : (r : Record) (k op : ℕ) → (k ≡ 3 → ⊥) → (k ≡ 13 → ⊥) → (k ≡ 17 → ⊥) → (k ≡ 21 → ⊥) → zeros (drop (getD listedPlaces k 0) (fields r)) ≡ allFit (getD (instructionPlaces op) k []) (fields r)
+abbrev Plainly : Record → ℕ → ℕ → Type 0
+Plainly r k op = zeros (drop (getD listedPlaces k 0) (fields r)) ≡ allFit (getD (instructionPlaces op) k []) (fields r)
+
+abbrev late : ℕ → ℕ
+late k = suc (suc (suc (suc (suc (suc (suc (suc (suc (suc (suc (suc k)))))))))))
+
+late-row : (r : Record) (k op : ℕ) → (late k ≡ 13 → ⊥) → (late k ≡ 17 → ⊥) → (late k ≡ 21 → ⊥) → Plainly r (late k) op
+late-row r zero op b c d = refl
+late-row r (suc zero) op b c d = absurd (b refl)
+late-row r (suc (suc zero)) op b c d = refl
+late-row r (suc (suc (suc zero))) op b c d = refl
+late-row r (suc (suc (suc (suc zero)))) op b c d = refl
+late-row r (suc (suc (suc (suc (suc zero))))) op b c d = absurd (c refl)
+late-row r (suc (suc (suc (suc (suc (suc zero)))))) op b c d = refl
+late-row r (suc (suc (suc (suc (suc (suc (suc zero))))))) op b c d = refl
+late-row r (suc (suc (suc (suc (suc (suc (suc (suc zero)))))))) op b c d = refl
+late-row r (suc (suc (suc (suc (suc (suc (suc (suc (suc zero))))))))) op b c d = absurd (d refl)
+late-row r (suc (suc (suc (suc (suc (suc (suc (suc (suc (suc zero)))))))))) op b c d = refl
+late-row r (suc (suc (suc (suc (suc (suc (suc (suc (suc (suc (suc zero))))))))))) op b c d = refl
+late-row r (suc (suc (suc (suc (suc (suc (suc (suc (suc (suc (suc (suc k)))))))))))) op b c d = refl
+
+pub plain-row : (r : Record) (k op : ℕ) → (k ≡ 3 → ⊥) → (k ≡ 13 → ⊥) → (k ≡ 17 → ⊥) → (k ≡ 21 → ⊥) → Plainly r k op
 plain-row r zero op a b c d = refl
 plain-row r (suc zero) op a b c d = refl
 plain-row r (suc (suc zero)) op a b c d = refl
@@ -76,25 +103,13 @@ plain-row r (suc (suc (suc (suc (suc (suc (suc (suc zero)))))))) op a b c d = re
 plain-row r (suc (suc (suc (suc (suc (suc (suc (suc (suc zero))))))))) op a b c d = refl
 plain-row r (suc (suc (suc (suc (suc (suc (suc (suc (suc (suc zero)))))))))) op a b c d = refl
 plain-row r (suc (suc (suc (suc (suc (suc (suc (suc (suc (suc (suc zero))))))))))) op a b c d = refl
-plain-row r (suc (suc (suc (suc (suc (suc (suc (suc (suc (suc (suc (suc zero)))))))))))) op a b c d = refl
-plain-row r (suc (suc (suc (suc (suc (suc (suc (suc (suc (suc (suc (suc (suc zero))))))))))))) op a b c d = absurd (b refl)
-plain-row r (suc (suc (suc (suc (suc (suc (suc (suc (suc (suc (suc (suc (suc (suc zero)))))))))))))) op a b c d = refl
-plain-row r (suc (suc (suc (suc (suc (suc (suc (suc (suc (suc (suc (suc (suc (suc (suc zero))))))))))))))) op a b c d = refl
-plain-row r (suc (suc (suc (suc (suc (suc (suc (suc (suc (suc (suc (suc (suc (suc (suc (suc zero)))))))))))))))) op a b c d = refl
-plain-row r (suc (suc (suc (suc (suc (suc (suc (suc (suc (suc (suc (suc (suc (suc (suc (suc (suc zero))))))))))))))))) op a b c d = absurd (c refl)
-plain-row r (suc (suc (suc (suc (suc (suc (suc (suc (suc (suc (suc (suc (suc (suc (suc (suc (suc (suc zero)))))))))))))))))) op a b c d = refl
-plain-row r (suc (suc (suc (suc (suc (suc (suc (suc (suc (suc (suc (suc (suc (suc (suc (suc (suc (suc (suc zero))))))))))))))))))) op a b c d = refl
-plain-row r (suc (suc (suc (suc (suc (suc (suc (suc (suc (suc (suc (suc (suc (suc (suc (suc (suc (suc (suc (suc zero)))))))))))))))))))) op a b c d = refl
-plain-row r (suc (suc (suc (suc (suc (suc (suc (suc (suc (suc (suc (suc (suc (suc (suc (suc (suc (suc (suc (suc (suc zero))))))))))))))))))))) op a b c d = absurd (d refl)
-plain-row r (suc (suc (suc (suc (suc (suc (suc (suc (suc (suc (suc (suc (suc (suc (suc (suc (suc (suc (suc (suc (suc (suc zero)))))))))))))))))))))) op a b c d = refl
-plain-row r (suc (suc (suc (suc (suc (suc (suc (suc (suc (suc (suc (suc (suc (suc (suc (suc (suc (suc (suc (suc (suc (suc (suc zero))))))))))))))))))))))) op a b c d = refl
-plain-row r (suc (suc (suc (suc (suc (suc (suc (suc (suc (suc (suc (suc (suc (suc (suc (suc (suc (suc (suc (suc (suc (suc (suc (suc (k))))))))))))))))))))))))) op a b c d = refl
+plain-row r (suc (suc (suc (suc (suc (suc (suc (suc (suc (suc (suc (suc k)))))))))))) op a b c d = late-row r k op b c d
 
 not-less : 7 < 7 → ⊥
 not-less h = omega arith
 
 -- a kind that lists fewer than 7
-pub few-listed : (r : Record) (k op : ℕ) → getD listedPlaces k 0 < 7 → zeros (drop (getD listedPlaces k 0) (fields r)) ≡ allFit (getD (instructionPlaces op) k []) (fields r)
+pub few-listed : (r : Record) (k op : ℕ) → getD listedPlaces k 0 < 7 → Plainly r k op
 few-listed r k op h = plain-row r k op (λ e. not-less (seven 3 e)) (λ e. not-less (seven 13 e)) (λ e. not-less (seven 17 e)) (λ e. not-less (seven 21 e))
   where
     seven : (n : ℕ) → k ≡ n → getD listedPlaces n 0 < 7
@@ -102,7 +117,10 @@ few-listed r k op h = plain-row r k op (λ e. not-less (seven 3 e)) (λ e. not-l
 
 -- the fields past the first few, picked one by one
 abbrev pub pick : ℕ → Record → List ℕ
-pick u r = cond (leb u 0) (r .p1) 0 ∷ cond (leb u 1) (r .p2) 0 ∷ cond (leb u 2) (r .p3) 0 ∷ cond (leb u 3) (r .p4) 0 ∷ cond (leb u 4) (r .p5) 0 ∷ cond (leb u 5) (r .p6) 0 ∷ []
+pick u r = from 0 (r .p1) ∷ from 1 (r .p2) ∷ from 2 (r .p3) ∷ from 3 (r .p4) ∷ from 4 (r .p5) ∷ from 5 (r .p6) ∷ []
+  where
+    from : ℕ → ℕ → ℕ
+    from k p = cond (leb u k) p 0
 
 pub picked : (u : ℕ) (r : Record) → zeros (pick u r) ≡ zeros (drop u (fields r))
 picked zero r = refl
@@ -111,7 +129,11 @@ picked (suc (suc zero)) r = refl
 picked (suc (suc (suc zero))) r = refl
 picked (suc (suc (suc (suc zero)))) r = refl
 picked (suc (suc (suc (suc (suc zero))))) r = refl
-picked (suc (suc (suc (suc (suc (suc u)))))) r = rw (lt-leb (suc (suc (suc (suc (suc (suc u)))))) 0 (omega arith), lt-leb (suc (suc (suc (suc (suc (suc u)))))) 1 (omega arith), lt-leb (suc (suc (suc (suc (suc (suc u)))))) 2 (omega arith), lt-leb (suc (suc (suc (suc (suc (suc u)))))) 3 (omega arith), lt-leb (suc (suc (suc (suc (suc (suc u)))))) 4 (omega arith), lt-leb (suc (suc (suc (suc (suc (suc u)))))) 5 (omega arith)) (sym (ap zeros (drop-of-length-le (fields r) {i = suc (suc (suc (suc (suc (suc u)))))} (omega arith))))
+picked (suc (suc (suc (suc (suc (suc u)))))) r =
+    let n = suc (suc (suc (suc (suc (suc u))))) in
+    let past : (k : ℕ) → k < n → leb n k ≡ false = lt-leb n in
+    rw (past 0 (omega arith), past 1 (omega arith), past 2 (omega arith), past 3 (omega arith), past 4 (omega arith), past 5 (omega arith))
+    (sym (ap zeros (drop-of-length-le (fields r) {i = n} (omega arith))))
 
 pub optional-some : (op : ℕ) → (op ≡ 0 → ⊥) → register ≡ optional op
 optional-some op h = at-rest (unused ∷ []) register {x = op} (omega arith)
@@ -149,7 +171,9 @@ unfolding right rightAs
 right-as r e = ap (λ (c : ℕ). rightAs c r) e
 
 head : (r : Record) (k : ℕ) (e : Bool) → (ltb (r .kind) k && (ltb (r .op) 1 && (eqb (r .zero) 0 && (eqb (r .stmt) 0 && e)))) ≡ (plain r k && e)
-head r k e = ap (λ (t : Bool). ltb (r .kind) k && (t && (eqb (r .zero) 0 && (eqb (r .stmt) 0 && e)))) (below-one (r .op)) ∙ chain (ltb (r .kind) k) (eqb (r .op) 0) (eqb (r .zero) 0) (eqb (r .stmt) 0) e
+head r k e =
+    ap (λ (t : Bool). ltb (r .kind) k && (t && (eqb (r .zero) 0 && (eqb (r .stmt) 0 && e)))) (below-one (r .op))
+    ∙ chain (ltb (r .kind) k) (eqb (r .op) 0) (eqb (r .zero) 0) (eqb (r .stmt) 0) e
 
 -- the classes that have no op and no statement
 pub data Plain : ℕ → Type 0 where
@@ -178,7 +202,9 @@ module _ (r : Record) {c : ℕ} (p : Plain c) (e : r .class ≡ c) where
   plain-wrong i t = t ∙ sym (right-plain ∙ ap (λ (b : Bool). b && allFit (places c (r .kind) (r .op)) (fields r)) (sym i ∙ t))
 
 -- the instructions
-pub instruction-right : (r : Record) → r .class ≡ 4 → right r ≡ (ltb (r .kind) 24 && (ltb (r .op) (opCount 4 (r .kind)) && (eqb (r .zero) 0 && allFit (places 4 (r .kind) (r .op)) (fields r))))
+pub instruction-right :
+    (r : Record) → r .class ≡ 4 →
+    right r ≡ (ltb (r .kind) 24 && (ltb (r .op) (opCount 4 (r .kind)) && (eqb (r .zero) 0 && allFit (places 4 (r .kind) (r .op)) (fields r))))
 unfolding rightAs
 instruction-right r e = right-as r e
 
@@ -206,7 +232,9 @@ no-kinds (suc (suc (suc (suc (suc zero))))) a b c d e f = absurd (e refl)
 no-kinds (suc (suc (suc (suc (suc (suc zero)))))) a b c d e f = absurd (f refl)
 no-kinds (suc (suc (suc (suc (suc (suc (suc x))))))) a b c d e f = refl
 
-pub no-class : (r : Record) → (r .class ≡ 1 → ⊥) → (r .class ≡ 2 → ⊥) → (r .class ≡ 3 → ⊥) → (r .class ≡ 4 → ⊥) → (r .class ≡ 5 → ⊥) → (r .class ≡ 6 → ⊥) → false ≡ right r
+pub no-class :
+    (r : Record) → (r .class ≡ 1 → ⊥) → (r .class ≡ 2 → ⊥) → (r .class ≡ 3 → ⊥) → (r .class ≡ 4 → ⊥) → (r .class ≡ 5 → ⊥) → (r .class ≡ 6 → ⊥) →
+    false ≡ right r
 unfolding right
 no-class r a b c d e f = rw (no-kinds (r .class) a b c d e f, leb·suc-zero (r .kind))
 

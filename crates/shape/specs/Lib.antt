@@ -1,2 +1,2 @@
 pub mod Exist
-pub mod Parts
+pub mod Work

@@ -5,7 +5,7 @@ ghost use lib.Dec.{leb};
 ghost use lib.ListN.{getD};
 ghost use Rattle.format.specs.Kinds.{fields, instructionPlaces, armPlaces};
 ghost use Rattle.shape.specs.Exist.{allExist, namesExist};
-ghost use Rattle.shape.specs.Parts.{below};
+ghost use Rattle.shape.specs.Work.{below};
 use format::Record;
 
 // How many there are of what a record may name.

@@ -5,7 +5,7 @@ ghost use Prim.Native.Nat.{_<_};
 ghost use lib.Dec.{leb};
 ghost use lib.ListN.{drop, getD};
 ghost use Rattle.format.specs.Kinds.{zeros, fields, allFit, instructionPlaces, instructionOps, armPlaces, spaceNumber, fit as fitsPlace, right as rightRecord};
-ghost use Rattle.shape.specs.Parts.{plain as plainRecord, listedPlaces};
+ghost use Rattle.shape.specs.Work.{plain as plainRecord, listedPlaces};
 use format::Record;
 
 // How many ops each kind of instruction has.

@@ -7,19 +7,18 @@ use mathlib.Core.List.{List, [], _∷_, _++_}
 use mathlib.Core.Logic.{_⊎_, inl, inr}
 use borrow.Author.Tests.{lt-ltb}
 use lib.ListN.{length, getD, set, length-append, List·getD-eq-default}
+use Rattle.general.proofs.Numbers.{order}
 use Rattle.shape.specs.declared.exist.Counts.{Counts}
-use Rattle.store.proofs.Laws.{order}
-use Rattle.ends.specs.Ends.{terminatorOf}
 use Rattle.inst.specs.declared.Code.{Code}
 use Rattle.inst.specs.declared.Inst.{Inst}
 use Rattle.inst.specs.declared.Inst.the-variants as i
 use Rattle.roles.specs.Roles.{defsOf}
-use Rattle.codec.specs.Codec.{instRecord, inRange, regOf, blockOf}
+use Rattle.codec.specs.Codec.{instRecord, inRange, regOf, blockOf, withInst}
 use Rattle.procedure.specs.Lists.{joined}
 use Rattle.ends.specs.declared.End.{End}
 use Rattle.ends.specs.declared.End.the-variants as e
 use Rattle.ends.specs.Forms.{formOf, fixedOf, isFixed}
-use Rattle.ends.specs.Ends.{viewOf, endOf, loneOf, front, withInst, withEnd}
+use Rattle.ends.specs.Ends.{terminatorOf, viewOf, endOf, loneOf, front, withEnd}
 use Rattle.round.specs.WellFormed.{All, Ends, Sound, BlockIn}
 use Rattle.round.proofs.Lists.{all-append}
 use Rattle.sized.proofs.Names.{Named, named, names}

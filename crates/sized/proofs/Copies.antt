@@ -7,9 +7,10 @@ use mathlib.Core.List.{List, [], _∷_, _++_}
 use lib.Dec.{eqb}
 use lib.ListN.{length}
 use Rattle.shape.specs.declared.exist.Counts.{Counts}
-use Rattle.inst.specs.Inst.{terminatorKind, terminatorOf}
+use Rattle.read.specs.Structure.{terminatorKind}
 use Rattle.inst.specs.declared.Code.{Code}
 use Rattle.ends.specs.Forms.{fixedOf}
+use Rattle.ends.specs.Ends.{terminatorOf}
 use Rattle.steps.specs.Facts.{Facts}
 use Rattle.steps.specs.Copy.{How, leftOut, renumbered, kept, howWritten, howOf, readThrough, written, renamed, place, copyFrom, kindFor, kindsGiven}
 use Rattle.round.specs.WellFormed.{All, Ends, Sound, BlockIn}

@@ -7,9 +7,8 @@ use mathlib.Core.List.{List, [], _∷_, _++_}
 use mathlib.Core.Logic.{_⊎_, inl, inr}
 use lib.Dec.{leb}
 use lib.ListN.{length, length-append}
+use Rattle.general.proofs.Booleans.{cases, and-first}
 use Rattle.shape.specs.declared.exist.Counts.{Counts}
-use Rattle.layout.proofs.Walks.{cases}
-use Rattle.layout.proofs.Order.{and-first}
 use Rattle.ends.specs.Ends.{terminatorOf}
 use Rattle.inst.specs.declared.Code.{Code}
 use Rattle.inst.specs.declared.Inst.the-variants as inst

@@ -6,11 +6,12 @@ use mathlib.Core.Bool.{Bool, true, false, _&&_}
 use mathlib.Core.List.{List, [], _∷_}
 use borrow.Author.Tests.{ltb-true, lt-ltb}
 use lib.Dec.{ltb}
+use Rattle.general.proofs.Booleans.{and-first, and-second}
 use Rattle.format.specs.Kinds.{number, spaceNumber}
 use Rattle.shape.specs.declared.exist.Counts.{Counts}
-use Rattle.layout.proofs.Order.{and-first, and-second}
 use Rattle.real.specs.Real.{canonical}
 use Rattle.inst.specs.Inst.{kindOf}
+use Rattle.inst.specs.declared.Reg.{Reg}
 use Rattle.inst.specs.declared.OptReg.the-variants as o
 use Rattle.inst.specs.declared.BoolOp.{BoolOp}
 use Rattle.inst.specs.declared.BoolOp.the-variants as b
@@ -20,28 +21,28 @@ use Rattle.inst.specs.declared.Inst.{Inst}
 use Rattle.inst.specs.declared.Inst.the-variants as i
 use Rattle.ops.specs.Ops.{spaceNum, spaceArg}
 use Rattle.codec.specs.Codec.{instRecord, words, spaceInRange, inRange}
-use Rattle.steps.specs.Copy.{boolSecond, checkLow, checkHigh, exchanged}
+use Rattle.roles.specs.Exchange.{boolSecond, checkLow, checkHigh, exchanged}
 use Rattle.sized.proofs.Names.{Named, withRegs, more-exists}
 
 -- a second bound over the first, through the fields that an op may leave out
 module _ (σ : ℕ → ℕ) {p q : ℕ} (read : (r : ℕ) → r < p → σ r < q) (wide : p ≤ q) where
-  bool-second : (op : BoolOp) (r : ℕ) → r < p → boolSecond op σ r < q
-  bool-second b.And r h = read r h
-  bool-second b.Or r h = read r h
-  bool-second b.Xor r h = read r h
+  bool-second : (op : BoolOp) (r : Reg) → r .0 < p → boolSecond op σ r .0 < q
+  bool-second b.And r h = read (r .0) h
+  bool-second b.Or r h = read (r .0) h
+  bool-second b.Xor r h = read (r .0) h
   bool-second b.Not r h = omega arith
 
-  check-low : (op : CheckKind) (r : ℕ) → r < p → checkLow op σ r < q
-  check-low k.Range r h = read r h
-  check-low k.Index r h = read r h
-  check-low k.IndexDown r h = read r h
-  check-low k.Length r h = read r h
+  check-low : (op : CheckKind) (r : Reg) → r .0 < p → checkLow op σ r .0 < q
+  check-low k.Range r h = read (r .0) h
+  check-low k.Index r h = read (r .0) h
+  check-low k.IndexDown r h = read (r .0) h
+  check-low k.Length r h = read (r .0) h
   check-low k.Null r h = omega arith
 
-  check-high : (op : CheckKind) (r : ℕ) → r < p → checkHigh op σ r < q
-  check-high k.Range r h = read r h
-  check-high k.Index r h = read r h
-  check-high k.IndexDown r h = read r h
+  check-high : (op : CheckKind) (r : Reg) → r .0 < p → checkHigh op σ r .0 < q
+  check-high k.Range r h = read (r .0) h
+  check-high k.Index r h = read (r .0) h
+  check-high k.IndexDown r h = read (r .0) h
   check-high k.Length r h = omega arith
   check-high k.Null r h = omega arith
 
@@ -53,14 +54,14 @@ module _ (σ τ : ℕ → ℕ) (n : Counts) (m : ℕ) (more : n .registers ≤ m
   to : {r : ℕ} → r < n .registers → τ r < m
   to {r} = write r
 
-  second-in : (op : BoolOp) {r : ℕ} → r < n .registers → boolSecond op σ r < m
-  second-in op {r} = bool-second σ read more op r
+  second-in : (op : BoolOp) (r : Reg) → r .0 < n .registers → boolSecond op σ r .0 < m
+  second-in = bool-second σ read more
 
-  low-in : (op : CheckKind) {r : ℕ} → r < n .registers → checkLow op σ r < m
-  low-in op {r} = check-low σ read more op r
+  low-in : (op : CheckKind) (r : Reg) → r .0 < n .registers → checkLow op σ r .0 < m
+  low-in = check-low σ read more
 
-  high-in : (op : CheckKind) {r : ℕ} → r < n .registers → checkHigh op σ r < m
-  high-in op {r} = check-high σ read more op r
+  high-in : (op : CheckKind) (r : Reg) → r .0 < n .registers → checkHigh op σ r .0 < m
+  high-in = check-high σ read more
 
   pub exchange-named : (x : Inst) → Named n x → Named (withRegs m n) (exchanged σ τ x)
   unfolding instRecord exchanged
@@ -70,13 +71,13 @@ module _ (σ τ : ℕ → ℕ) (n : Counts) (m : ℕ) (more : n .registers ≤ m
   exchange-named (i.AddrOf d p f) h = (to (h .0), more-exists n m more (spaceNumber (spaceNum p) ∷ number ∷ []) (spaceArg p ∷ f ∷ 0 ∷ 0 ∷ 0 ∷ []) (h .1))
   exchange-named (i.Select d c a b) h = (to (h .0), (from (h .1 .0), (from (h .1 .1 .0), (from (h .1 .1 .1 .0), tt))))
   exchange-named (i.Cmp o d a b) h = (to (h .0), (from (h .1 .0), (from (h .1 .1 .0), tt)))
-  exchange-named (i.Bool o d a b) h = (to (h .0), (from (h .1 .0), (second-in o (h .1 .1 .0), tt)))
+  exchange-named (i.Bool o d a b) h = (to (h .0), (from (h .1 .0), (second-in o b (h .1 .1 .0), tt)))
   exchange-named (i.Bin o d a b) h = (to (h .0), (from (h .1 .0), (from (h .1 .1 .0), tt)))
   exchange-named (i.BinRange o d a b l u w) h =
       (to (h .0), (from (h .1 .0), (from (h .1 .1 .0), (from (h .1 .1 .1 .0), (from (h .1 .1 .1 .1 .0), h .1 .1 .1 .1 .1)))))
   exchange-named (i.Load d a w) h = (to (h .0), (from (h .1 .0), tt))
   exchange-named (i.Store a v w) h = (from (h .0), (from (h .1 .0), tt))
-  exchange-named (i.Check k v l u w) h = (from (h .0), (low-in k (h .1 .0), (high-in k (h .1 .1 .0), h .1 .1 .1)))
+  exchange-named (i.Check k v l u w) h = (from (h .0), (low-in k l (h .1 .0), (high-in k u (h .1 .1 .0), h .1 .1 .1)))
   exchange-named (i.MakeDope a p) h = (from (h .0), h .1)
   exchange-named (i.DopeLen d p s) h = (to (h .0), (from (h .1 .0), h .1 .1))
   exchange-named (i.BoundsLen d l r k) h = (to (h .0), (from (h .1 .0), (from (h .1 .1 .0), (from (h .1 .1 .1 .0), tt))))
@@ -115,13 +116,13 @@ same : {p : ℕ} → p < 2 ^ 32 → p < 2 ^ 32
 same h = h
 
 module _ (σ τ : ℕ → ℕ) (from : (r : ℕ) → r < 2 ^ 32 → σ r < 2 ^ 32) (to : (r : ℕ) → r < 2 ^ 32 → τ r < 2 ^ 32) where
-  second-word : (op : BoolOp) (r : ℕ) → r < 2 ^ 32 → boolSecond op σ r < 2 ^ 32
+  second-word : (op : BoolOp) (r : Reg) → r .0 < 2 ^ 32 → boolSecond op σ r .0 < 2 ^ 32
   second-word = bool-second σ from (omega arith)
 
-  low-word : (op : CheckKind) (r : ℕ) → r < 2 ^ 32 → checkLow op σ r < 2 ^ 32
+  low-word : (op : CheckKind) (r : Reg) → r .0 < 2 ^ 32 → checkLow op σ r .0 < 2 ^ 32
   low-word = check-low σ from (omega arith)
 
-  high-word : (op : CheckKind) (r : ℕ) → r < 2 ^ 32 → checkHigh op σ r < 2 ^ 32
+  high-word : (op : CheckKind) (r : Reg) → r .0 < 2 ^ 32 → checkHigh op σ r .0 < 2 ^ 32
   high-word = check-high σ from (omega arith)
 
   pub exchange-range : (x : Inst) → inRange x ≡ true → inRange (exchanged σ τ x) ≡ true
@@ -137,8 +138,8 @@ module _ (σ τ : ℕ → ℕ) (from : (r : ℕ) → r < 2 ^ 32 → σ r < 2 ^ 3
   exchange-range (i.Cmp o d a b) h = turn (d .0 ∷ a .0 ∷ b .0 ∷ []) (τ (d .0) ∷ σ (a .0) ∷ σ (b .0) ∷ []) (to (d .0), (from (a .0), (from (b .0), tt))) h
   exchange-range (i.Bool o d a b) h =
       turn (d .0 ∷ a .0 ∷ b .0 ∷ [])
-      (τ (d .0) ∷ σ (a .0) ∷ boolSecond o σ (b .0) ∷ [])
-      (to (d .0), (from (a .0), (second-word o (b .0), tt))) h
+      (τ (d .0) ∷ σ (a .0) ∷ boolSecond o σ b .0 ∷ [])
+      (to (d .0), (from (a .0), (second-word o b, tt))) h
   exchange-range (i.Bin o d a b) h = turn (d .0 ∷ a .0 ∷ b .0 ∷ []) (τ (d .0) ∷ σ (a .0) ∷ σ (b .0) ∷ []) (to (d .0), (from (a .0), (from (b .0), tt))) h
   exchange-range (i.BinRange o d a b l u w) h =
       turn (d .0 ∷ a .0 ∷ b .0 ∷ l .0 ∷ u .0 ∷ w ∷ [])
@@ -148,8 +149,8 @@ module _ (σ τ : ℕ → ℕ) (from : (r : ℕ) → r < 2 ^ 32 → σ r < 2 ^ 3
   exchange-range (i.Store a v w) h = turn (a .0 ∷ v .0 ∷ []) (σ (a .0) ∷ σ (v .0) ∷ []) (from (a .0), (from (v .0), tt)) h
   exchange-range (i.Check k v l u w) h =
       turn (v .0 ∷ l .0 ∷ u .0 ∷ w ∷ [])
-      (σ (v .0) ∷ checkLow k σ (l .0) ∷ checkHigh k σ (u .0) ∷ w ∷ [])
-      (from (v .0), (low-word k (l .0), (high-word k (u .0), (same, tt)))) h
+      (σ (v .0) ∷ checkLow k σ l .0 ∷ checkHigh k σ u .0 ∷ w ∷ [])
+      (from (v .0), (low-word k l, (high-word k u, (same, tt)))) h
   exchange-range (i.MakeDope a p) h = turn (a .0 ∷ p .start ∷ p .len ∷ []) (σ (a .0) ∷ p .start ∷ p .len ∷ []) (from (a .0), (same, (same, tt))) h
   exchange-range (i.DopeLen d p s) h = keep (ltb s 256) (turn (d .0 ∷ p .0 ∷ []) (τ (d .0) ∷ σ (p .0) ∷ []) (to (d .0), (from (p .0), tt))) h
   exchange-range (i.BoundsLen d l r k) h =

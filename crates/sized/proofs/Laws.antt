@@ -11,15 +11,16 @@ use Rattle.procedure.specs.Lists.{joined, present}
 use Rattle.steps.specs.Facts.{Facts, factsOf}
 use Rattle.steps.specs.EqualArms.{equalArms}
 use Rattle.steps.specs.Gate.{hasBackEdge, mayThread}
-use Rattle.steps.specs.Thread.{Work, nextNumber, thread}
+use Rattle.steps.specs.Thread.{Work, nextNumber, thread, unthreaded}
 use Rattle.steps.specs.Emit.{reached, emptyFrom, rescues, ontoFront}
 use Rattle.steps.specs.Run.{Shortened, withBlocks, unchanged, armsJoined, emit, emitIf, countedIn, threadIf, runIf, run}
+use Rattle.steps.proofs.Edits.{Edits, thread-edits}
 use Rattle.round.specs.WellFormed.{All, BlockIn, countsIn, WellFormed}
 use Rattle.round.proofs.Lists.{all-append, all-turn}
 use Rattle.sized.specs.Size.{codeSize, Sized}
 use Rattle.sized.proofs.Names.{withRegs}
 use Rattle.sized.proofs.Arms.{Kept, arms-kept}
-use Rattle.sized.proofs.Threads.{Inv, thread-keeps}
+use Rattle.sized.proofs.Threads.{Inv, start-keeps, edits-keep}
 use Rattle.sized.proofs.Emits.{empty-length, empty-in, rescues-in, emit-few, onto-in, onto-length, onto-few}
 
 -- what each stage leaves of a procedure
@@ -75,14 +76,19 @@ module _ (p : Procedure) (h : WellFormed p) where
   abbrev w : Work
   w = thread f (q .blocks)
 
-  inv : Inv f (countsIn p) (codeSize p) w
+  -- every work that edits lead to from the blocks after the equal-arms step
+  pub edits-inv : {v : Work} → Edits f (unthreaded (q .blocks)) v → Inv f (countsIn p) (codeSize p) v
   unfolding factsOf
-  inv =
+  edits-inv es =
       let k = kept in
       let i = h .registers in
       let j = h .code in
-      thread-keeps f (countsIn p) (codeSize p) refl (ap (λ (n : ℕ). n / 2 + 32) (k .code)) (h .each-register) few (omega arith) (q .blocks) (k .each)
-      (k .blocks) (k .code)
+      let half = ap (λ (n : ℕ). n / 2 + 32) (k .code) in
+      let start = start-keeps f (countsIn p) (codeSize p) refl half (h .each-register) few (omega arith) (q .blocks) (k .each) (k .blocks) (k .code) in
+      edits-keep f (countsIn p) (codeSize p) refl half (h .each-register) few (omega arith) es start
+
+  inv : Inv f (countsIn p) (codeSize p) w
+  inv = edits-inv (thread-edits f (q .blocks))
 
   names-at : nextNumber f w ≡ length (p .registers) + length (w .kinds)
   unfolding factsOf

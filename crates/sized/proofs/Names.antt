@@ -6,10 +6,10 @@ use mathlib.Core.Bool.{true}
 use mathlib.Core.List.{List, [], _∷_}
 use borrow.Author.Tests.{ltb-true, leb-true, lt-ltb, le-leb}
 use lib.ListN.{getD}
+use Rattle.general.proofs.Booleans.{and-first, and-second}
 use Rattle.format.specs.Kinds.{Place, unused, number, small, register, block, table, list, places, fields}
 use Rattle.shape.specs.declared.exist.Counts.{Counts}
 use Rattle.shape.specs.Exist.{exist, allExist, namesExist}
-use Rattle.layout.proofs.Order.{and-first, and-second}
 use Rattle.inst.specs.declared.Inst.{Inst}
 use Rattle.inst.specs.declared.Code.{Code}
 use Rattle.codec.specs.Codec.{instRecord, recordOf}

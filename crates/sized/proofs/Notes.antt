@@ -9,9 +9,8 @@ use mathlib.Core.Option.{Option, none, some}
 use borrow.Author.Tests.{eqb-true}
 use lib.Dec.{eqb}
 use lib.ListN.{length, getD, List·getD-eq-default}
-use Rattle.layout.proofs.Walks.{cases}
-use Rattle.layout.proofs.Order.{and-first, and-second}
-use Rattle.store.proofs.Laws.{order}
+use Rattle.general.proofs.Booleans.{cases, and-first, and-second}
+use Rattle.general.proofs.Numbers.{order}
 use Rattle.inst.specs.declared.Code.{Code}
 use Rattle.roles.specs.Roles.{defsOf}
 use Rattle.procedure.specs.Lists.{found, valueOr}

@@ -8,9 +8,9 @@ use mathlib.Core.Logic.{_⊎_, inl, inr}
 use borrow.Author.Tests.{leb-true, ltb-false, not-false}
 use lib.Dec.{eqb, ltb, leb}
 use lib.ListN.{length, getD, length-append, length-set, List·getD-eq-default}
+use Rattle.general.proofs.Booleans.{and-first}
+use Rattle.general.proofs.Numbers.{order}
 use Rattle.shape.specs.declared.exist.Counts.{Counts}
-use Rattle.layout.proofs.Order.{and-first}
-use Rattle.store.proofs.Laws.{order}
 use Rattle.inst.specs.declared.Reg.{Reg}
 use Rattle.inst.specs.declared.BlockId.{BlockId}
 use Rattle.inst.specs.declared.Code.{Code}
@@ -25,8 +25,8 @@ use Rattle.steps.specs.Facts.{Facts}
 use Rattle.steps.specs.Small.{copyable, small, readsKonst}
 use Rattle.steps.specs.Gate.{copied}
 use Rattle.steps.specs.Copy.{copyOf, kindsOf, ownUses}
-use Rattle.steps.specs.Thread.{Work, blockAt, edit, matching, armOf, stops, nextNumber, thread, unthreaded}
-use Rattle.steps.proofs.Edits.{sourceAt, turned, joinedTo, Edit, joins, folds, turns, Edits, nil, then, thread-edits}
+use Rattle.steps.specs.Thread.{Work, blockAt, edit, matching, armOf, stops, nextNumber, unthreaded}
+use Rattle.steps.proofs.Edits.{sourceAt, turned, joinedTo, Edit, joins, folds, turns, Edits, nil, then}
 use Rattle.round.specs.WellFormed.{All, BlockIn}
 use Rattle.round.proofs.Lists.{all-at, all-turn, all-append}
 use Rattle.round.proofs.Accepted.{or-first, or-second}
@@ -197,15 +197,8 @@ module _ (f : Facts) (n : Counts) (N : ℕ) (own : n .registers ≡ length (f .r
   edits-keep (nil w) v = v
   edits-keep (then x xs) v = edits-keep xs (edit-keeps x v)
 
-  pub thread-keeps : (P : List (List Code)) → All (BlockIn n) P → length P ≡ n .blocks → length (joined P) ≡ N → Inv f n N (thread f P)
-  thread-keeps P h b s =
+  -- before the first edit
+  pub start-keeps : (P : List (List Code)) → All (BlockIn n) P → length P ≡ n .blocks → length (joined P) ≡ N → Inv f n N (unthreaded P)
+  start-keeps P h b s =
       let z : nextNumber f (unthreaded P) ≡ n .registers = omega arith in
-      edits-keep (thread-edits f P)
-      (record {
-        blocks = b;
-        each = rw z h;
-        kinds = tt;
-        code = omega arith;
-        grown = omega arith;
-        fresh = omega arith;
-      })
+      record { blocks = b; each = rw z h; kinds = tt; code = omega arith; grown = omega arith; fresh = omega arith }

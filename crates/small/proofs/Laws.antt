@@ -9,8 +9,8 @@ use borrow.Author.Tests.{lt-leb, le-leb}
 use lib.Dec.{leb, eqb}
 use lib.ListN.{length, getD, take, drop, length-append, drop-of-length-le}
 use lib.Seq.{drop-cons, length-take-le, take-take, take-append-seam}
+use Rattle.general.proofs.Booleans.{both, neither, either, otherwise}
 use Rattle.inst.specs.declared.Code.{Code}
-use Rattle.shape.proofs.Laws.{both, neither}
 use Rattle.procedure.specs.Lists.{anyOf}
 use Rattle.steps.specs.Small.{dupable, smallEnd, copyable, small}
 use Rattle.procedure.specs.Procedure.{codesOf}
@@ -21,7 +21,6 @@ use Rattle.ends.specs.Ends.{codeAt, endOf}
 use Rattle.inst.specs.Inst.{kindOf}
 use Rattle.inst.specs.declared.Inst.{Inst}
 use Rattle.inst.specs.declared.Inst.the-variants as i
-use Rattle.read.proofs.Laws.{either, otherwise}
 use Rattle.steps.specs.Small as s
 
 module _ {A : Type 0} (p : A → Bool) (l : List A) (k : ℕ) (d : A) where

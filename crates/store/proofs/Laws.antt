@@ -6,7 +6,8 @@ use mathlib.Core.Bool.{Bool, true, false}
 use mathlib.Core.List.{List, [], _∷_, _++_, append-assoc}
 use mathlib.Core.Logic.{_⊎_, inl, inr}
 use lib.ListN.{length, getD, take, drop, set, length-append, length-drop, length-set, take-append-drop}
-use lib.Seq.{sets, sets-eq, length-sets, drop-cons, drop-append-le, drop-append-add, drop-drop, length-take-le, getD-set-same, getD-set-other, ext-getD, getD-drop}
+use lib.Seq.{sets, sets-eq, length-sets, drop-cons, drop-append-le, drop-append-add, drop-drop, length-take-le}
+use lib.Seq.{getD-set-same, getD-set-other, ext-getD, getD-drop}
 use lib.Dec.{ltb, eqb}
 use borrow.Author.Tests.{lt-ltb, le-ltb, ltb-true, ltb-false, eqb-true, eqb-false}
 use Rattle.general.proofs.Numbers.{order}
@@ -116,7 +117,7 @@ word-back x h =
     let e2 : x / 65536 ≡ x / 256 / 256 = omega arith in
     let e3 : x / 16777216 ≡ x / 256 / 256 / 256 = omega arith in
     rw (e2, e3)
-    (join x (x / 256) (x / 256 / 256) (x / 256 / 256 / 256) (byteOf x) (byteOf (x / 256)) (byteOf (x / 256 / 256)) (byteOf (x / 256 / 256 / 256)) (low x) (low (x / 256)) (low (x / 256 / 256)) (subst (λ (y : ℕ). y ≡ byteOf y) e3 (top x h)))
+    (join x _ _ _ _ _ _ _ (low x) (low (x / 256)) (low (x / 256 / 256)) (subst (λ (y : ℕ). y ≡ byteOf y) e3 (top x h)))
 
 byte-back : (x : ℕ) → x < 256 → byteOf x ≡ x
 byte-back x h = omega arith
@@ -124,33 +125,59 @@ byte-back x h = omega arith
 pub written-read : (r : Record) (q : List ℕ) → Fits r → recordIn (recordBytes r ++ q) 0 ≡ r
 unfolding wordBytes tagBytes
 written-read r q f =
-    rw (byte-back (r .class) (f .class), byte-back (r .kind) (f .kind), byte-back (r .op) (f .op), byte-back (r .zero) (f .zero), word-back (r .stmt) (f .stmt), word-back (r .p1) (f .p1), word-back (r .p2) (f .p2), word-back (r .p3) (f .p3), word-back (r .p4) (f .p4), word-back (r .p5) (f .p5), word-back (r .p6) (f .p6))
+    rw (
+      byte-back (r .class) (f .class),
+      byte-back (r .kind) (f .kind),
+      byte-back (r .op) (f .op),
+      byte-back (r .zero) (f .zero),
+      word-back (r .stmt) (f .stmt),
+      word-back (r .p1) (f .p1),
+      word-back (r .p2) (f .p2),
+      word-back (r .p3) (f .p3),
+      word-back (r .p4) (f .p4),
+      word-back (r .p5) (f .p5),
+      word-back (r .p6) (f .p6),
+    )
 
-byte0 : (p q r s : ℕ) → p < 256 → q < 256 → r < 256 → s < 256 → byteOf (p + 256 * q + 65536 * r + 16777216 * s) ≡ p
-byte0 p q r s hp hq hr hs = omega arith
+module _ (p q r s : ℕ) (hp : p < 256) (hq : q < 256) (hr : r < 256) (hs : s < 256) where
+  abbrev whole : ℕ
+  whole = p + 256 * q + 65536 * r + 16777216 * s
 
-byte1 : (p q r s : ℕ) → p < 256 → q < 256 → r < 256 → s < 256 → byteOf ((p + 256 * q + 65536 * r + 16777216 * s) / 256) ≡ q
-byte1 p q r s hp hq hr hs = omega arith
+  byte0 : byteOf whole ≡ p
+  byte0 = omega arith
 
-byte2 : (p q r s : ℕ) → p < 256 → q < 256 → r < 256 → s < 256 → byteOf ((p + 256 * q + 65536 * r + 16777216 * s) / 65536) ≡ r
-byte2 p q r s hp hq hr hs = omega arith
+  byte1 : byteOf (whole / 256) ≡ q
+  byte1 = omega arith
 
-byte3 : (p q r s : ℕ) → p < 256 → q < 256 → r < 256 → s < 256 → byteOf ((p + 256 * q + 65536 * r + 16777216 * s) / 16777216) ≡ s
-byte3 p q r s hp hq hr hs = omega arith
+  byte2 : byteOf (whole / 65536) ≡ r
+  byte2 = omega arith
+
+  byte3 : byteOf (whole / 16777216) ≡ s
+  byte3 = omega arith
+
+  four-bytes : wordBytes whole ≡ p ∷ q ∷ r ∷ s ∷ []
+  unfolding wordBytes
+  four-bytes = rw (byte0, byte1, byte2, byte3)
 
 word-bytes : (d : List ℕ) (i : ℕ) → Bytes d → wordBytes (wordAt d i) ≡ getD d i 0 ∷ getD d (i + 1) 0 ∷ getD d (i + 2) 0 ∷ getD d (i + 3) 0 ∷ []
-unfolding wordBytes tagBytes
-word-bytes d i h =
-    let p = getD d i 0 in
-    let q = getD d (i + 1) 0 in
-    let r = getD d (i + 2) 0 in
-    let s = getD d (i + 3) 0 in
-    rw (byte0 p q r s (h i) (h (i + 1)) (h (i + 2)) (h (i + 3)), byte1 p q r s (h i) (h (i + 1)) (h (i + 2)) (h (i + 3)), byte2 p q r s (h i) (h (i + 1)) (h (i + 2)) (h (i + 3)), byte3 p q r s (h i) (h (i + 1)) (h (i + 2)) (h (i + 3)))
+word-bytes d i h = four-bytes _ _ _ _ (h i) (h (i + 1)) (h (i + 2)) (h (i + 3))
 
 read-written : (d : List ℕ) → Bytes d → recordBytes (recordIn d 0) ≡ from d 0 32
 unfolding tagBytes
 read-written d h =
-    rw (byte-back (getD d 0 0) (h 0), byte-back (getD d 1 0) (h 1), byte-back (getD d 2 0) (h 2), byte-back (getD d 3 0) (h 3), word-bytes d 4 h, word-bytes d 8 h, word-bytes d 12 h, word-bytes d 16 h, word-bytes d 20 h, word-bytes d 24 h, word-bytes d 28 h)
+    rw (
+      byte-back (getD d 0 0) (h 0),
+      byte-back (getD d 1 0) (h 1),
+      byte-back (getD d 2 0) (h 2),
+      byte-back (getD d 3 0) (h 3),
+      word-bytes d 4 h,
+      word-bytes d 8 h,
+      word-bytes d 12 h,
+      word-bytes d 16 h,
+      word-bytes d 20 h,
+      word-bytes d 24 h,
+      word-bytes d 28 h,
+    )
 
 word-fits : (d : List ℕ) (i : ℕ) → Bytes d → wordAt d i < 2 ^ 32
 word-fits d i h = omega (arith, h i, h (i + 1), h (i + 2), h (i + 3))
@@ -172,7 +199,20 @@ fits-in b at h = record {
 }
 
 fits-blank : Fits blank
-fits-blank = record { class = omega arith; kind = omega arith; op = omega arith; zero = omega arith; stmt = omega arith; p1 = omega arith; p2 = omega arith; p3 = omega arith; p4 = omega arith; p5 = omega arith; p6 = omega arith }
+fits-blank =
+    record {
+      class = omega arith;
+      kind = omega arith;
+      op = omega arith;
+      zero = omega arith;
+      stmt = omega arith;
+      p1 = omega arith;
+      p2 = omega arith;
+      p3 = omega arith;
+      p4 = omega arith;
+      p5 = omega arith;
+      p6 = omega arith;
+    }
 
 pub fits-at : (b : List ℕ) (k : ℕ) → Bytes b → Fits (recordAt b k)
 fits-at b k h = go (order k (length b / 32))

@@ -1,5 +1,5 @@
 -- What a file that Read accepts is, for the steps of Tidy.
-use Prim.Native.Nat.{ℕ, _+_, _*_, _-_, _%_, _≤_, _<_}
+use Prim.Native.Nat.{ℕ, _-_, _%_, _≤_, _<_}
 use native.Mathlib.Omega.{arith}
 use mathlib.Core.Path.{_≡_, refl, sym, ap, subst, _∙_}
 use mathlib.Core.Bool.{Bool, true, false, _||_, not, cond}
@@ -12,13 +12,14 @@ use Rattle.format.specs.declared.Record.{Record}
 use Rattle.format.specs.Record.{recordsOf}
 use Rattle.format.proofs.Laws.{length-records}
 use Rattle.layout.specs.declared.Layout.{Layout}
-use Rattle.layout.specs.Classes.{ofClass, ordered, layoutOf}
-use Rattle.layout.proofs.Walks.{cases, walk-le}
+use Rattle.layout.specs.Classes.{ofClass, inOrder, ordered}
+use Rattle.general.proofs.Booleans.{cases}
+use Rattle.layout.proofs.Walks.{walk-le}
 use Rattle.read.specs.declared.Reading.{Reading}
 use Rattle.read.specs.Structure.{tiles, nextBlock, tiled, codeOf as recordsOfBlock}
 use Rattle.read.specs.Reading.{unless, answer, reading, readRecords, readBlocks, beyond, beyondLimit, wrongLength}
-use Rattle.read.specs.Parts.{part, InCode, LaidOut}
-use Rattle.read.proofs.Laid.{sizes, class-part, laid-of, end-is, in-tiles}
+use Rattle.read.specs.Work.{InCode, LaidOut}
+use Rattle.read.proofs.Laid.{sizes, class-part, in-tiles}
 use Rattle.codec.specs.Codec.{codeOf}
 use Rattle.procedure.specs.Procedure.{procedureOf}
 use Rattle.ends.specs.Ends.{endOf, targets}
@@ -44,7 +45,8 @@ module _ {rs : List Record} {l : Layout} (h : LaidOut rs l) where
 
   pub the-blocks : procedureOf rs .blocks ≡ blocksIn rs l
   unfolding procedureOf
-  the-blocks = sym (ap (λ (c : List Record). map (λ b. map codeOf (recordsOfBlock c b)) (blockRecords rs l)) code-is ∙ ap (map (λ b. map codeOf (recordsOfBlock (ofClass 4 rs) b))) blocks-are)
+  the-blocks = sym (ap (λ (c : List Record). map (λ b. map codeOf (recordsOfBlock c b)) (blockRecords rs l)) code-is
+      ∙ ap (map (λ b. map codeOf (recordsOfBlock (ofClass 4 rs) b))) blocks-are)
 
   pub the-operands : procedureOf rs .operands ≡ operandsIn rs l
   unfolding procedureOf
@@ -78,39 +80,51 @@ or-second false b e = e
 within : (a b c d e f : ℕ) → beyond a b c d e f ≡ false → (a ≤ 756) × (b ≤ 160)
 within a b c d e f h = (ltb-false 756 a (or-first (ltb 756 a) _ h), ltb-false 160 b (or-first (ltb 160 b) _ (or-second (ltb 756 a) _ h)))
 
-pub accepted : (b : List ℕ) (l : Layout) → reading b .number ≡ 0 → l ≡ layoutOf (recordsOf b) → LaidOut (recordsOf b) l × Fit (recordsOf b) l
-unfolding reading readRecords readBlocks
-accepted b l e i =
-    let rs = recordsOf b in
-    let one = held (wrongLength b) 1 0 (readRecords rs) (omega arith) e in
-    let short = ltb-false 65536 (length b) (or-second (not (eqb (length b % 32) 0)) _ (one .0)) in
-    let two = passed 2 0 (ordered rs) (length rs) (cond (beyondLimit rs) (answer 3 0) (readBlocks rs)) (omega arith) (one .1) in
-    let three = held (beyondLimit rs) 3 0 (readBlocks rs) (omega arith) (two .1) in
-    let h : LaidOut rs l = laid-of rs i (let f = end-is rs i in let g = two .0 in omega arith) in
-    (h, fits b l short (two .0) three h)
-  where
-    fits : (b : List ℕ) (l : Layout) → length b ≤ 65536 → length (recordsOf b) ≤ ordered (recordsOf b) → (beyondLimit (recordsOf b) ≡ false) × (readBlocks (recordsOf b) .number ≡ 0) → LaidOut (recordsOf b) l → Fit (recordsOf b) l
-    fits b l short all three h =
-        let rs = recordsOf b in
-        let z = sizes h in
-        let n = length-records b in
-        let w = within (length (ofClass 1 rs)) (length (ofClass 2 rs)) (length (ofClass 3 rs)) (length (ofClass 4 rs)) (length (ofClass 5 rs)) (length (ofClass 6 rs)) (three .0) in
-        let c : l .operands - l .code ≡ length (ofClass 4 rs) = omega arith in
-        let four = passed 4 _ (tiled (length (ofClass 4 rs)) (ofClass 2 rs)) (length (ofClass 2 rs)) _ (omega arith) (three .1) in
-        let m = walk-le (tiles (length (ofClass 4 rs))) nextBlock (0, length (ofClass 2 rs)) (ofClass 2 rs) in
-        record {
-          few = omega arith;
-          registers = omega arith;
-          blocks = omega arith;
-          bodies = omega arith;
-          code = omega arith;
-          operands = omega arith;
-          arms = omega arith;
-          inCode = subst (λ (k : ℕ). InCode k (blockRecords rs l)) (sym c) (subst (InCode (length (ofClass 4 rs))) (sym (blocks-are h)) (in-tiles (length (ofClass 4 rs)) (0, length (ofClass 2 rs)) (ofClass 2 rs) (let f = four .0 in omega arith)));
-        }
+-- a file that Read accepts is in order
+module _ (b : List ℕ) (e : reading b .number ≡ 0) where
+  abbrev rs : List Record
+  rs = recordsOf b
+
+  length-right : (wrongLength b ≡ false) × (readRecords rs .number ≡ 0)
+  unfolding reading
+  length-right = held (wrongLength b) 1 0 (readRecords rs) (omega arith) e
+
+  all-ordered : (length rs ≤ ordered rs) × (cond (beyondLimit rs) (answer 3 0) (readBlocks rs) .number ≡ 0)
+  unfolding readRecords
+  all-ordered = passed 2 0 (ordered rs) (length rs) (cond (beyondLimit rs) (answer 3 0) (readBlocks rs)) (omega arith) (length-right .1)
+
+  pub in-order : ordered rs ≡ length rs
+  in-order = let m = walk-le inOrder (λ prev r. r .class) 1 rs in let i = all-ordered .0 in omega arith
+
+  within-limits : (beyondLimit rs ≡ false) × (readBlocks rs .number ≡ 0)
+  within-limits = held (beyondLimit rs) 3 0 (readBlocks rs) (omega arith) (all-ordered .1)
+
+  pub accepted : {l : Layout} → LaidOut rs l → Fit rs l
+  unfolding readBlocks
+  accepted {l} h =
+      let z = sizes h in
+      let n = length-records b in
+      let short = ltb-false 65536 (length b) (or-second (not (eqb (length b % 32) 0)) _ (length-right .0)) in
+      let of : ℕ → ℕ = λ k. length (ofClass k rs) in
+      let w = within (of 1) (of 2) (of 3) (of 4) (of 5) (of 6) (within-limits .0) in
+      let c : l .operands - l .code ≡ length (ofClass 4 rs) = omega arith in
+      let four = passed 4 _ (tiled (length (ofClass 4 rs)) (ofClass 2 rs)) (length (ofClass 2 rs)) _ (omega arith) (within-limits .1) in
+      let m = walk-le (tiles (length (ofClass 4 rs))) nextBlock (0, length (ofClass 2 rs)) (ofClass 2 rs) in
+      let all = in-tiles (length (ofClass 4 rs)) (0, length (ofClass 2 rs)) (ofClass 2 rs) (let f = four .0 in omega arith) in
+      record {
+        few = omega arith;
+        registers = omega arith;
+        blocks = omega arith;
+        bodies = omega arith;
+        code = omega arith;
+        operands = omega arith;
+        arms = omega arith;
+        inCode = subst (λ (k : ℕ). InCode k (blockRecords rs l)) (sym c) (subst (InCode (of 4)) (sym (blocks-are h)) all);
+      }
 
 -- the steps over a file that fits
-module _ {rs : List Record} {l : Layout} (h : LaidOut rs l) (f : Fit rs l) (n : ℕ) (size : n ≡ 756) (ts : List ℕ) {ws : List ℕ} (e : ws ≡ noted (replicate n 0) (written (placedFrom 0 (blocksIn rs l)))) (t : TargetsIn rs l ts) where
+module _ {rs : List Record} {l : Layout} (h : LaidOut rs l) (f : Fit rs l) (n : ℕ) (size : n ≡ 756) (ts : List ℕ) {ws : List ℕ}
+    (e : ws ≡ noted (replicate n 0) (written (placedFrom 0 (blocksIn rs l)))) (t : TargetsIn rs l ts) where
   few-blocks : length (procedureOf rs .blocks) ≤ 160
   few-blocks = let i = ap length (the-blocks h) ∙ length-map (blockRecords rs l) (blockCode rs l) ∙ blocks-length f in omega arith
 
@@ -132,7 +146,8 @@ module _ {rs : List Record} {l : Layout} (h : LaidOut rs l) (f : Fit rs l) (n : 
   unfolding endOf
   edges-are a i =
       subst (λ (es : List ℕ). PairAt es ts a)
-      (sym (ap (λ (bs : List (List Code)). getD (map (λ c. targets (endOf c)) bs) a []) (the-blocks h) ∙ List·getD-map (λ (c : List Code). targets (endOf c)) (blocksIn rs l) a []))
+      (sym (ap (λ (bs : List (List Code)). getD (map (λ c. targets (endOf c)) bs) a []) (the-blocks h)
+      ∙ List·getD-map (λ (c : List Code). targets (endOf c)) (blocksIn rs l) a []))
       (t .each a i)
 
   pub judge-is : {s : Tidiness} → s ≡ judgedIn ts ws l (told 0 0 1 0) (readsIn rs l (placedFrom 0 (blocksIn rs l))) → s ≡ verdict (offenders (procedureOf rs))
@@ -143,15 +158,18 @@ module _ {rs : List Record} {l : Layout} (h : LaidOut rs l) (f : Fit rs l) (n : 
       in
       i
       ∙ ap (λ (m : ℕ). judgedAll (edgesIn ts) m ws (told 0 0 1 0) (readsIn rs l (placedFrom 0 (blocksIn rs l)))) (sym (the-registers h))
-      ∙ ap (λ (ops : List ℕ). judgedAll (edgesIn ts) (length (p .registers)) ws (told 0 0 1 0) (reads ops (placedFrom 0 (blocksIn rs l)))) (sym (the-operands h))
-      ∙ ap (λ (bs : List (List Code)). judgedAll (edgesIn ts) (length (p .registers)) ws (told 0 0 1 0) (reads (p .operands) (placedFrom 0 bs))) (sym (the-blocks h))
+      ∙ ap (λ (ops : List ℕ). judgedAll (edgesIn ts) (length (p .registers)) ws (told 0 0 1 0) (reads ops (placedFrom 0 (blocksIn rs l))))
+      (sym (the-operands h))
+      ∙ ap (λ (bs : List (List Code)). judgedAll (edgesIn ts) (length (p .registers)) ws (told 0 0 1 0) (reads (p .operands) (placedFrom 0 bs)))
+      (sym (the-blocks h))
       ∙ answer-is p (edgesIn ts) ws few-blocks same table-is
 
 -- the answer by Read's number
 module _ (b : List ℕ) {r : Reading} (e : r ≡ reading b) where
   pub refused-is : (r .number ≡ 0 → ⊥) → told (r .number) (r .place) 0 0 ≡ tidiness b
   unfolding tidiness
-  refused-is h = ap (λ (x : Reading). told (x .number) (x .place) 0 0) e ∙ sym (rw (ne-eqb (reading b .number) 0 (λ i. h (ap (λ (x : Reading). x .number) e ∙ i))))
+  refused-is h = ap (λ (x : Reading). told (x .number) (x .place) 0 0) e
+      ∙ sym (rw (ne-eqb (reading b .number) 0 (λ i. h (ap (λ (x : Reading). x .number) e ∙ i))))
 
   pub number-is : r .number ≡ 0 → reading b .number ≡ 0
   number-is h = ap (λ (x : Reading). x .number) (sym e) ∙ h

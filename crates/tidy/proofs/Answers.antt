@@ -2,14 +2,14 @@
 use Prim.Native.Nat.{ℕ, suc, _+_, _*_, _-_, _/_, _%_, _≤_, _<_, min}
 use native.Mathlib.Omega.{arith}
 use mathlib.Core.Path.{_≡_, refl, sym, ap, subst, _∙_}
-use mathlib.Core.Bool.{Bool, true, false, _&&_, _||_, not, cond}
+use mathlib.Core.Bool.{Bool, true, false, _&&_, cond}
 use mathlib.Core.List.{List, [], _∷_, _++_, cons≢nil}
 use mathlib.Core.Logic.{_⊎_, inl, inr, ⊎-elim, _↔_}
 use borrow.Author.Tests.{le-ltb, ne-eqb, eqb-true, eqb-false, ltb-true}
 use lib.Dec.{eqb, ltb}
 use lib.ListN.{length, getD, length-map}
 use lib.Seq.{getD-set-same, getD-set-other}
-use Rattle.layout.proofs.Walks.{cases}
+use Rattle.general.proofs.Booleans.{cases}
 use Rattle.inst.specs.Inst.{kindOf}
 use Rattle.inst.specs.declared.Code.{Code}
 use Rattle.procedure.specs.Procedure.{Procedure}
@@ -56,7 +56,9 @@ unfolding writers
 writers-append r [] gs = refl
 writers-append r (f ∷ fs) gs = by (eqb (f .reg) r) (writers-append r fs gs)
   where
-    by : (t : Bool) → writers r (fs ++ gs) ≡ writers r fs ++ writers r gs → cond t (f .at ∷ writers r (fs ++ gs)) (writers r (fs ++ gs)) ≡ cond t (f .at ∷ writers r fs) (writers r fs) ++ writers r gs
+    by :
+        (t : Bool) → writers r (fs ++ gs) ≡ writers r fs ++ writers r gs
+        → cond t (f .at ∷ writers r (fs ++ gs)) (writers r (fs ++ gs)) ≡ cond t (f .at ∷ writers r fs) (writers r fs) ++ writers r gs
     by true e = ap (λ (l : List Placed). f .at ∷ l) e
     by false e = e
 
@@ -97,7 +99,10 @@ tally-at (f ∷ fs) ws r h = by (tally-at fs (note ws (f .reg) (pack (f .at))) r
     there : (f .reg ≡ r → ⊥) → getD (note ws (f .reg) (pack (f .at))) r 0 ≡ getD ws r 0
     there e = getD-set-other ws (f .reg) r (cond (eqb (getD ws (f .reg) 0) 0) (pack (f .at)) 1) 0 (λ i. e (sym i))
 
-    by : getD (noted (note ws (f .reg) (pack (f .at))) fs) r 0 ≡ tally (getD (note ws (f .reg) (pack (f .at))) r 0) (writers r fs) → (eqb (f .reg) r ≡ true) ⊎ (eqb (f .reg) r ≡ false) → getD (noted (note ws (f .reg) (pack (f .at))) fs) r 0 ≡ tally (getD ws r 0) (writers r (f ∷ fs))
+    by :
+        getD (noted (note ws (f .reg) (pack (f .at))) fs) r 0 ≡ tally (getD (note ws (f .reg) (pack (f .at))) r 0) (writers r fs)
+        → (eqb (f .reg) r ≡ true) ⊎ (eqb (f .reg) r ≡ false)
+        → getD (noted (note ws (f .reg) (pack (f .at))) fs) r 0 ≡ tally (getD ws r 0) (writers r (f ∷ fs))
     by e (inl t) = e ∙ ap (λ (n : ℕ). tally n (writers r fs)) (here (eqb-true (f .reg) r t)) ∙ sym (rw t)
     by e (inr t) = e ∙ ap (λ (n : ℕ). tally n (writers r fs)) (there (eqb-false (f .reg) r t)) ∙ sym (rw t)
 
@@ -107,7 +112,8 @@ tally-many [] = refl
 tally-many (w ∷ ws) = tally-many ws
 
 -- one writer, judged as the definition does, by a lead that is the same at its block
-module _ (es : List (List ℕ)) (lead : ℕ → ℕ → Bool) (n : ℕ) (few : n ≤ 160) (b k : ℕ) (same : (t : ℕ) → t < n → getD (reachedFrom es b) t false ≡ lead b t) where
+module _ (es : List (List ℕ)) (lead : ℕ → ℕ → Bool) (n : ℕ) (few : n ≤ 160) (b k : ℕ)
+    (same : (t : ℕ) → t < n → getD (reachedFrom es b) t false ≡ lead b t) where
   judged-pack : (w : Placed) → w .block < n → judged es (pack w) b k ≡ wrong lead (kindOf (w .inst)) (w .block) (w .place) b k
   unfolding judged
   judged-pack w h =
@@ -144,7 +150,9 @@ module _
         there : Bool
         there = ltb (f .reg) (length (p .registers))
 
-        is : there ≡ true → (there && judged es (getD ws (f .reg) 0) (f .at .block) (f .at .place)) ≡ (there && onlyOne (λ w. wrongFor (leads p) w (f .at)) ones)
+        is :
+            there ≡ true
+            → (there && judged es (getD ws (f .reg) 0) (f .at .block) (f .at .place)) ≡ (there && onlyOne (λ w. wrongFor (leads p) w (f .at)) ones)
         is e =
             ap (λ (b : Bool). there && b)
             (ap (λ (n : ℕ). judged es n (f .at .block) (f .at .place)) (table (f .reg) (ltb-true (f .reg) (length (p .registers)) e))
@@ -156,7 +164,12 @@ module _
     judged-regs [] s = refl
     judged-regs (f ∷ fs) s = by (offends p f) (offence-is f) (judged-regs fs)
       where
-        by : (b : Bool) → offence es (length (p .registers)) ws (f .reg) (f .at .block) (f .at .place) ≡ b → ((t : Tidiness) → judgedAll es (length (p .registers)) ws t fs ≡ lowered t (regsOf (offends p) fs)) → judgedAll es (length (p .registers)) ws (cond (offence es (length (p .registers)) ws (f .reg) (f .at .block) (f .at .place)) (lower s (f .reg)) s) fs ≡ lowered s (cond b (f .reg ∷ regsOf (offends p) fs) (regsOf (offends p) fs))
+        by :
+            (b : Bool) → offence es (length (p .registers)) ws (f .reg) (f .at .block) (f .at .place) ≡ b
+            → ((t : Tidiness) → judgedAll es (length (p .registers)) ws t fs ≡ lowered t (regsOf (offends p) fs))
+            → judgedAll es (length (p .registers)) ws
+            (cond (offence es (length (p .registers)) ws (f .reg) (f .at .block) (f .at .place)) (lower s (f .reg)) s) fs
+            ≡ lowered s (cond b (f .reg ∷ regsOf (offends p) fs) (regsOf (offends p) fs))
         by true e more = ap (λ (b : Bool). judgedAll es (length (p .registers)) ws (cond b (lower s (f .reg)) s) fs) e ∙ more (lower s (f .reg))
         by false e more = ap (λ (b : Bool). judgedAll es (length (p .registers)) ws (cond b (lower s (f .reg)) s) fs) e ∙ more s
 

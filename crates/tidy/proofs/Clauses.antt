@@ -18,7 +18,14 @@ use Rattle.tidy.specs.Tidy.{placedIn, placedFrom, written, reads, writer
 
 -- a procedure of ten registers, with the operand 5
 blocks : List (List Inst) → Procedure
-blocks bs = record { registers = replicate 10 0; blocks = map (map (λ x. record { inst = x; stmt = record { 0 = 0 } })) bs; body = none; operands = 5 ∷ []; tables = [] }
+blocks bs = record {
+  registers = replicate 10 0;
+  blocks = map
+      (map (λ x. record { inst = x; stmt = record { 0 = 0 } })) bs;
+  body = none;
+  operands = 5 ∷ [];
+  tables = [];
+}
 
 move : ℕ → ℕ → Inst
 move d a = i.Move (regOf d) (regOf a)

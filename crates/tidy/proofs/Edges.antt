@@ -5,11 +5,12 @@ use mathlib.Core.Path.{_≡_, refl, sym, ap, subst, _∙_}
 use mathlib.Core.Bool.{Bool, true, false, cond}
 use mathlib.Core.List.{List, [], _∷_, _++_}
 use mathlib.Core.Logic.{_⊎_, inl, inr, ⊎-elim}
-use borrow.Author.Tests.{ltb-true, ltb-false, lt-ltb, le-ltb}
+use borrow.Author.Tests.{ltb-true, lt-ltb}
 use lib.Dec.{ltb}
-use lib.ListN.{length, getD, List·getD-eq-default}
-use Rattle.paths.specs.Paths.{isIn, Path, Leads, reachedFrom}
-use Rattle.paths.proofs.Paths.{cases, false-true, in-cons, in-here, in-left, in-right, in-append, leads-inside, reached-is}
+use lib.ListN.{length, getD}
+use Rattle.paths.specs.Paths.{isIn, Path, reachedFrom}
+use Rattle.general.proofs.Booleans.{cases}
+use Rattle.paths.proofs.Paths.{in-cons, in-here, in-left, in-right, in-append, leads-inside, reached-is}
 use Rattle.tidy.specs.Work.Marks.{edge, edgesIn, Pair, PairAt}
 
 pub edges-length : (n : ℕ) (ts : List ℕ) → length ts ≡ 2 * n → length (edgesIn ts) ≡ n
@@ -35,7 +36,11 @@ pub in-edge : (x s : ℕ) → isIn s (edge x) ≡ true → (x ≡ s) × (x < 160
 in-edge x s e = by (cases (ltb x 160))
   where
     by : (ltb x 160 ≡ true) ⊎ (ltb x 160 ≡ false) → (x ≡ s) × (x < 160)
-    by (inl i) = (⊎-elim (λ (j : x ≡ s). j) (λ (j : isIn s [] ≡ true). absurd (mathlib.Core.Bool.false≢true j)) (in-cons s x [] (sym (ap (λ (b : Bool). isIn s (cond b (x ∷ []) [])) i) ∙ e)), ltb-true x 160 i)
+    by (inl i) = (
+      ⊎-elim (λ (j : x ≡ s). j) (λ (j : isIn s [] ≡ true). absurd (mathlib.Core.Bool.false≢true j))
+          (in-cons s x [] (sym (ap (λ (b : Bool). isIn s (cond b (x ∷ []) [])) i) ∙ e)),
+      ltb-true x 160 i,
+    )
     by (inr i) = absurd (mathlib.Core.Bool.false≢true (sym (ap (λ (b : Bool). isIn s (cond b (x ∷ []) [])) i) ∙ e))
 
 pub edge-in : (x : ℕ) → x < 160 → isIn x (edge x) ≡ true
@@ -43,7 +48,8 @@ edge-in x h = rw (lt-ltb x 160 h) (in-here x [])
 
 -- the table has the targets below 160 of a block, and no others
 pair-in : (es : List ℕ) (x y s : ℕ) → Pair es x y → isIn s (edge x ++ edge y) ≡ true → isIn s es ≡ true
-pair-in es x y s p e = ⊎-elim (λ (i : isIn s (edge x) ≡ true). one es p (in-edge x s i)) (λ (i : isIn s (edge y) ≡ true). two es p (in-edge y s i)) (in-append s (edge x) (edge y) e)
+pair-in es x y s p e = ⊎-elim (λ (i : isIn s (edge x) ≡ true). one es p (in-edge x s i)) (λ (i : isIn s (edge y) ≡ true). two es p (in-edge y s i))
+    (in-append s (edge x) (edge y) e)
   where
     one : (es : List ℕ) → Pair es x y → (x ≡ s) × (x < 160) → isIn s es ≡ true
     one [] q i = absurd (let j = q .0 in let k = i .1 in omega arith)
@@ -59,8 +65,10 @@ pair-in es x y s p e = ⊎-elim (λ (i : isIn s (edge x) ≡ true). one es p (in
 
 in-pair : (es : List ℕ) (x y s : ℕ) → Pair es x y → s < 160 → isIn s es ≡ true → isIn s (edge x ++ edge y) ≡ true
 in-pair [] x y s p h e = absurd (mathlib.Core.Bool.false≢true e)
-in-pair (t ∷ []) x y s p h e = ⊎-elim (λ (i : t ≡ s). let j : x ≡ s = p .0 ∙ i in rw j (in-left s (edge s) (edge y) (edge-in s h))) (λ (i : isIn s [] ≡ true). absurd (mathlib.Core.Bool.false≢true i)) (in-cons s t [] e)
-in-pair (t ∷ f ∷ []) x y s p h e = ⊎-elim (λ (i : t ≡ s). let j : x ≡ s = p .0 ∙ i in rw j (in-left s (edge s) (edge y) (edge-in s h))) (λ (i : isIn s (f ∷ []) ≡ true). last (in-cons s f [] i)) (in-cons s t (f ∷ []) e)
+in-pair (t ∷ []) x y s p h e = ⊎-elim (λ (i : t ≡ s). let j : x ≡ s = p .0 ∙ i in rw j (in-left s (edge s) (edge y) (edge-in s h)))
+    (λ (i : isIn s [] ≡ true). absurd (mathlib.Core.Bool.false≢true i)) (in-cons s t [] e)
+in-pair (t ∷ f ∷ []) x y s p h e = ⊎-elim (λ (i : t ≡ s). let j : x ≡ s = p .0 ∙ i in rw j (in-left s (edge s) (edge y) (edge-in s h)))
+    (λ (i : isIn s (f ∷ []) ≡ true). last (in-cons s f [] i)) (in-cons s t (f ∷ []) e)
   where
     last : (f ≡ s) ⊎ (isIn s [] ≡ true) → isIn s (edge x ++ edge y) ≡ true
     last (inl i) = let j : y ≡ s = p .1 ∙ i in rw j (in-right s (edge x) (edge s) (edge-in s h))
@@ -72,7 +80,8 @@ module _ (es : List (List ℕ)) (ts : List ℕ) (size : length ts ≡ 320) (few 
   there : (b : ℕ) → b < length es → (ss : List ℕ) (a : ℕ) → Path (edgesIn ts) b a ss → Path es b a ss
   there b h [] a p = p
   there b h (s ∷ ss) a p = (
-    pair-in (getD es a []) (getD ts (2 * a) 0) (getD ts (2 * a + 1) 0) s (each a low) (subst (λ (l : List ℕ). isIn s l ≡ true) (edges-at a ts (omega (arith, low))) (p .0)),
+    pair-in (getD es a []) (getD ts (2 * a) 0) (getD ts (2 * a + 1) 0) s (each a low)
+        (subst (λ (l : List ℕ). isIn s l ≡ true) (edges-at a ts (omega (arith, low))) (p .0)),
     there b h ss s (p .1),
   )
     where
@@ -84,7 +93,8 @@ module _ (es : List (List ℕ)) (ts : List ℕ) (size : length ts ≡ 320) (few 
   back b h (s ∷ ss) a p =
       let i = leads-inside es b h (s ∷ ss) a p in
       let j = leads-inside es b h ss s (p .1) in (
-        subst (λ (l : List ℕ). isIn s l ≡ true) (sym (edges-at a ts (omega arith))) (in-pair (getD es a []) (getD ts (2 * a) 0) (getD ts (2 * a + 1) 0) s (each a (omega arith)) (omega arith) (p .0)),
+        subst (λ (l : List ℕ). isIn s l ≡ true) (sym (edges-at a ts (omega arith)))
+            (in-pair (getD es a []) (getD ts (2 * a) 0) (getD ts (2 * a + 1) 0) s (each a (omega arith)) (omega arith) (p .0)),
         back b h ss s (p .1),
       )
 

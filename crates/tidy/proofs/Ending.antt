@@ -1,9 +1,9 @@
 -- Laws of the targets noted block by block.
-use Prim.Native.Nat.{ℕ, zero, suc, _+_, _*_, _-_, _≤_, _<_}
+use Prim.Native.Nat.{ℕ, _+_, _*_, _-_, _≤_, _<_}
 use native.Mathlib.Omega.{arith}
-use mathlib.Core.Path.{_≡_, refl, sym, ap, subst, _∙_}
+use mathlib.Core.Path.{_≡_, sym, ap, subst, _∙_}
 use mathlib.Core.Bool.{true, false}
-use mathlib.Core.List.{List, [], _∷_, map}
+use mathlib.Core.List.{List, [], map}
 use mathlib.Core.Logic.{⊎-elim}
 use borrow.Author.Tests.{eqb-true, eqb-false, ltb-true, ltb-false}
 use lib.Dec.{eqb, ltb}
@@ -12,21 +12,17 @@ use lib.Seq.{getD-set-same, getD-set-other}
 use Rattle.format.specs.declared.Record.{Record}
 use Rattle.format.specs.Record.{blank}
 use Rattle.layout.specs.declared.Layout.{Layout}
-use Rattle.layout.proofs.Walks.{cases}
-use Rattle.read.specs.Parts.{part}
+use Rattle.general.proofs.Booleans.{cases}
+use Rattle.general.proofs.Lists.{getD-any}
+use Rattle.read.specs.Work.{part}
 use Rattle.read.proofs.Laws.{part-length, part-at}
 use Rattle.inst.specs.declared.Code.{Code}
 use Rattle.codec.specs.Codec.{codeOf}
-use Rattle.ends.specs.Ends.{codeAt, viewOf, endOf, targets}
+use Rattle.ends.specs.Ends.{viewOf, endOf, targets}
 use Rattle.ends.proofs.Laws.{end-last}
 use Rattle.tidy.specs.Work.Parts.{blockRecords, blockCode, blocksIn, Fit}
 use Rattle.tidy.specs.Work.Marks.{Pair, PairAt, targetsAt, TargetsIn}
 use Rattle.tidy.proofs.Tables.{blocks-length, block-in, block-code}
-
-getD-any : {A : Type 0} (l : List A) (k : ℕ) (d e : A) → k < length l → getD l k d ≡ getD l k e
-getD-any [] k d e h = absurd (omega arith)
-getD-any (x ∷ l) zero d e h = refl
-getD-any (x ∷ l) (suc k) d e h = getD-any l k d e (omega arith)
 
 -- the end of a block is that of its last record
 module _ {rs : List Record} {l : Layout} (h : Fit rs l) (k : ℕ) {r : Record} (i : k < l .bodies - l .blocks) (e : r ≡ getD rs (l .blocks + k) blank) where
@@ -113,7 +109,11 @@ module _ (rs : List Record) (l : Layout) where
 
   pub all-noted : Fit rs l → (k : ℕ) (ts : List ℕ) → length ts ≡ 320 → l .bodies - l .blocks ≤ k → Noted k ts → TargetsIn rs l ts
   unfolding endOf
-  all-noted h k ts s i n = record { size = s; each = λ a j. ⊎-elim (λ (e : ltb a k ≡ true). n a j .0 (ltb-true a k e)) (λ (e : ltb a k ≡ false). past a j (ltb-false a k e)) (cases (ltb a k)) }
+  all-noted h k ts s i n = record {
+    size = s;
+    each = λ a j. ⊎-elim (λ (e : ltb a k ≡ true). n a j .0 (ltb-true a k e))
+        (λ (e : ltb a k ≡ false). past a j (ltb-false a k e)) (cases (ltb a k));
+  }
     where
       none-there : (a : ℕ) → k ≤ a → targetsAt rs l a ≡ []
       none-there a e =

@@ -53,7 +53,8 @@ pub five-of : (x : Inst) {r : Roles} → r ≡ rolesOf x → Five r
 five-of x e = rw e (five x)
 
 -- what an instruction writes
-pub inst-noted : (ws : List ℕ) (b k : ℕ) {y : Inst} (x : Inst) {r : Roles} {n : ℕ} → x ≡ y → r ≡ rolesOf x → n ≡ kindOf x → notes ws (packed n b k) (take (r .defs) (numbersOf (r .reg))) ≡ noted ws (fieldsAt (record { block = b; place = k; inst = y }) (defsOf y))
+pub inst-noted : (ws : List ℕ) (b k : ℕ) {y : Inst} (x : Inst) {r : Roles} {n : ℕ} → x ≡ y → r ≡ rolesOf x → n ≡ kindOf x
+    → notes ws (packed n b k) (take (r .defs) (numbersOf (r .reg))) ≡ noted ws (fieldsAt (record { block = b; place = k; inst = y }) (defsOf y))
 inst-noted ws b k {y} x e f g = rw (g, f, defs-first x, e) (notes-noted ws (record { block = b; place = k; inst = y }) (defsOf y))
 
 -- what it reads

@@ -8,14 +8,15 @@ use mathlib.Core.Logic.{⊎-elim}
 use borrow.Author.Tests.{lt-ltb, le-ltb, le-leb, lt-leb, eq-eqb, ne-eqb, ltb-true, ltb-false}
 use lib.Dec.{ltb, leb}
 use lib.ListN.{getD}
-use Rattle.layout.proofs.Walks.{cases}
+use Rattle.general.proofs.Booleans.{cases}
 use Rattle.paths.specs.Paths.{reachedFrom}
 use Rattle.tidy.specs.declared.Tidiness.{Tidiness}
 use Rattle.tidy.specs.Tidy.{told}
 use Rattle.tidy.specs.Work.Reads.{judged, lower}
 
 not-later : (y k : ℕ) → leb k y ≡ not (ltb y k)
-not-later y k = ⊎-elim (λ (e : ltb y k ≡ true). rw e (lt-leb k y (ltb-true y k e))) (λ (e : ltb y k ≡ false). rw e (le-leb k y (ltb-false y k e))) (cases (ltb y k))
+not-later y k = ⊎-elim (λ (e : ltb y k ≡ true). rw e (lt-leb k y (ltb-true y k e))) (λ (e : ltb y k ≡ false). rw e (le-leb k y (ltb-false y k e)))
+    (cases (ltb y k))
 
 -- the answers, in their order
 module _ (es : List (List ℕ)) (v b k : ℕ) where
@@ -33,7 +34,8 @@ module _ (es : List (List ℕ)) (v b k : ℕ) where
 
   pub judged-here : 2 ≤ v → 1 < (v - 2) % 32 → ((v - 2) % 32 ≡ 3 → ⊥) → b ≡ (v - 2) / 32 % 256 → leb k ((v - 2) / 32 / 256) ≡ judged es v b k
   unfolding judged
-  judged-here h i j e = sym (rw (le-ltb v 2 h, lt-leb ((v - 2) % 32) 1 i, ne-eqb ((v - 2) % 32) 3 j, eq-eqb b ((v - 2) / 32 % 256) e) (sym (not-later ((v - 2) / 32 / 256) k)))
+  judged-here h i j e = sym
+      (rw (le-ltb v 2 h, lt-leb ((v - 2) % 32) 1 i, ne-eqb ((v - 2) % 32) 3 j, eq-eqb b ((v - 2) / 32 % 256) e) (sym (not-later ((v - 2) / 32 / 256) k)))
 
   pub judged-early : 2 ≤ v → (v - 2) % 32 ≡ 3 → b ≡ (v - 2) / 32 % 256 → ltb k ((v - 2) / 32 / 256) ≡ judged es v b k
   unfolding judged

@@ -8,3 +8,4 @@ pub mod Verdicts
 pub mod Answers
 pub mod Accepted
 pub mod Clauses
+pub mod Starts

@@ -45,12 +45,14 @@ module _ {m : List Bool} {l : List ℕ} {n x : ℕ} {m′ : List Bool} {l′ : L
   entered-sized (inr e) = record {
     marks = ap length (e .2) ∙ length-set m x true ∙ z .marks;
     slots = e .4;
-    room = let i = unmarked-set m x (let j = z .marks in let k = e .0 in omega arith) (e .1) in let j = ap unmarked (e .2) in let k = z .room in let q = e .5 in omega arith;
+    room = let i = unmarked-set m x (let j = z .marks in let k = e .0 in omega arith) (e .1) in let j = ap unmarked
+        (e .2) in let k = z .room in let q = e .5 in omega arith;
   }
 
   pub entered-less : Entered m l n x m′ l′ n′ → n′ + 2 * unmarked m′ ≤ n + 2 * unmarked m
   entered-less (inl e) = rw (e .1, e .3) (omega arith)
-  entered-less (inr e) = let i = unmarked-set m x (let j = z .marks in let k = e .0 in omega arith) (e .1) in let j = ap unmarked (e .2) in let q = e .5 in omega arith
+  entered-less (inr e) = let i = unmarked-set m x (let j = z .marks in let k = e .0 in omega arith) (e .1) in let j = ap unmarked
+      (e .2) in let q = e .5 in omega arith
 
 -- on the way from block a, at block b: what is marked is led to, and each target of a marked block is marked, or that block
 -- is on the list, or it is b and its target is still to be entered
@@ -80,16 +82,20 @@ module _ (es : List (List ℕ)) (a : ℕ) where
         still : (y s : ℕ) → Ready b (edge x ++ rest) m todo y s → Ready b rest m todo y s
         still y s (inl e) = inl e
         still y s (inr (inl e)) = inr (inl e)
-        still y s (inr (inr e)) = ⊎-elim (λ (i : isIn s (edge x) ≡ true). let j = in-edge x s i in inl (rw (← j .0) (h (j .1)))) (λ (i : isIn s rest ≡ true). inr (inr (e .0, i))) (in-append s (edge x) rest (e .1))
+        still y s (inr (inr e)) = ⊎-elim (λ (i : isIn s (edge x) ≡ true). let j = in-edge x s i in inl (rw (← j .0) (h (j .1))))
+            (λ (i : isIn s rest ≡ true). inr (inr (e .0, i))) (in-append s (edge x) rest (e .1))
 
     mark : x < 160 → x < length m → Walk b rest (set m x true) (todo ++ (x ∷ []))
     mark low h = record {
       size = length-set m x true ∙ w .size;
       start = set-keeps m x a (w .start);
-      sound = λ y e. ⊎-elim (λ (i : y ≡ x). rw i (w .from x (in-left x (edge x) rest (edge-in x low)))) (λ (i : getD m y false ≡ true). w .sound y i) (set-marked m x y e);
-      listed = λ s e. ⊎-elim (λ (i : isIn s todo ≡ true). set-keeps m x s (w .listed s i)) (λ (i : isIn s (x ∷ []) ≡ true). one s (in-cons s x [] i)) (in-append s todo (x ∷ []) e);
+      sound = λ y e. ⊎-elim (λ (i : y ≡ x). rw i (w .from x (in-left x (edge x) rest (edge-in x low)))) (λ (i : getD m y false ≡ true). w .sound y i)
+          (set-marked m x y e);
+      listed = λ s e. ⊎-elim (λ (i : isIn s todo ≡ true). set-keeps m x s (w .listed s i)) (λ (i : isIn s (x ∷ []) ≡ true). one s (in-cons s x [] i))
+          (in-append s todo (x ∷ []) e);
       from = λ s i. w .from s (in-right s (edge x) rest i);
-      ready = λ y s e i k. ⊎-elim (λ (j : y ≡ x). inr (inl (rw j (in-right x todo (x ∷ []) (in-here x []))))) (λ (j : getD m y false ≡ true). still y s (w .ready y s j i k)) (set-marked m x y e);
+      ready = λ y s e i k. ⊎-elim (λ (j : y ≡ x). inr (inl (rw j (in-right x todo (x ∷ []) (in-here x [])))))
+          (λ (j : getD m y false ≡ true). still y s (w .ready y s j i k)) (set-marked m x y e);
     }
       where
         here : getD (set m x true) x false ≡ true
@@ -102,9 +108,12 @@ module _ (es : List (List ℕ)) (a : ℕ) where
         still : (y s : ℕ) → Ready b (edge x ++ rest) m todo y s → Ready b rest (set m x true) (todo ++ (x ∷ [])) y s
         still y s (inl e) = inl (set-keeps m x s e)
         still y s (inr (inl e)) = inr (inl (in-left y todo (x ∷ []) e))
-        still y s (inr (inr e)) = ⊎-elim (λ (i : isIn s (edge x) ≡ true). inl (rw (← in-edge x s i .0) here)) (λ (i : isIn s rest ≡ true). inr (inr (e .0, i))) (in-append s (edge x) rest (e .1))
+        still y s (inr (inr e)) = ⊎-elim (λ (i : isIn s (edge x) ≡ true). inl (rw (← in-edge x s i .0) here))
+            (λ (i : isIn s rest ≡ true). inr (inr (e .0, i))) (in-append s (edge x) rest (e .1))
 
-  pub walk-entered : {b x : ℕ} {rest : List ℕ} {m : List Bool} {l : List ℕ} {n : ℕ} {m′ : List Bool} {l′ : List ℕ} {n′ : ℕ} → Walk b (edge x ++ rest) m (take n l) → Sized m l n → Entered m l n x m′ l′ n′ → Walk b rest m′ (take n′ l′)
+  pub walk-entered :
+      {b x : ℕ} {rest : List ℕ} {m : List Bool} {l : List ℕ} {n : ℕ} {m′ : List Bool} {l′ : List ℕ} {n′ : ℕ} → Walk b (edge x ++ rest) m (take n l)
+      → Sized m l n → Entered m l n x m′ l′ n′ → Walk b rest m′ (take n′ l′)
   walk-entered w z (inl e) = rw (e .1, e .2, e .3) (skip w (e .0))
   walk-entered w z (inr e) = rw (e .2, e .3) (mark w (e .0) (let i = z .marks in let j = e .0 in omega arith))
 
@@ -121,7 +130,8 @@ module _ (es : List (List ℕ)) (a : ℕ) where
     where
       next : (x s : ℕ) → isIn s (getD es x []) ≡ true → Ready c [] m (todo ++ (b ∷ [])) x s → Ready b (getD es b []) m todo x s
       next x s i (inl e) = inl e
-      next x s i (inr (inl e)) = ⊎-elim (λ (j : isIn x todo ≡ true). inr (inl j)) (λ (j : isIn x (b ∷ []) ≡ true). this x s i (in-cons x b [] j)) (in-append x todo (b ∷ []) e)
+      next x s i (inr (inl e)) = ⊎-elim (λ (j : isIn x todo ≡ true). inr (inl j)) (λ (j : isIn x (b ∷ []) ≡ true). this x s i (in-cons x b [] j))
+          (in-append x todo (b ∷ []) e)
         where
           this : (x s : ℕ) → isIn s (getD es x []) ≡ true → (b ≡ x) ⊎ (isIn x [] ≡ true) → Ready b (getD es b []) m todo x s
           this x s i (inl j) = inr (inr (sym j, rw j i))
@@ -163,7 +173,8 @@ module _ (ts : List ℕ) (size : length ts ≡ 320) (a : ℕ) where
     sized = record {
       marks = ap length e ∙ length-set clear a true ∙ clear-length;
       slots = s;
-      room = let i = unmarked-set clear a (rw clear-length h) (clear-at a h) in let j = unmarked-le clear in let q = clear-length in let u = ap unmarked e in omega arith;
+      room = let i = unmarked-set clear a (rw clear-length h)
+          (clear-at a h) in let j = unmarked-le clear in let q = clear-length in let u = ap unmarked e in omega arith;
     };
     block = a;
     walk = rw (e, k) (walk-start (edgesIn ts) a h (edges-length 160 ts size));
@@ -195,7 +206,8 @@ module _ (ts : List ℕ) (size : length ts ≡ 320) (a : ℕ) where
     held-more p q =
         let b = getD l (n - 1) 0 in
         let s = entered-sized held-sized p in
-        let e = edges-at b ts (let k = held-block in omega arith) ∙ ap (λ (r : List ℕ). edge (getD ts (2 * b) 0) ++ r) (sym (append-nil (edge (getD ts (2 * b + 1) 0)))) in
+        let e = edges-at b ts (let k = held-block in omega arith)
+        ∙ ap (λ (r : List ℕ). edge (getD ts (2 * b) 0) ++ r) (sym (append-nil (edge (getD ts (2 * b + 1) 0)))) in
         let w = walk-pop (edgesIn ts) a b (subst (Walk (edgesIn ts) a (h .block) [] m) popped (h .walk)) in
         let w′ = subst (λ (r : List ℕ). Walk (edgesIn ts) a b r m (take (n - 1) l)) e w in
         record {

@@ -12,7 +12,7 @@ use lib.Seq.{drop-cons, set-out}
 use Rattle.format.specs.declared.Record.{Record}
 use Rattle.format.specs.Record.{blank}
 use Rattle.layout.specs.declared.Layout.{Layout}
-use Rattle.read.specs.Parts.{part}
+use Rattle.read.specs.Work.{part}
 use Rattle.read.proofs.Laws.{part-length, part-at, code-part}
 use Rattle.inst.specs.declared.Code.{Code}
 use Rattle.codec.specs.Codec.{codeOf, instOf}
@@ -65,15 +65,19 @@ noted-append (f ∷ fs) gs ws = noted-append fs gs (note ws (f .reg) (pack (f .a
 pub written-append : (xs ys : List Placed) → written (xs ++ ys) ≡ written xs ++ written ys
 unfolding written
 written-append [] ys = refl
-written-append (x ∷ xs) ys = ap (λ (l : List Field). fieldsAt x (defsOf (x .inst)) ++ l) (written-append xs ys) ∙ sym (append-assoc (fieldsAt x (defsOf (x .inst))) (written xs) (written ys))
+written-append (x ∷ xs) ys = ap (λ (l : List Field). fieldsAt x (defsOf (x .inst)) ++ l) (written-append xs ys)
+    ∙ sym (append-assoc (fieldsAt x (defsOf (x .inst))) (written xs) (written ys))
 
 pub reads-append : (ops : List ℕ) (xs ys : List Placed) → reads ops (xs ++ ys) ≡ reads ops xs ++ reads ops ys
 unfolding reads
 reads-append ops [] ys = refl
-reads-append ops (x ∷ xs) ys = ap (λ (l : List Field). fieldsAt x (readsOf ops (x .inst)) ++ l) (reads-append ops xs ys) ∙ sym (append-assoc (fieldsAt x (readsOf ops (x .inst))) (reads ops xs) (reads ops ys))
+reads-append ops (x ∷ xs) ys = ap (λ (l : List Field). fieldsAt x (readsOf ops (x .inst)) ++ l) (reads-append ops xs ys)
+    ∙ sym (append-assoc (fieldsAt x (readsOf ops (x .inst))) (reads ops xs) (reads ops ys))
 
 -- one instruction more of a block
-pub placed-step : (l : List Record) (b k : ℕ) → k < length l → placedIn b k (drop k (map codeOf l)) ≡ placedAt b k (getD l k blank) ∷ placedIn b (k + 1) (drop (k + 1) (map codeOf l))
+pub placed-step :
+    (l : List Record) (b k : ℕ) → k < length l
+    → placedIn b k (drop k (map codeOf l)) ≡ placedAt b k (getD l k blank) ∷ placedIn b (k + 1) (drop (k + 1) (map codeOf l))
 unfolding placedIn
 placed-step l b k h =
     ap (placedIn b k) (drop-cons (map codeOf l) k (codeOf blank) (rw (length-map l codeOf) h))
@@ -84,7 +88,9 @@ unfolding placedIn
 placed-end l b k h = ap (placedIn b k) (drop-of-length-le (map codeOf l) {i = k} (rw (length-map l codeOf) h))
 
 -- one block more
-pub from-step : (f : Record → List Code) (l : List Record) (k : ℕ) → k < length l → placedFrom k (drop k (map f l)) ≡ placedIn k 0 (f (getD l k blank)) ++ placedFrom (k + 1) (drop (k + 1) (map f l))
+pub from-step :
+    (f : Record → List Code) (l : List Record) (k : ℕ) → k < length l
+    → placedFrom k (drop k (map f l)) ≡ placedIn k 0 (f (getD l k blank)) ++ placedFrom (k + 1) (drop (k + 1) (map f l))
 unfolding placedFrom
 from-step f l k h =
     ap (placedFrom k) (drop-cons (map f l) k (f blank) (rw (length-map l f) h))
@@ -96,24 +102,36 @@ from-end f l k h = ap (placedFrom k) (drop-of-length-le (map f l) {i = k} (rw (l
 
 -- the table after one more, in a block and block by block
 module _ (ws : List ℕ) where
-  pub noted-inst : (l : List Record) (b k : ℕ) → k < length l → noted (noted ws (fieldsAt (placedAt b k (getD l k blank)) (defsOf (instOf (getD l k blank))))) (written (placedIn b (k + 1) (drop (k + 1) (map codeOf l)))) ≡ noted ws (written (placedIn b k (drop k (map codeOf l))))
+  pub noted-inst :
+      (l : List Record) (b k : ℕ) → k < length l
+      → noted (noted ws (fieldsAt (placedAt b k (getD l k blank)) (defsOf (instOf (getD l k blank)))))
+      (written (placedIn b (k + 1) (drop (k + 1) (map codeOf l)))) ≡ noted ws (written (placedIn b k (drop k (map codeOf l))))
   unfolding written
   noted-inst l b k h =
-      sym (noted-append (fieldsAt (placedAt b k (getD l k blank)) (defsOf (instOf (getD l k blank)))) (written (placedIn b (k + 1) (drop (k + 1) (map codeOf l)))) ws)
+      sym (noted-append (fieldsAt (placedAt b k (getD l k blank)) (defsOf (instOf (getD l k blank))))
+      (written (placedIn b (k + 1) (drop (k + 1) (map codeOf l)))) ws)
       ∙ sym (ap (λ (xs : List Placed). noted ws (written xs)) (placed-step l b k h))
 
   -- the instruction was read from the file
-  pub noted-next : (rs : List Record) (first count : ℕ) → first + count ≤ length rs → (b k : ℕ) {w : List ℕ} → k < count → w ≡ noted ws (fieldsAt (placedAt b k (getD rs (first + k) blank)) (defsOf (instOf (getD rs (first + k) blank)))) → noted w (written (placedIn b (k + 1) (drop (k + 1) (map codeOf (part first count rs))))) ≡ noted ws (written (placedIn b k (drop k (map codeOf (part first count rs)))))
+  pub noted-next :
+      (rs : List Record) (first count : ℕ) → first + count ≤ length rs → (b k : ℕ) {w : List ℕ} → k < count
+      → w ≡ noted ws (fieldsAt (placedAt b k (getD rs (first + k) blank)) (defsOf (instOf (getD rs (first + k) blank))))
+      → noted w (written (placedIn b (k + 1) (drop (k + 1) (map codeOf (part first count rs)))))
+      ≡ noted ws (written (placedIn b k (drop k (map codeOf (part first count rs)))))
   noted-next rs first count h b k i e =
       let l = part first count rs in
-      ap (λ (u : List ℕ). noted u (written (placedIn b (k + 1) (drop (k + 1) (map codeOf l))))) (e ∙ ap (λ (r : Record). noted ws (fieldsAt (placedAt b k r) (defsOf (instOf r)))) (sym (part-at rs first count h k i)))
+      ap (λ (u : List ℕ). noted u (written (placedIn b (k + 1) (drop (k + 1) (map codeOf l)))))
+      (e ∙ ap (λ (r : Record). noted ws (fieldsAt (placedAt b k r) (defsOf (instOf r)))) (sym (part-at rs first count h k i)))
       ∙ noted-inst l b k (rw (part-length rs first count h) i)
 
   pub noted-none : (l : List Record) (b k : ℕ) → length l ≤ k → ws ≡ noted ws (written (placedIn b k (drop k (map codeOf l))))
   unfolding written noted
   noted-none l b k h = sym (ap (λ (xs : List Placed). noted ws (written xs)) (placed-end l b k h))
 
-  pub noted-block : (f : Record → List Code) (l : List Record) (k : ℕ) → k < length l → noted (noted ws (written (placedIn k 0 (f (getD l k blank))))) (written (placedFrom (k + 1) (drop (k + 1) (map f l)))) ≡ noted ws (written (placedFrom k (drop k (map f l))))
+  pub noted-block :
+      (f : Record → List Code) (l : List Record) (k : ℕ) → k < length l
+      → noted (noted ws (written (placedIn k 0 (f (getD l k blank))))) (written (placedFrom (k + 1) (drop (k + 1) (map f l))))
+      ≡ noted ws (written (placedFrom k (drop k (map f l))))
   noted-block f l k h =
       sym (noted-append (written (placedIn k 0 (f (getD l k blank)))) (written (placedFrom (k + 1) (drop (k + 1) (map f l)))) ws)
       ∙ ap (noted ws) (sym (written-append (placedIn k 0 (f (getD l k blank))) (placedFrom (k + 1) (drop (k + 1) (map f l)))))
@@ -134,7 +152,9 @@ module _ {rs : List Record} {l : Layout} (h : Fit rs l) where
   pub block-in : (k : ℕ) {r : Record} → k < l .bodies - l .blocks → r ≡ getD rs (l .blocks + k) blank → (r .p1 < r .p2) × (r .p2 ≤ l .operands - l .code)
   block-in k i e = rw (block-at k i e) (h .inCode k (rw blocks-length i))
 
-  pub block-code : (k : ℕ) {r : Record} → k < l .bodies - l .blocks → r ≡ getD rs (l .blocks + k) blank → map codeOf (part (l .code + r .p1) (r .p2 - r .p1) rs) ≡ blockCode rs l (getD (blockRecords rs l) k blank)
+  pub block-code :
+      (k : ℕ) {r : Record} → k < l .bodies - l .blocks → r ≡ getD rs (l .blocks + k) blank
+      → map codeOf (part (l .code + r .p1) (r .p2 - r .p1) rs) ≡ blockCode rs l (getD (blockRecords rs l) k blank)
   block-code k {r} i e =
       let z = block-in k i e in
       ap (map codeOf) (code-part rs (l .code) (l .operands - l .code) r (z .0) (z .1))

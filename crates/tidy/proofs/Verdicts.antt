@@ -11,7 +11,7 @@ use lib.Seq.{drop-cons, getD-take, getD-drop, getD-append-add, length-take-le}
 use Rattle.format.specs.declared.Record.{Record}
 use Rattle.format.specs.Record.{blank}
 use Rattle.layout.specs.declared.Layout.{Layout}
-use Rattle.read.specs.Parts.{part}
+use Rattle.read.specs.Work.{part}
 use Rattle.read.proofs.Laws.{part-length, part-at}
 use Rattle.inst.specs.declared.Code.{Code}
 use Rattle.codec.specs.Codec.{codeOf, instOf}
@@ -40,7 +40,9 @@ module _ (es : List (List ℕ)) (n : ℕ) (ws : List ℕ) (b k : ℕ) (s : Tidin
 
 module _ (es : List (List ℕ)) (n : ℕ) (ws : List ℕ) where
   -- the registers that one instruction reads
-  pub stepped-next : (b k : ℕ) (s : Tidiness) (l : List ℕ) (j : ℕ) → j < length l → stepped es n ws b k (step es n ws b k s (getD l j 0)) (drop (j + 1) l) ≡ stepped es n ws b k s (drop j l)
+  pub stepped-next :
+      (b k : ℕ) (s : Tidiness) (l : List ℕ) (j : ℕ) → j < length l
+      → stepped es n ws b k (step es n ws b k s (getD l j 0)) (drop (j + 1) l) ≡ stepped es n ws b k s (drop j l)
   unfolding stepped
   stepped-next b k s l j h = rw (add-one j) (sym (ap (stepped es n ws b k s) (drop-cons l j 0 h)))
 
@@ -59,37 +61,54 @@ module _ (es : List (List ℕ)) (n : ℕ) (ws : List ℕ) where
   judged-append (f ∷ fs) gs s = judged-append fs gs (step es n ws (f .at .block) (f .at .place) s (f .reg))
 
   -- one instruction more of a block
-  judged-inst : (ops : List ℕ) (l : List Record) (b k : ℕ) (s : Tidiness) → k < length l → judgedAll es n ws (judgedAll es n ws s (fieldsAt (placedAt b k (getD l k blank)) (readsOf ops (instOf (getD l k blank))))) (reads ops (placedIn b (k + 1) (drop (k + 1) (map codeOf l)))) ≡ judgedAll es n ws s (reads ops (placedIn b k (drop k (map codeOf l))))
+  judged-inst :
+      (ops : List ℕ) (l : List Record) (b k : ℕ) (s : Tidiness) → k < length l
+      → judgedAll es n ws (judgedAll es n ws s (fieldsAt (placedAt b k (getD l k blank)) (readsOf ops (instOf (getD l k blank)))))
+      (reads ops (placedIn b (k + 1) (drop (k + 1) (map codeOf l)))) ≡ judgedAll es n ws s (reads ops (placedIn b k (drop k (map codeOf l))))
   unfolding reads
   judged-inst ops l b k s h =
-      sym (judged-append (fieldsAt (placedAt b k (getD l k blank)) (readsOf ops (instOf (getD l k blank)))) (reads ops (placedIn b (k + 1) (drop (k + 1) (map codeOf l)))) s)
+      sym (judged-append (fieldsAt (placedAt b k (getD l k blank)) (readsOf ops (instOf (getD l k blank))))
+      (reads ops (placedIn b (k + 1) (drop (k + 1) (map codeOf l)))) s)
       ∙ sym (ap (λ (xs : List Placed). judgedAll es n ws s (reads ops xs)) (placed-step l b k h))
 
-  pub judged-next : (ops : List ℕ) (rs : List Record) (first count : ℕ) → first + count ≤ length rs → (b k : ℕ) (s : Tidiness) {t : Tidiness} → k < count → t ≡ judgedAll es n ws s (fieldsAt (placedAt b k (getD rs (first + k) blank)) (readsOf ops (instOf (getD rs (first + k) blank)))) → judgedAll es n ws t (reads ops (placedIn b (k + 1) (drop (k + 1) (map codeOf (part first count rs))))) ≡ judgedAll es n ws s (reads ops (placedIn b k (drop k (map codeOf (part first count rs)))))
+  pub judged-next :
+      (ops : List ℕ) (rs : List Record) (first count : ℕ) → first + count ≤ length rs → (b k : ℕ) (s : Tidiness) {t : Tidiness} → k < count
+      → t ≡ judgedAll es n ws s (fieldsAt (placedAt b k (getD rs (first + k) blank)) (readsOf ops (instOf (getD rs (first + k) blank))))
+      → judgedAll es n ws t (reads ops (placedIn b (k + 1) (drop (k + 1) (map codeOf (part first count rs)))))
+      ≡ judgedAll es n ws s (reads ops (placedIn b k (drop k (map codeOf (part first count rs)))))
   judged-next ops rs first count h b k s i e =
       let l = part first count rs in
-      ap (λ (u : Tidiness). judgedAll es n ws u (reads ops (placedIn b (k + 1) (drop (k + 1) (map codeOf l))))) (e ∙ ap (λ (r : Record). judgedAll es n ws s (fieldsAt (placedAt b k r) (readsOf ops (instOf r)))) (sym (part-at rs first count h k i)))
+      ap (λ (u : Tidiness). judgedAll es n ws u (reads ops (placedIn b (k + 1) (drop (k + 1) (map codeOf l)))))
+      (e ∙ ap (λ (r : Record). judgedAll es n ws s (fieldsAt (placedAt b k r) (readsOf ops (instOf r)))) (sym (part-at rs first count h k i)))
       ∙ judged-inst ops l b k s (rw (part-length rs first count h) i)
 
-  pub judged-end : (ops : List ℕ) (l : List Record) (b k : ℕ) (s : Tidiness) → length l ≤ k → s ≡ judgedAll es n ws s (reads ops (placedIn b k (drop k (map codeOf l))))
+  pub judged-end :
+      (ops : List ℕ) (l : List Record) (b k : ℕ) (s : Tidiness) → length l ≤ k
+      → s ≡ judgedAll es n ws s (reads ops (placedIn b k (drop k (map codeOf l))))
   unfolding reads judgedAll
   judged-end ops l b k s h = sym (ap (λ (xs : List Placed). judgedAll es n ws s (reads ops xs)) (placed-end l b k h))
 
   -- one block more
-  pub judged-block : (ops : List ℕ) (f : Record → List Code) (l : List Record) (k : ℕ) (s : Tidiness) → k < length l → judgedAll es n ws (judgedAll es n ws s (reads ops (placedIn k 0 (f (getD l k blank))))) (reads ops (placedFrom (k + 1) (drop (k + 1) (map f l)))) ≡ judgedAll es n ws s (reads ops (placedFrom k (drop k (map f l))))
+  pub judged-block :
+      (ops : List ℕ) (f : Record → List Code) (l : List Record) (k : ℕ) (s : Tidiness) → k < length l
+      → judgedAll es n ws (judgedAll es n ws s (reads ops (placedIn k 0 (f (getD l k blank)))))
+      (reads ops (placedFrom (k + 1) (drop (k + 1) (map f l)))) ≡ judgedAll es n ws s (reads ops (placedFrom k (drop k (map f l))))
   judged-block ops f l k s h =
       sym (judged-append (reads ops (placedIn k 0 (f (getD l k blank)))) (reads ops (placedFrom (k + 1) (drop (k + 1) (map f l)))) s)
       ∙ ap (judgedAll es n ws s) (sym (reads-append ops (placedIn k 0 (f (getD l k blank))) (placedFrom (k + 1) (drop (k + 1) (map f l)))))
       ∙ sym (ap (λ (xs : List Placed). judgedAll es n ws s (reads ops xs)) (from-step f l k h))
 
-  pub judged-blocks : (ops : List ℕ) (f : Record → List Code) (l : List Record) (k : ℕ) (s : Tidiness) → length l ≤ k → s ≡ judgedAll es n ws s (reads ops (placedFrom k (drop k (map f l))))
+  pub judged-blocks :
+      (ops : List ℕ) (f : Record → List Code) (l : List Record) (k : ℕ) (s : Tidiness) → length l ≤ k
+      → s ≡ judgedAll es n ws s (reads ops (placedFrom k (drop k (map f l))))
   unfolding reads judgedAll
   judged-blocks ops f l k s h = sym (ap (λ (xs : List Placed). judgedAll es n ws s (reads ops xs)) (from-end f l k h))
 
 -- the fields among the registers read, and the operands
 module _ (ops : List ℕ) (r : Roles) (f : Five r) where
   fields-length : length (drop (r .defs) (take (r .n) (numbersOf (r .reg)))) ≡ r .n - r .defs
-  fields-length = length-drop (r .defs) (take (r .n) (numbersOf (r .reg))) ∙ ap (λ (m : ℕ). m - r .defs) (length-take-le (r .n) (numbersOf (r .reg)) (let e = numbers-length (r .reg) in omega arith))
+  fields-length = length-drop (r .defs) (take (r .n) (numbersOf (r .reg)))
+      ∙ ap (λ (m : ℕ). m - r .defs) (length-take-le (r .n) (numbersOf (r .reg)) (let e = numbers-length (r .reg) in omega arith))
 
   pub reads-length : {n : ℕ} → length ops ≡ n → length (allReads ops r) ≡ readCount n r
   reads-length {n} e =
@@ -104,7 +123,9 @@ module _ (ops : List ℕ) (r : Roles) (f : Five r) where
       ∙ getD-take (r .n) (numbersOf (r .reg)) (r .defs + j) 0 (omega arith)
       ∙ number-at (r .reg) (r .defs + j) 0)
 
-  pub read-listed : (j : ℕ) → r .n - r .defs ≤ j → j - (r .n - r .defs) < r .list .len → getD ops (r .list .start + (j - (r .n - r .defs))) 0 ≡ getD (allReads ops r) j 0
+  pub read-listed :
+      (j : ℕ) → r .n - r .defs ≤ j → j - (r .n - r .defs) < r .list .len
+      → getD ops (r .list .start + (j - (r .n - r .defs))) 0 ≡ getD (allReads ops r) j 0
   read-listed j h i =
       let x = drop (r .defs) (take (r .n) (numbersOf (r .reg))) in
       let y = operandsOf ops (r .list) in
@@ -120,9 +141,12 @@ module _ {rs : List Record} {l : Layout} (h : Fit rs l) where
   operands-length = length-map (part (l .operands) (l .arms - l .operands) rs) (λ r. r .p1) ∙ part-length rs (l .operands) (l .arms - l .operands) (omega arith)
 
   pub operand-at : (k : ℕ) → k < l .arms - l .operands → getD rs (l .operands + k) blank .p1 ≡ getD (operandsIn rs l) k 0
-  operand-at k i = sym (List·getD-map (λ (r : Record). r .p1) (part (l .operands) (l .arms - l .operands) rs) k blank ∙ ap (λ (r : Record). r .p1) (part-at rs (l .operands) (l .arms - l .operands) (omega arith) k i))
+  operand-at k i = sym (List·getD-map (λ (r : Record). r .p1) (part (l .operands) (l .arms - l .operands) rs) k blank
+      ∙ ap (λ (r : Record). r .p1) (part-at rs (l .operands) (l .arms - l .operands) (omega arith) k i))
 
-  pub read-operand : (r : Roles) → Five r → (j : ℕ) → r .n - r .defs ≤ j → j < readCount (l .arms - l .operands) r → {x : Record} → x ≡ getD rs (l .operands + r .list .start + (j - (r .n - r .defs))) blank → x .p1 ≡ getD (allReads (operandsIn rs l) r) j 0
+  pub read-operand :
+      (r : Roles) → Five r → (j : ℕ) → r .n - r .defs ≤ j → j < readCount (l .arms - l .operands) r → {x : Record}
+      → x ≡ getD rs (l .operands + r .list .start + (j - (r .n - r .defs))) blank → x .p1 ≡ getD (allReads (operandsIn rs l) r) j 0
   read-operand r f j i c {x} e =
       let at : l .operands + r .list .start + (j - (r .n - r .defs)) ≡ l .operands + (r .list .start + (j - (r .n - r .defs))) = omega arith in
       ap (λ (y : Record). y .p1) e

@@ -1,12 +1,13 @@
 ghost use mathlib.Core.Path.{_≡_};
 ghost use Rattle.format.specs.Record.{recordsOf};
-ghost use Rattle.read.specs.Parts.{LaidOut};
+ghost use Rattle.read.specs.Work.{LaidOut};
 ghost use Rattle.procedure.specs.Procedure.{procedureOf};
 ghost use Rattle.tidy.specs.Tidy.{offenders, verdict, tidiness};
 ghost use Rattle.tidy.specs.Work.Parts.{Fit};
 use layout::Layout;
 
 mod lead;
+mod parts;
 mod reads;
 mod targets;
 mod writers;
@@ -49,6 +50,6 @@ pub fn tidy(b: &[u8]) -> Tidiness
             reg: 0,
         };
     }
-    let l = layout::layout_of(b);
+    let l = parts::layout_in(b);
     judge(b, l)
 }

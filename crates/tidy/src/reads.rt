@@ -1,14 +1,11 @@
 ghost use mathlib.Core.Path.{_≡_};
-ghost use mathlib.Core.List.{map};
 ghost use Prim.Native.Nat.{_+_, _-_, _≤_, _<_};
 ghost use lib.ListN.{length, getD};
 ghost use Rattle.format.specs.Record.{recordsOf};
-ghost use Rattle.read.specs.Parts.{part};
-ghost use Rattle.codec.specs.Codec.{codeOf};
-ghost use Rattle.tidy.specs.Tidy.{placedIn, placedFrom, told};
-ghost use Rattle.tidy.specs.Work.Parts.{operandsIn, blocksIn, Fit};
+ghost use Rattle.tidy.specs.Tidy.{told};
+ghost use Rattle.tidy.specs.Work.Parts.{operandsIn, Fit};
 ghost use Rattle.tidy.specs.Work.Marks.{edgesIn, Kept};
-ghost use Rattle.tidy.specs.Work.Reads.{judged, judgedIn, step, stepped, lower as lowerBy, Five, allReads, readCount, readsAt, readsIn};
+ghost use Rattle.tidy.specs.Work.Reads.{judged, judgedIn, step, steppedIn, lower as lowerBy, Five, allReads, rolesReads, readCount, readsAt, partReads, fileReads};
 use crate::Tidiness;
 use crate::lead;
 use inst::BlockId;
@@ -137,7 +134,7 @@ fn read_roles(
 ) -> Tidiness
     requires { ⌜ Fit (recordsOf (now b)) l × Five roles × (l .blocks ≤ length (now ws)) × Kept (now targets) (block .0) (now marks) ⌝ }
     ensures { λ t. ⌜ Kept (now (targets .entry)) (block .0) (now (marks .exit)) ⌝ }
-    ensures { λ t. ⌜ t ≡ stepped (edgesIn (now (targets .entry))) (l .blocks) (now (ws .entry)) (block .0) place s (allReads (operandsIn (recordsOf (now (b .entry))) l) roles) ⌝ }
+    ensures { λ t. ⌜ t ≡ steppedIn (now (targets .entry)) (now (ws .entry)) l (block .0) place s (rolesReads (now (b .entry)) l roles) ⌝ }
 {
     let count = read_count(l.arms - l.operands, roles);
     let mut t = s;
@@ -191,7 +188,7 @@ fn read_block(
 ) -> Tidiness
     requires { ⌜ Fit (recordsOf (now b)) l × (block .0 < 160) × (l .blocks ≤ length (now ws)) ⌝ }
     requires { ⌜ (length (now targets) ≡ 320) × (first + count ≤ length (recordsOf (now b))) ⌝ }
-    ensures { λ t. ⌜ t ≡ judgedIn (now (targets .entry)) (now (ws .entry)) l s (readsIn (recordsOf (now (b .entry))) l (placedIn (block .0) 0 (map codeOf (part first count (recordsOf (now (b .entry))))))) ⌝ }
+    ensures { λ t. ⌜ t ≡ judgedIn (now (targets .entry)) (now (ws .entry)) l s (partReads (now (b .entry)) l (block .0) first count) ⌝ }
 {
     let mut marks = [false; 160];
     let mut t = s;
@@ -206,7 +203,7 @@ fn read_block(
 // All reads, judged by the table of writers and the targets of the blocks.
 pub fn read_blocks(b: &[u8], l: Layout, ws: &[u32], targets: &[u32; 320], s: Tidiness) -> Tidiness
     requires { ⌜ Fit (recordsOf (now b)) l × (l .blocks ≤ length (now ws)) × (length (now targets) ≡ 320) ⌝ }
-    ensures { λ t. ⌜ t ≡ judgedIn (now (targets .entry)) (now (ws .entry)) l s (readsIn (recordsOf (now (b .entry))) l (placedFrom 0 (blocksIn (recordsOf (now (b .entry))) l))) ⌝ }
+    ensures { λ t. ⌜ t ≡ judgedIn (now (targets .entry)) (now (ws .entry)) l s (fileReads (now (b .entry)) l) ⌝ }
 {
     let count = l.bodies - l.blocks;
     let mut t = s;

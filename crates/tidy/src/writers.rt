@@ -3,7 +3,7 @@ ghost use mathlib.Core.List.{map};
 ghost use Prim.Native.Nat.{_+_, _≤_, _<_};
 ghost use lib.ListN.{length, take};
 ghost use Rattle.format.specs.Record.{recordsOf};
-ghost use Rattle.read.specs.Parts.{part};
+ghost use Rattle.read.specs.Work.{part};
 ghost use Rattle.codec.specs.Codec.{codeOf};
 ghost use Rattle.roles.specs.Roles.{numbersOf};
 ghost use Rattle.tidy.specs.Tidy.{placedIn, placedFrom, written};

@@ -51,19 +51,10 @@ pub fn ask(
     let start = GUARD + shift / 8 % 8;
     let told = library.shorten(&input[shift % 8..], &mut out[start..start + room]);
     let (due, output) = due(answer, room);
-    let wrong = |place: &usize| {
-        let inside = place.checked_sub(start).filter(|p| *p < output.len());
-        out[*place] != inside.map_or_else(|| filling(*place), |p| output[p])
-    };
-    let written = start..start + output.len();
     let whole = start + room + GUARD;
-    let first = if out[written.clone()] == *output && untouched(out, 0..start) && untouched(out, written.end..whole) {
-        None
-    } else {
-        (0..whole).find(wrong)
-    };
+    let first = first_wrong(&out[..whole], start, output);
     let same_input = input[shift % 8..] == *bytes;
-    restore(out, first.map_or(written, |_| 0..whole));
+    restore(out, first.map_or(start..start + output.len(), |_| 0..whole));
     if told == due && first.is_none() && same_input {
         return Ok(());
     }
@@ -73,6 +64,16 @@ pub fn ask(
         None => "the buffer is as due".into(),
     };
     Err(Finding { told, due, buffer })
+}
+
+/// The first byte that isn't the output's from `start` on, and else the filling's.
+fn first_wrong(out: &[u8], start: usize, output: &[u8]) -> Option<usize> {
+    let end = start + output.len();
+    if out[start..end] == *output && untouched(out, 0..start) && untouched(out, end..out.len()) {
+        return None;
+    }
+    let due = |place: usize| if (start..end).contains(&place) { output[place - start] } else { filling(place) };
+    (0..out.len()).find(|&place| out[place] != due(place))
 }
 
 /// The filling, to compare with at once.

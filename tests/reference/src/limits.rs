@@ -165,6 +165,20 @@ fn often_written(g: &mut Rng) -> Draft {
     d
 }
 
+/// So many comparisons, each of the one before into a new register, and a branch on the last.
+fn small_test(g: &mut Rng, d: &mut Draft, size: usize, [t, f]: [u32; 2]) -> Vec<Record> {
+    let mut c = 0;
+    let mut block = Vec::new();
+    for _ in 0..size {
+        d.registers.push(g.below(5) as u8);
+        let dst = d.registers.len() as u32 - 1;
+        block.push(cmp(g.below(6) as u8, dst, c, 1));
+        c = dst;
+    }
+    block.push(cond_br(c, t, f));
+    block
+}
+
 /// Small blocks of the most instructions, copied until the bound, and all of it reached: the
 /// longest that can come out where the counts are those of the limits.
 fn longest(g: &mut Rng) -> Draft {
@@ -180,16 +194,9 @@ fn longest(g: &mut Rng) -> Draft {
     }
     for s in 0..shared {
         let size = if most { 3 } else { g.range(0, 3) };
-        let mut c = 0;
-        let mut block = Vec::new();
-        for _ in 0..size {
-            d.registers.push(g.below(5) as u8);
-            let dst = d.registers.len() as u32 - 1;
-            block.push(cmp(g.below(6) as u8, dst, c, 1));
-            c = dst;
-        }
         let next = 1 + takers + (s + 1) % (shared + 1);
-        block.push(cond_br(c, g.below(takers) as u32, next as u32));
+        let arms = [g.below(takers) as u32, next as u32];
+        let block = small_test(g, &mut d, size, arms);
         d.blocks.push(block);
     }
     d.blocks.push(vec![ret()]);

@@ -207,11 +207,15 @@ row-requires-24 c κs = search needs
 
 returns : tie.Need-returns
 unfolding instRecord
-returns c = (rw (c .before .high-of .ensures, c .before .before .low-of .ensures) at (c .row .ensures)) ∙ sym (ap instRecord (c .before .before .before .before .i .given .1))
+returns c =
+    (rw (c .before .high-of .ensures, c .before .before .low-of .ensures) at (c .row .ensures))
+    ∙ sym (ap instRecord (c .before .before .before .before .i .given .1))
 
 returns-2 : tie.Need-returns-2
 unfolding instRecord
-returns-2 c = (rw (c .before .high-of2 .ensures, c .before .before .low-of2 .ensures, c .before .before .before .bits-of .ensures) at (c .row2 .ensures)) ∙ sym (ap instRecord (c .before .before .before .before .before .i2 .given .1))
+returns-2 c =
+    (rw (c .before .high-of2 .ensures, c .before .before .low-of2 .ensures, c .before .before .before .bits-of .ensures) at (c .row2 .ensures))
+    ∙ sym (ap instRecord (c .before .before .before .before .before .i2 .given .1))
 
 returns-3 : tie.Need-returns-3
 unfolding instRecord
@@ -219,7 +223,9 @@ returns-3 c = c .row3 .ensures ∙ sym (ap instRecord (c .before .before .i3 .gi
 
 returns-4 : tie.Need-returns-4
 unfolding instRecord
-returns-4 c = (rw (c .before .space-arg .ensures, c .before .before .space-num .ensures) at (c .row4 .ensures)) ∙ sym (ap instRecord (c .before .before .before .before .i4 .given .1))
+returns-4 c =
+    (rw (c .before .space-arg .ensures, c .before .before .space-num .ensures) at (c .row4 .ensures))
+    ∙ sym (ap instRecord (c .before .before .before .before .i4 .given .1))
 
 returns-5 : tie.Need-returns-5
 unfolding instRecord
@@ -275,7 +281,9 @@ returns-17 c = c .row17 .ensures ∙ sym (ap instRecord (c .before .before .i17 
 
 returns-18 : tie.Need-returns-18
 unfolding instRecord
-returns-18 c = (rw (c .before .opt-arg .ensures, c .before .before .opt-num .ensures) at (c .row18 .ensures)) ∙ sym (ap instRecord (c .before .before .before .before .i18 .given .1))
+returns-18 c =
+    (rw (c .before .opt-arg .ensures, c .before .before .opt-num .ensures) at (c .row18 .ensures))
+    ∙ sym (ap instRecord (c .before .before .before .before .i18 .given .1))
 
 returns-19 : tie.Need-returns-19
 unfolding instRecord
@@ -291,7 +299,9 @@ returns-21 c = c .row21 .ensures ∙ sym (ap instRecord (c .before .before .i21 
 
 returns-22 : tie.Need-returns-22
 unfolding instRecord
-returns-22 c = (rw (c .before .opt-arg2 .ensures, c .before .before .opt-num2 .ensures) at (c .row22 .ensures)) ∙ sym (ap instRecord (c .before .before .before .before .i22 .given .1))
+returns-22 c =
+    (rw (c .before .opt-arg2 .ensures, c .before .before .opt-num2 .ensures) at (c .row22 .ensures))
+    ∙ sym (ap instRecord (c .before .before .before .before .i22 .given .1))
 
 returns-23 : tie.Need-returns-23
 unfolding instRecord

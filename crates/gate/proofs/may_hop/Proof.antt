@@ -2,8 +2,7 @@ use mathlib.Core.Path.{refl, sym, ap, _∙_}
 use mathlib.Core.Bool.{not}
 use borrow.Author.Tests.{eq-eqb, ne-eqb}
 use denote.Ref.{now}
-use Rattle.shape.proofs.Laws.{both}
-use Rattle.read.proofs.Laws.{either, otherwise}
+use Rattle.general.proofs.Booleans.{both, either, otherwise}
 use Rattle.steps.specs.Gate.{mayHop}
 use Rattle.blocks.specs.Blocks.{blocksOf}
 use borrow.Author.Needs.{needs}

@@ -46,10 +46,26 @@ span-requires-6 : tie.Need-span-requires-6
 span-requires-6 c κs = rw (at5 c) (endOf-le 5 (recordsOf (now (c .before .before .before .before .before .before .args .b))))
 
 returns : tie.Need-returns
-returns c = let rs = recordsOf (now (c .before .before .before .before .before .before .before .before .args .b)) in laid-out rs (at1 (c .before .before .before .before .before .before)) (at2 (c .before .before .before .before .before)) (at3 (c .before .before .before .before)) (at4 (c .before .before .before)) (at5 (c .before .before)) (at6 (c .before)) (c .if1 .taken ∙ sym (length-records (now (c .before .before .before .before .before .before .before .before .args .b))))
+returns c =
+    let c6 = c .before in
+    let c5 = c6 .before in
+    let c4 = c5 .before in
+    let c3 = c4 .before in
+    let c2 = c3 .before in
+    let c1 = c2 .before in
+    let b = now (c1 .before .before .args .b) in
+    laid-out (recordsOf b) (at1 c1) (at2 c2) (at3 c3) (at4 c4) (at5 c5) (at6 c6) (c .if1 .taken ∙ sym (length-records b))
 
 returns-2 : tie.Need-returns-2
-returns-2 c = let rs = recordsOf (now (c .before .before .before .before .before .before .before .before .args .b)) in not-laid rs (at1 (c .before .before .before .before .before .before)) (at2 (c .before .before .before .before .before)) (at3 (c .before .before .before .before)) (at4 (c .before .before .before)) (at5 (c .before .before)) (at6 (c .before)) (λ i. c .if1 .left (i ∙ length-records (now (c .before .before .before .before .before .before .before .before .args .b))))
+returns-2 c =
+    let c6 = c .before in
+    let c5 = c6 .before in
+    let c4 = c5 .before in
+    let c3 = c4 .before in
+    let c2 = c3 .before in
+    let c1 = c2 .before in
+    let b = now (c1 .before .before .args .b) in
+    not-laid (recordsOf b) (at1 c1) (at2 c2) (at3 c3) (at4 c4) (at5 c5) (at6 c6) (λ i. c .if1 .left (i ∙ length-records b))
 
 pub layout-of-spec : {M : Type 1} → statement M
 layout-of-spec =

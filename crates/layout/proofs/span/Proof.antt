@@ -9,7 +9,7 @@ use Rattle.general.proofs.Booleans.{told}
 use Rattle.format.specs.Record.{recordsOf, blank}
 use Rattle.format.proofs.Laws.{length-records}
 use Rattle.layout.specs.Walk.{lead}
-use Rattle.layout.specs.Spans.{rightOf}
+use Rattle.layout.specs.Work.{rightOf}
 use Rattle.layout.proofs.Walks.{lead-pass, lead-stop, lead-end}
 use Rattle.layout.proofs.span.Statement.{statement}
 use Rattle.layout.proofs.span.Tie as tie
@@ -30,9 +30,13 @@ right-of-requires : tie.Need-right-of-requires Inv-loop μ-loop
 right-of-requires c κs = search needs
 
 returns : tie.Need-returns Inv-loop μ-loop
-returns c = let l = c .before .before .before .before in
-    let b = now (l .before .before .args .b) in
-    lead-stop (rightOf (l .before .before .args .class)) (recordsOf b) (l .loop .k) blank (rw (length-records b) (omega arith)) (told (rightOf (l .before .before .args .class)) (c .before .before .record-at .ensures) (c .before .right-of .ensures) (not-true _ (c .if1 .taken))) ∙ l .loop .inv .1
+returns c =
+    let l = c .before .before .before .before in
+    let a = l .before .before .args in
+    let b = now (a .b) in
+    let test = told (rightOf (a .class)) (c .before .before .record-at .ensures) (c .before .right-of .ensures) in
+    let stop = lead-stop (rightOf (a .class)) (recordsOf b) (l .loop .k) blank (rw (length-records b) (omega arith)) in
+    stop (test (not-true _ (c .if1 .taken))) ∙ l .loop .inv .1
 
 add-k : tie.Need-add-k Inv-loop μ-loop
 add-k c = search needs
@@ -41,9 +45,13 @@ loop-less : tie.Need-loop-less Inv-loop μ-loop
 loop-less c = search needs
 
 loop-again : tie.Need-loop-again Inv-loop μ-loop
-loop-again c = let l = c .before .before .before .before in
-    let b = now (l .before .before .args .b) in
-    (omega arith, lead-pass (rightOf (l .before .before .args .class)) (recordsOf b) (l .loop .k) blank (rw (length-records b) (omega arith)) (told (rightOf (l .before .before .args .class)) (c .before .before .record-at .ensures) (c .before .right-of .ensures) (not-false _ (c .if1 .left))) ∙ l .loop .inv .1)
+loop-again c =
+    let l = c .before .before .before .before in
+    let a = l .before .before .args in
+    let b = now (a .b) in
+    let test = told (rightOf (a .class)) (c .before .before .record-at .ensures) (c .before .right-of .ensures) in
+    let pass = lead-pass (rightOf (a .class)) (recordsOf b) (l .loop .k) blank (rw (length-records b) (omega arith)) in
+    (omega arith, pass (test (not-false _ (c .if1 .left))) ∙ l .loop .inv .1)
 
 returns-2 : tie.Need-returns-2 Inv-loop μ-loop
 returns-2 c = let l = c .before in

@@ -49,7 +49,7 @@ returns-2 c = let p = c .before .before .before .before .before .before .before 
     pass-on 4 _ _ _ (rw (← k) (omega arith)) (refuse-at 5 _ _ _ _ (c .refused2 .ensures) (rw (← e, ← p .blocks)) (rw (← e) (omega arith)))
 
 read-tables-requires : tie.Need-read-tables-requires
-read-tables-requires c κs = (c .before .before .before .before .before .before .before .pre .0, c .before .before .before .before .before .before .before .pre .1, c .before .before .before .before .before .before .before .pre .2)
+read-tables-requires c κs = let p = c .before .before .before .before .before .before .before .pre in (p .0, p .1, p .2)
 
 returns-3 : tie.Need-returns-3
 unfolding readBlocks

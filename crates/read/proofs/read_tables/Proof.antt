@@ -49,22 +49,29 @@ refused-requires-2 c κs = let z = sizes (c .before .before .before .before .bef
 
 returns-2 : tie.Need-returns-2
 unfolding readTables
-returns-2 c = let p = c .before .before .before .before .before .before .before .before .before .before .before .before .pre .0 in
+returns-2 c =
+    let d = c .before .before .before .before .before .before .before in
+    let n = d .before .before .numbered-arms in
+    let p = d .before .before .before .before .before .pre .0 in
     let z = sizes p in
-    let k = arms-numbered p (c .before .before .before .before .before .before .before .before .before .numbered-arms .ensures .0) in
-    let t = all-tables p (c .before .before .before .before .before .before .before .before .before .numbered-arms .result .passed) (c .before .before .before .before .before .before .before .if1 .left) (c .before .before .before .before .before .before .before .before .before .numbered-arms .ensures .1) in
+    let k = arms-numbered p (n .ensures .0) in
+    let t = all-tables p (n .result .passed) (d .if1 .left) (n .ensures .1) in
     let m = all-named p _ (counts-are p _ refl refl t refl) (c .before .before .before .named-records .ensures) in
-    pass-on 6 _ _ _ (rw (← k) (omega arith)) (refuse-at 7 0 _ _ _ (c .refused2 .ensures) (m ∙ sym (zero-add _)) (rw (← m) (omega arith)))
+    pass-on 6 _ _ _ (rw (← k) (omega arith))
+    (refuse-at 7 0 _ _ _ (c .refused2 .ensures) (m ∙ sym (zero-add _)) (rw (← m) (omega arith)))
 
 refused-requires-3 : tie.Need-refused-requires-3
 refused-requires-3 c κs = search needs
 
 returns-3 : tie.Need-returns-3
 unfolding readTables
-returns-3 c = let p = c .before .before .before .before .before .before .before .before .before .before .before .before .pre .0 in
+returns-3 c =
+    let d = c .before .before .before .before .before .before .before in
+    let n = d .before .before .numbered-arms in
+    let p = d .before .before .before .before .before .pre .0 in
     let z = sizes p in
-    let k = arms-numbered p (c .before .before .before .before .before .before .before .before .before .numbered-arms .ensures .0) in
-    let t = all-tables p (c .before .before .before .before .before .before .before .before .before .numbered-arms .result .passed) (c .before .before .before .before .before .before .before .if1 .left) (c .before .before .before .before .before .before .before .before .before .numbered-arms .ensures .1) in
+    let k = arms-numbered p (n .ensures .0) in
+    let t = all-tables p (n .result .passed) (d .if1 .left) (n .ensures .1) in
     let m = all-named p _ (counts-are p _ refl refl t refl) (c .before .before .before .named-records .ensures) in
     pass-on 6 _ _ _ (rw (← k) (omega arith)) (pass-on 7 0 _ _ (rw (← m) (omega arith)) (c .refused3 .ensures))
 

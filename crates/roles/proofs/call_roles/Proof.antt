@@ -1,5 +1,5 @@
 use mathlib.Core.Path.{sym, ap}
-use Rattle.roles.specs.Roles.{callRoles}
+use Rattle.roles.specs.Work.{callRoles}
 use borrow.Author.Needs.{needs}
 use Rattle.roles.proofs.call_roles.Statement.{statement}
 use Rattle.roles.proofs.call_roles.Tie as tie

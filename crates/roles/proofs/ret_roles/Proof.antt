@@ -1,5 +1,5 @@
 use mathlib.Core.Path.{sym, ap, _∙_}
-use Rattle.roles.specs.Roles.{retRoles}
+use Rattle.roles.specs.Work.{retRoles}
 use borrow.Author.Needs.{needs}
 use Rattle.roles.proofs.ret_roles.Statement.{statement}
 use Rattle.roles.proofs.ret_roles.Tie as tie

@@ -5,6 +5,7 @@ use native.Mathlib.Omega.{arith}
 use borrow.Author.Needs.{needs}
 use denote.Ref.{now}
 use lib.ListN.{length, drop}
+use Rattle.general.proofs.Booleans.{told}
 use Rattle.format.specs.Record.{blank}
 use Rattle.inst.specs.declared.Code.{Code}
 use Rattle.codec.specs.Codec.{codeOf}
@@ -12,7 +13,6 @@ use Rattle.procedure.specs.Procedure.{codesOf}
 use Rattle.procedure.specs.Lists.{anyOf}
 use Rattle.steps.specs.Small.{stepBy}
 use Rattle.ends.proofs.Laws.{length-codes}
-use Rattle.layout.proofs.Walks.{told}
 use Rattle.small.proofs.Laws.{any-pass, any-stop, any-end}
 use Rattle.small.proofs.any_step.Statement.{statement}
 use Rattle.small.proofs.any_step.Tie as tie

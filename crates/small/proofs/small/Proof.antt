@@ -5,10 +5,10 @@ use borrow.Author.Needs.{needs}
 use borrow.Author.Tests.{not-true, not-false}
 use denote.Ref.{now}
 use lib.ListN.{length, drop}
+use Rattle.general.proofs.Booleans.{told}
 use Rattle.procedure.specs.Procedure.{codesOf}
 use Rattle.steps.specs.Small.{dupable, smallEnd, copyable}
 use Rattle.ends.proofs.Laws.{length-codes}
-use Rattle.layout.proofs.Walks.{told}
 use Rattle.small.proofs.Laws.{too-long, empty-code, short-code, copyable-pass, copyable-stop, copyable-last}
 use Rattle.small.proofs.small.Statement.{statement}
 use Rattle.small.proofs.small.Tie as tie

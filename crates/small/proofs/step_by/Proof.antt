@@ -3,9 +3,9 @@ use mathlib.Core.List.{List, [], _∷_}
 use mathlib.Core.Bool.{false, _||_}
 use Prim.Native.Nat.{ℕ}
 use lib.Dec.{eqb}
+use Rattle.general.proofs.Booleans.{both, neither}
 use Rattle.inst.proofs.Tags.{by-kind}
 use Rattle.ends.specs.Forms.{formOf}
-use Rattle.shape.proofs.Laws.{both, neither}
 use Rattle.steps.specs.Small.{stepBy}
 use Rattle.small.proofs.Laws.{no-step}
 use borrow.Author.Needs.{needs}

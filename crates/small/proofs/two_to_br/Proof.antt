@@ -1,7 +1,7 @@
 use mathlib.Core.Path.{refl, _∙_}
 use borrow.Author.Tests.{eq-eqb, ne-eqb}
-use Rattle.shape.proofs.Laws.{both, neither}
 use borrow.Author.Needs.{needs}
+use Rattle.general.proofs.Booleans.{both, neither}
 use Rattle.small.proofs.two_to_br.Statement.{statement}
 use Rattle.small.proofs.two_to_br.Tie as tie
 

@@ -54,9 +54,26 @@ same-length c = search needs
 
 returns : tie.Need-returns
 returns c =
-    let s = c .before .before .before .before .before .before .before .before .before .before .before .before .before .before .before .before .before .before .before .before .before .before .before .before .before .before .before .before .before .before .before .before .before in
-    rw (c .before .before .put-word7 .ensures, c .before .before .before .before .before .before .put-word6 .ensures, c .before .before .before .before .before .before .before .before .before .before .put-word5 .ensures, c .before .before .before .before .before .before .before .before .before .before .before .before .before .before .put-word4 .ensures, c .before .before .before .before .before .before .before .before .before .before .before .before .before .before .before .before .before .before .put-word3 .ensures, c .before .before .before .before .before .before .before .before .before .before .before .before .before .before .before .before .before .before .before .before .before .before .put-word2 .ensures, c .before .before .before .before .before .before .before .before .before .before .before .before .before .before .before .before .before .before .before .before .before .before .before .before .before .before .put-word .ensures, c .before .before .before .before .before .before .before .before .before .before .before .before .before .before .before .before .before .before .before .before .before .before .before .before .before .before .before .before .before .before .put-tag .ensures)
-    (put-parts (now (s .args .b)) (s .args .at) (s .args .r))
+    let c7 = c .before .before in
+    let c6 = c7 .before .before .before .before in
+    let c5 = c6 .before .before .before .before in
+    let c4 = c5 .before .before .before .before in
+    let c3 = c4 .before .before .before .before in
+    let c2 = c3 .before .before .before .before in
+    let c1 = c2 .before .before .before .before in
+    let c0 = c1 .before .before .before .before in
+    let s = c0 .before .before .before .args in
+    rw (
+      c7 .put-word7 .ensures,
+      c6 .put-word6 .ensures,
+      c5 .put-word5 .ensures,
+      c4 .put-word4 .ensures,
+      c3 .put-word3 .ensures,
+      c2 .put-word2 .ensures,
+      c1 .put-word .ensures,
+      c0 .put-tag .ensures,
+    )
+    (put-parts (now (s .b)) (s .at) (s .r))
 
 pub put-in-spec : {M : Type 1} → statement M
 put-in-spec =

@@ -45,7 +45,11 @@ same-length c = search needs
 
 returns : tie.Need-returns
 unfolding tagBytes
-returns c = let s = c .before .before .before .before .before in rw (c .low4 .ensures, c .before .low3 .ensures, c .before .before .low2 .ensures, c .before .before .before .low .ensures) (four (now (s .args .b)) (s .args .at) (byteOf (s .args .r .class)) (byteOf (s .args .r .kind)) (byteOf (s .args .r .op)) (byteOf (s .args .r .zero)))
+returns c =
+    let c1 = c .before .before .before in
+    let a = c1 .before .before .args in
+    rw (c .low4 .ensures, c .before .low3 .ensures, c .before .before .low2 .ensures, c1 .low .ensures)
+    (four (now (a .b)) (a .at) (byteOf (a .r .class)) (byteOf (a .r .kind)) (byteOf (a .r .op)) (byteOf (a .r .zero)))
 
 pub put-tag-spec : {M : Type 1} → statement M
 put-tag-spec =

@@ -46,7 +46,11 @@ same-length c = search needs
 
 returns : tie.Need-returns
 unfolding wordBytes
-returns c = let s = c .before .before .before .before .before in rw (c .low4 .ensures, c .before .low3 .ensures, c .before .before .low2 .ensures, c .before .before .before .low .ensures) (four (now (s .args .b)) (s .args .at) (byteOf (s .args .x)) (byteOf (s .args .x / 256)) (byteOf (s .args .x / 65536)) (byteOf (s .args .x / 16777216)))
+returns c =
+    let c1 = c .before .before .before in
+    let a = c1 .before .before .args in
+    rw (c .low4 .ensures, c .before .low3 .ensures, c .before .before .low2 .ensures, c1 .low .ensures)
+    (four (now (a .b)) (a .at) (byteOf (a .x)) (byteOf (a .x / 256)) (byteOf (a .x / 65536)) (byteOf (a .x / 16777216)))
 
 pub put-word-spec : {M : Type 1} → statement M
 put-word-spec =

@@ -29,7 +29,8 @@ read-blocks-requires c κs =
 returns : tie.Need-returns
 returns c =
     let s = c .before .before .before .before .before .before .before .before .before in
-    judge-is (s .pre .0) (s .pre .1) 756 refl _ (c .before .before .before .before .before .before .note-blocks .ensures) (c .before .before .before .note-targets .ensures) (c .read-blocks .ensures)
+    judge-is (s .pre .0) (s .pre .1) 756 refl _ (c .before .before .before .before .before .before .note-blocks .ensures)
+    (c .before .before .before .note-targets .ensures) (c .read-blocks .ensures)
 
 pub judge-spec : {M : Type 1} → statement M
 judge-spec =

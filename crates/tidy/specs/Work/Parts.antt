@@ -5,7 +5,7 @@ use lib.ListN.{length}
 use Rattle.format.specs.declared.Record.{Record}
 use Rattle.layout.specs.declared.Layout.{Layout}
 use Rattle.read.specs.Structure.{codeOf as recordsOfBlock}
-use Rattle.read.specs.Parts.{part, InCode}
+use Rattle.read.specs.Work.{part, InCode}
 use Rattle.inst.specs.declared.Code.{Code}
 use Rattle.codec.specs.Codec.{instOf, codeOf}
 use Rattle.tidy.specs.Tidy.{Placed}

@@ -1,7 +1,7 @@
 -- The reads, judged one by one by the table of writers; the lowest register so far.
 use Prim.Native.Nat.{ℕ, _+_, _-_, _/_, _%_, _≤_, min}
 use mathlib.Core.Path.{_≡_}
-use mathlib.Core.List.{List, [], _∷_, _++_}
+use mathlib.Core.List.{List, [], _∷_, _++_, map}
 use mathlib.Core.Bool.{Bool, false, _&&_, cond}
 use lib.Dec.{eqb, ltb}
 use lib.ListN.{length, getD, take, drop}
@@ -12,8 +12,10 @@ use Rattle.roles.specs.declared.Roles.{Roles}
 use Rattle.roles.specs.Roles.{readsOf, operandsOf, numbersOf}
 use Rattle.paths.specs.Paths.{reachedFrom}
 use Rattle.tidy.specs.declared.Tidiness.{Tidiness}
-use Rattle.tidy.specs.Tidy.{Placed, Field, fieldsAt, reads, wrong, told}
-use Rattle.tidy.specs.Work.Parts.{operandsIn, placedAt}
+use Rattle.read.specs.Work.{part}
+use Rattle.codec.specs.Codec.{codeOf}
+use Rattle.tidy.specs.Tidy.{Placed, Field, placedIn, placedFrom, fieldsAt, reads, wrong, told}
+use Rattle.tidy.specs.Work.Parts.{operandsIn, blocksIn, placedAt}
 use Rattle.tidy.specs.Work.Marks.{edgesIn}
 
 -- a read at place k of block b judged by the table's number
@@ -55,6 +57,9 @@ pub record Five (r : Roles) : Type 0 where
 abbrev pub allReads : List ℕ → Roles → List ℕ
 allReads ops r = drop (r .defs) (take (r .n) (numbersOf (r .reg))) ++ operandsOf ops (r .list)
 
+abbrev pub rolesReads : List ℕ → Layout → Roles → List ℕ
+rolesReads b l r = allReads (operandsIn (recordsOf b) l) r
+
 -- how many, of n operands
 abbrev pub readCount : ℕ → Roles → ℕ
 readCount n r = r .n - r .defs + min (r .list .len) (n - r .list .start)
@@ -68,6 +73,16 @@ readsAt b l at block place =
 abbrev pub readsIn : List Record → Layout → List Placed → List Field
 readsIn rs l xs = reads (operandsIn rs l) xs
 
+-- the reads of a block's records, and of a whole file
+abbrev pub partReads : List ℕ → Layout → ℕ → ℕ → ℕ → List Field
+partReads b l block first count = readsIn (recordsOf b) l (placedIn block 0 (map codeOf (part first count (recordsOf b))))
+
+abbrev pub fileReads : List ℕ → Layout → List Field
+fileReads b l = readsIn (recordsOf b) l (placedFrom 0 (blocksIn (recordsOf b) l))
+
 -- by a table of targets and a table of writers
+abbrev pub steppedIn : List ℕ → List ℕ → Layout → ℕ → ℕ → Tidiness → List ℕ → Tidiness
+steppedIn ts ws l b k s rs = stepped (edgesIn ts) (l .blocks) ws b k s rs
+
 abbrev pub judgedIn : List ℕ → List ℕ → Layout → Tidiness → List Field → Tidiness
 judgedIn ts ws l s fs = judgedAll (edgesIn ts) (l .blocks) ws s fs

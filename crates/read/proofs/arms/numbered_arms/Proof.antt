@@ -10,21 +10,30 @@ use Rattle.format.specs.Record.{recordsOf}
 use Rattle.format.proofs.Laws.{length-records}
 use Rattle.layout.specs.Walk.{walk}
 use Rattle.read.specs.Structure.{State, numbers, numbered, nextArm, tables}
-use Rattle.read.specs.Parts.{part}
+use Rattle.read.specs.Work.{part}
 use Rattle.read.proofs.Laws.{part-pass, part-stop, part-end, part-length, pair, tables-next}
 use Rattle.read.proofs.arms.numbered_arms.Statement.{statement}
 use Rattle.read.proofs.arms.numbered_arms.Tie as tie
 
 abbrev Inv-loop : tie.InvT-loop
-Inv-loop b first count due₀ k₀ due k = (k ≤ count) × (due ≤ k) × (due ≡ tables (take k (part first count (recordsOf b)))) × (k + walk numbers nextArm (due, count - k) (drop k (part first count (recordsOf b))) ≡ numbered (part first count (recordsOf b)))
+Inv-loop b first count due₀ k₀ due k =
+    let rs = part first count (recordsOf b) in
+    (k ≤ count)
+    × (due ≤ k)
+    × (due ≡ tables (take k rs))
+    × (k + walk numbers nextArm (due, count - k) (drop k rs) ≡ numbered rs)
 
 abbrev μ-loop : tie.MeasureT-loop
 μ-loop b first count due₀ k₀ due k = count - k
 
 loop-holds : tie.Need-loop-holds Inv-loop μ-loop
 unfolding tables
-loop-holds c = let a = c .before .args in
-    (omega arith, omega arith, refl, zero-add _ ∙ ap (λ (n : ℕ). walk numbers nextArm (0, n) (part (a .first) (a .count) (recordsOf (now (a .b))))) (omega (arith, part-length (recordsOf (now (a .b))) (a .first) (a .count) (c .before .pre .0))))
+loop-holds c =
+    let a = c .before .args in
+    let rs = recordsOf (now (a .b)) in
+    let size = part-length rs (a .first) (a .count) (c .before .pre .0) in
+    let all : ℕ → ℕ = λ (n : ℕ). walk numbers nextArm (0, n) (part (a .first) (a .count) rs) in
+    (omega arith, omega arith, refl, zero-add _ ∙ ap all (omega (arith, size)))
 
 add-record-at : tie.Need-add-record-at Inv-loop μ-loop
 add-record-at c = omega (arith, length-records (now (c .before .before .before .args .b)))
@@ -39,11 +48,15 @@ numbers-requires : tie.Need-numbers-requires Inv-loop μ-loop
 numbers-requires c κs = search needs
 
 returns : tie.Need-returns Inv-loop μ-loop
-returns c = let l = c .before .before .before .before in
-    let a = l .before .before .args in
+returns c =
+    let t = c .before .before in
+    let l = t .before .before in
+    let p = l .before .before in
+    let a = p .args in
     let rs = recordsOf (now (a .b)) in
     let s : State = (l .loop .due, a .count - l .loop .k) in
-    (part-stop numbers nextArm rs (a .first) (a .count) (l .before .before .pre .0) (l .loop .k) s (c .before .before .before .loop-test .taken) (c .before .before .record-at .ensures) (c .before .numbers .ensures) (not-true _ (c .if1 .taken)) ∙ l .loop .inv .3, l .loop .inv .2)
+    let stop = part-stop numbers nextArm rs (a .first) (a .count) (p .pre .0) (l .loop .k) s (t .before .loop-test .taken) (t .record-at .ensures) in
+    (stop (c .before .numbers .ensures) (not-true _ (c .if1 .taken)) ∙ l .loop .inv .3, l .loop .inv .2)
 
 ends-table-requires : tie.Need-ends-table-requires Inv-loop μ-loop
 ends-table-requires c κs = search needs
@@ -58,14 +71,20 @@ loop-less : tie.Need-loop-less Inv-loop μ-loop
 loop-less c = search needs
 
 loop-again : tie.Need-loop-again Inv-loop μ-loop
-loop-again c = let l = c .before .before .before .before .before in
-    let a = l .before .before .args in
+loop-again c =
+    let t = c .before .before .before in
+    let l = t .before .before in
+    let p = l .before .before in
+    let a = p .args in
     let rs = recordsOf (now (a .b)) in
-    let s : State = (l .loop .due, a .count - l .loop .k) in (
+    let s : State = (l .loop .due, a .count - l .loop .k) in
+    let pass = part-pass numbers nextArm rs (a .first) (a .count) (p .pre .0) (l .loop .k) s (t .before .loop-test .taken) (t .record-at .ensures) in
+    let due = ap (λ (t : ℕ). l .loop .due + t) (c .ends-table .ensures .0) in (
       omega arith,
       omega (arith, c .ends-table .ensures .1),
-      tables-next rs (a .first) (a .count) (l .loop .k) (l .before .before .pre .0) (c .before .before .before .record-at .result) (c .before .before .before .before .loop-test .taken) (c .before .before .before .record-at .ensures) (l .loop .inv .2) (c .ends-table .ensures .0),
-      part-pass numbers nextArm rs (a .first) (a .count) (l .before .before .pre .0) (l .loop .k) s (c .before .before .before .before .loop-test .taken) (c .before .before .before .record-at .ensures) (c .before .before .numbers .ensures) (not-false _ (c .before .if1 .left)) (pair (ap (λ (t : ℕ). l .loop .due + t) (c .ends-table .ensures .0)) (omega arith)) ∙ l .loop .inv .3,
+      tables-next rs (a .first) (a .count) (l .loop .k) (p .pre .0) (t .record-at .result) (t .before .loop-test .taken)
+          (t .record-at .ensures) (l .loop .inv .2) (c .ends-table .ensures .0),
+      pass (c .before .before .numbers .ensures) (not-false _ (c .before .if1 .left)) (pair due (omega arith)) ∙ l .loop .inv .3,
     )
 
 returns-2 : tie.Need-returns-2 Inv-loop μ-loop

@@ -7,7 +7,7 @@ use Rattle.format.specs.Record.{recordsOf}
 use Rattle.format.proofs.Laws.{length-records}
 use Rattle.layout.specs.Walk.{lead}
 use Rattle.read.specs.Structure.{terminator}
-use Rattle.read.specs.Parts.{part}
+use Rattle.read.specs.Work.{part}
 use Rattle.read.proofs.Laws.{part-length}
 use Rattle.layout.proofs.Walks.{lead-le}
 use borrow.Author.Needs.{needs}
@@ -18,8 +18,12 @@ first-terminator-requires : tie.Need-first-terminator-requires
 first-terminator-requires c κs = search needs
 
 add-result : tie.Need-add-result
-add-result c = let a = c .before .before .args in
-    omega (arith, c .first-terminator .ensures, lead-le (λ i. not (terminator i)) (part (a .first) (a .count) (recordsOf (now (a .b)))), part-length (recordsOf (now (a .b))) (a .first) (a .count) (c .before .before .pre), length-records (now (a .b)))
+add-result c =
+    let s = c .before .before in
+    let rs = recordsOf (now (s .args .b)) in
+    let few = lead-le (λ i. not (terminator i)) (part (s .args .first) (s .args .count) rs) in
+    let size = part-length rs (s .args .first) (s .args .count) (s .pre) in
+    omega (arith, c .first-terminator .ensures, few, size, length-records (now (s .args .b)))
 
 returns : tie.Need-returns
 returns c = let a = c .before .before .args in

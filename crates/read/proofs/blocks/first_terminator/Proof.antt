@@ -2,21 +2,27 @@ use Prim.Native.Nat.{_+_, _-_, _≤_}
 use mathlib.Core.Path.{_≡_, ap, _∙_}
 use native.Mathlib.Omega.{arith}
 use native.Mathlib.Nat.{zero-add}
-use mathlib.Core.Bool.{not}
+use mathlib.Core.Bool.{Bool, not}
 use borrow.Author.Needs.{needs}
 use denote.Ref.{now}
 use lib.ListN.{length, drop}
+use Rattle.format.specs.declared.Record.{Record}
 use Rattle.format.specs.Record.{recordsOf}
 use Rattle.format.proofs.Laws.{length-records}
 use Rattle.layout.specs.Walk.{lead}
 use Rattle.read.specs.Structure.{terminator}
-use Rattle.read.specs.Parts.{part}
+use Rattle.read.specs.Work.{part}
 use Rattle.read.proofs.Laws.{tests-pass, tests-stop, tests-end}
 use Rattle.read.proofs.blocks.first_terminator.Statement.{statement}
 use Rattle.read.proofs.blocks.first_terminator.Tie as tie
 
+abbrev goesOn : Record → Bool
+goesOn i = not (terminator i)
+
 abbrev Inv-loop : tie.InvT-loop
-Inv-loop b first count k₀ k = (k ≤ count) × (k + lead (λ i. not (terminator i)) (drop k (part first count (recordsOf b))) ≡ lead (λ i. not (terminator i)) (part first count (recordsOf b)))
+Inv-loop b first count k₀ k =
+    let rs = part first count (recordsOf b) in
+    (k ≤ count) × (k + lead goesOn (drop k rs) ≡ lead goesOn rs)
 
 abbrev μ-loop : tie.MeasureT-loop
 μ-loop b first count k₀ k = count - k
@@ -34,10 +40,12 @@ terminator-requires : tie.Need-terminator-requires Inv-loop μ-loop
 terminator-requires c κs = search needs
 
 returns : tie.Need-returns Inv-loop μ-loop
-returns c = let l = c .before .before .before .before in
-    let a = l .before .before .args in
-    let rs = recordsOf (now (a .b)) in
-    tests-stop (λ i. not (terminator i)) rs (a .first) (a .count) (l .before .before .pre) (l .loop .k) (c .before .before .before .loop-test .taken) (c .before .before .record-at .ensures) (ap not (c .before .terminator .ensures)) (ap not (c .if1 .taken)) ∙ l .loop .inv .1
+returns c =
+    let t = c .before .before in
+    let l = t .before .before in
+    let s = l .before .before in
+    let stop = tests-stop goesOn (recordsOf (now (s .args .b))) (s .args .first) (s .args .count) (s .pre) (l .loop .k) (t .before .loop-test .taken) in
+    stop (t .record-at .ensures) (ap not (c .before .terminator .ensures)) (ap not (c .if1 .taken)) ∙ l .loop .inv .1
 
 add-k : tie.Need-add-k Inv-loop μ-loop
 add-k c = search needs
@@ -46,16 +54,18 @@ loop-less : tie.Need-loop-less Inv-loop μ-loop
 loop-less c = search needs
 
 loop-again : tie.Need-loop-again Inv-loop μ-loop
-loop-again c = let l = c .before .before .before .before in
-    let a = l .before .before .args in
-    let rs = recordsOf (now (a .b)) in
-    (omega arith, tests-pass (λ i. not (terminator i)) rs (a .first) (a .count) (l .before .before .pre) (l .loop .k) (c .before .before .before .loop-test .taken) (c .before .before .record-at .ensures) (ap not (c .before .terminator .ensures)) (ap not (c .if1 .left)) ∙ l .loop .inv .1)
+loop-again c =
+    let t = c .before .before in
+    let l = t .before .before in
+    let s = l .before .before in
+    let pass = tests-pass goesOn (recordsOf (now (s .args .b))) (s .args .first) (s .args .count) (s .pre) (l .loop .k) (t .before .loop-test .taken) in
+    (omega arith, pass (t .record-at .ensures) (ap not (c .before .terminator .ensures)) (ap not (c .if1 .left)) ∙ l .loop .inv .1)
 
 returns-2 : tie.Need-returns-2 Inv-loop μ-loop
 returns-2 c = let l = c .before in
     let a = l .before .before .args in
     let rs = recordsOf (now (a .b)) in
-    tests-end (λ i. not (terminator i)) rs (a .first) (a .count) (l .before .before .pre) (l .loop .k) (c .loop-test .left) ∙ l .loop .inv .1
+    tests-end goesOn rs (a .first) (a .count) (l .before .before .pre) (l .loop .k) (c .loop-test .left) ∙ l .loop .inv .1
 
 pub first-terminator-spec : {M : Type 1} → statement M
 first-terminator-spec =

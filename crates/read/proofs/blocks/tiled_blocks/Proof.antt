@@ -10,20 +10,25 @@ use Rattle.format.specs.Record.{recordsOf}
 use Rattle.format.proofs.Laws.{length-records}
 use Rattle.layout.specs.Walk.{walk}
 use Rattle.read.specs.Structure.{State, tiles, tiled, nextBlock}
-use Rattle.read.specs.Parts.{part}
+use Rattle.read.specs.Work.{part}
 use Rattle.read.proofs.Laws.{part-pass, part-stop, part-end, part-length, pair}
 use Rattle.read.proofs.blocks.tiled_blocks.Statement.{statement}
 use Rattle.read.proofs.blocks.tiled_blocks.Tie as tie
 
 abbrev Inv-loop : tie.InvT-loop
-Inv-loop b first count n due₀ k₀ due k = (k ≤ count) × (k + walk (tiles n) nextBlock (due, count - k) (drop k (part first count (recordsOf b))) ≡ tiled n (part first count (recordsOf b)))
+Inv-loop b first count n due₀ k₀ due k =
+    let bs = part first count (recordsOf b) in
+    (k ≤ count) × (k + walk (tiles n) nextBlock (due, count - k) (drop k bs) ≡ tiled n bs)
 
 abbrev μ-loop : tie.MeasureT-loop
 μ-loop b first count n due₀ k₀ due k = count - k
 
 loop-holds : tie.Need-loop-holds Inv-loop μ-loop
-loop-holds c = let a = c .before .args in
-    (omega arith, zero-add _ ∙ ap (λ (n : ℕ). walk (tiles (a .n)) nextBlock (0, n) (part (a .first) (a .count) (recordsOf (now (a .b))))) (omega (arith, part-length (recordsOf (now (a .b))) (a .first) (a .count) (c .before .pre))))
+loop-holds c =
+    let a = c .before .args in
+    let rs = recordsOf (now (a .b)) in
+    let size = part-length rs (a .first) (a .count) (c .before .pre) in
+    (omega arith, zero-add _ ∙ ap (λ (n : ℕ). walk (tiles (a .n)) nextBlock (0, n) (part (a .first) (a .count) rs)) (omega (arith, size)))
 
 add-record-at : tie.Need-add-record-at Inv-loop μ-loop
 add-record-at c = omega (arith, length-records (now (c .before .before .before .args .b)))
@@ -38,11 +43,14 @@ tiles-requires : tie.Need-tiles-requires Inv-loop μ-loop
 tiles-requires c κs = search needs
 
 returns : tie.Need-returns Inv-loop μ-loop
-returns c = let l = c .before .before .before .before in
-    let a = l .before .before .args in
-    let rs = recordsOf (now (a .b)) in
+returns c =
+    let t = c .before .before in
+    let l = t .before .before in
+    let p = l .before .before in
+    let a = p .args in
     let s : State = (l .loop .due, a .count - l .loop .k) in
-    part-stop (tiles (a .n)) nextBlock rs (a .first) (a .count) (l .before .before .pre) (l .loop .k) s (c .before .before .before .loop-test .taken) (c .before .before .record-at .ensures) (c .before .tiles .ensures) (not-true _ (c .if1 .taken)) ∙ l .loop .inv .1
+    let stop = part-stop (tiles (a .n)) nextBlock (recordsOf (now (a .b))) (a .first) (a .count) (p .pre) (l .loop .k) s (t .before .loop-test .taken) in
+    stop (t .record-at .ensures) (c .before .tiles .ensures) (not-true _ (c .if1 .taken)) ∙ l .loop .inv .1
 
 add-k : tie.Need-add-k Inv-loop μ-loop
 add-k c = search needs
@@ -51,11 +59,15 @@ loop-less : tie.Need-loop-less Inv-loop μ-loop
 loop-less c = search needs
 
 loop-again : tie.Need-loop-again Inv-loop μ-loop
-loop-again c = let l = c .before .before .before .before in
-    let a = l .before .before .args in
-    let rs = recordsOf (now (a .b)) in
+loop-again c =
+    let t = c .before .before in
+    let l = t .before .before in
+    let p = l .before .before in
+    let a = p .args in
     let s : State = (l .loop .due, a .count - l .loop .k) in
-    (omega arith, part-pass (tiles (a .n)) nextBlock rs (a .first) (a .count) (l .before .before .pre) (l .loop .k) s (c .before .before .before .loop-test .taken) (c .before .before .record-at .ensures) (c .before .tiles .ensures) (not-false _ (c .if1 .left)) (pair refl (omega arith)) ∙ l .loop .inv .1)
+    let pass = part-pass (tiles (a .n)) nextBlock (recordsOf (now (a .b))) (a .first) (a .count) (p .pre) (l .loop .k) s (t .before .loop-test .taken) in
+    let on = pass (t .record-at .ensures) (c .before .tiles .ensures) (not-false _ (c .if1 .left)) in
+    (omega arith, on (pair refl (omega arith)) ∙ l .loop .inv .1)
 
 returns-2 : tie.Need-returns-2 Inv-loop μ-loop
 returns-2 c = let l = c .before in

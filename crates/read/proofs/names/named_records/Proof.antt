@@ -30,10 +30,13 @@ names-exist-requires : tie.Need-names-exist-requires Inv-loop μ-loop
 names-exist-requires c κs = search needs
 
 returns : tie.Need-returns Inv-loop μ-loop
-returns c = let l = c .before .before .before .before in
+returns c =
+    let l = c .before .before .before .before in
     let a = l .before .before .args in
     let b = now (a .b) in
-    lead-stop (namesExist (a .n)) (recordsOf b) (l .loop .k) blank (rw (length-records b) (omega arith)) (told (namesExist (a .n)) (c .before .before .record-at .ensures) (c .before .names-exist .ensures) (not-true _ (c .if1 .taken))) ∙ l .loop .inv .1
+    let test = told (namesExist (a .n)) (c .before .before .record-at .ensures) (c .before .names-exist .ensures) in
+    let stop = lead-stop (namesExist (a .n)) (recordsOf b) (l .loop .k) blank (rw (length-records b) (omega arith)) in
+    stop (test (not-true _ (c .if1 .taken))) ∙ l .loop .inv .1
 
 add-k : tie.Need-add-k Inv-loop μ-loop
 add-k c = search needs
@@ -42,10 +45,13 @@ loop-less : tie.Need-loop-less Inv-loop μ-loop
 loop-less c = search needs
 
 loop-again : tie.Need-loop-again Inv-loop μ-loop
-loop-again c = let l = c .before .before .before .before in
+loop-again c =
+    let l = c .before .before .before .before in
     let a = l .before .before .args in
     let b = now (a .b) in
-    (omega arith, lead-pass (namesExist (a .n)) (recordsOf b) (l .loop .k) blank (rw (length-records b) (omega arith)) (told (namesExist (a .n)) (c .before .before .record-at .ensures) (c .before .names-exist .ensures) (not-false _ (c .if1 .left))) ∙ l .loop .inv .1)
+    let test = told (namesExist (a .n)) (c .before .before .record-at .ensures) (c .before .names-exist .ensures) in
+    let pass = lead-pass (namesExist (a .n)) (recordsOf b) (l .loop .k) blank (rw (length-records b) (omega arith)) in
+    (omega arith, pass (test (not-false _ (c .if1 .left))) ∙ l .loop .inv .1)
 
 returns-2 : tie.Need-returns-2 Inv-loop μ-loop
 returns-2 c = let l = c .before in

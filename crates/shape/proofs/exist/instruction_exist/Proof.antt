@@ -90,7 +90,10 @@ returns-3 : tie.Need-returns-3
 returns-3 c = exist-at (c .before .before .args .n) (c .before .before .args .r) (c .before .match .keys3) (c .two .ensures)
 
 returns-4 : tie.Need-returns-4
-returns-4 c = exist-at (c .before .before .args .n) (c .before .before .args .r) (c .before .match .keys4) (address-exists (c .before .before .args .n) (c .before .before .args .r) (c .one3 .ensures))
+returns-4 c =
+    let m = c .before in
+    exist-at (m .before .args .n) (m .before .args .r) (m .match .keys4)
+    (address-exists (c .before .before .args .n) (c .before .before .args .r) (c .one3 .ensures))
 
 returns-5 : tie.Need-returns-5
 returns-5 c = exist-at (c .before .before .args .n) (c .before .before .args .r) (c .before .match .keys5) (c .four .ensures)
@@ -117,10 +120,16 @@ returns-12 : tie.Need-returns-12
 returns-12 c = exist-at (c .before .before .args .n) (c .before .before .args .r) (c .before .match .keys12) (c .three4 .ensures)
 
 returns-13 : tie.Need-returns-13
-returns-13 c = exist-at (c .before .before .before .before .before .args .n) (c .before .before .before .before .before .args .r) (c .before .before .before .before .match .keys13) (both refl (lt-ltb _ _ (c .before .if1 .taken)) (c .list-exists .ensures ∙ sym (and-true _)))
+returns-13 c =
+    let m = c .before .before .before .before in
+    exist-at (m .before .args .n) (m .before .args .r) (m .match .keys13)
+    (both refl (lt-ltb _ _ (c .before .if1 .taken)) (c .list-exists .ensures ∙ sym (and-true _)))
 
 returns-14 : tie.Need-returns-14
-returns-14 c = exist-at (c .before .before .before .before .args .n) (c .before .before .before .before .args .r) (c .before .before .before .match .keys13) (le-ltb _ _ (c .if1 .left) ∙ neither _ refl (le-ltb _ _ (c .if1 .left)))
+returns-14 c =
+    let m = c .before .before .before in
+    exist-at (m .before .args .n) (m .before .args .r) (m .match .keys13)
+    (le-ltb _ _ (c .if1 .left) ∙ neither _ refl (le-ltb _ _ (c .if1 .left)))
 
 returns-15 : tie.Need-returns-15
 returns-15 c = exist-at (c .before .before .args .n) (c .before .before .args .r) (c .before .match .keys14) (c .two4 .ensures)
@@ -135,40 +144,67 @@ returns-18 : tie.Need-returns-18
 returns-18 c = exist-at (c .before .before .args .n) (c .before .before .args .r) (c .before .match .keys17) (c .three5 .ensures)
 
 returns-19 : tie.Need-returns-19
-returns-19 c = exist-at (c .before .before .before .before .before .args .n) (c .before .before .before .before .before .args .r) (c .before .before .before .before .match .keys18) (both (c .before .before .before .list-exists2 .ensures) (c .before .before .if2 .taken) (rw (c .if3 .taken)))
+returns-19 c =
+    let m = c .before .before .before .before in
+    exist-at (m .before .args .n) (m .before .args .r) (m .match .keys18)
+    (both (c .before .before .before .list-exists2 .ensures) (c .before .before .if2 .taken) (rw (c .if3 .taken)))
 
 returns-20 : tie.Need-returns-20
-returns-20 c = exist-at (c .before .before .before .before .before .before .args .n) (c .before .before .before .before .before .before .args .r) (c .before .before .before .before .before .match .keys18) (both (c .before .before .before .before .list-exists2 .ensures) (c .before .before .before .if2 .taken) (rw (← optional-some _ (c .before .if3 .left)) (c .one4 .ensures)))
+returns-20 c =
+    let m = c .before .before .before .before .before in
+    exist-at (m .before .args .n) (m .before .args .r) (m .match .keys18)
+    (both (c .before .before .before .before .list-exists2 .ensures) (c .before .before .before .if2 .taken)
+    (rw (← optional-some _ (c .before .if3 .left)) (c .one4 .ensures)))
 
 returns-21 : tie.Need-returns-21
-returns-21 c = exist-at (c .before .before .before .args .n) (c .before .before .before .args .r) (c .before .before .match .keys18) (c .if2 .left ∙ neither _ (c .before .list-exists2 .ensures) (c .if2 .left))
+returns-21 c =
+    let m = c .before .before in
+    exist-at (m .before .args .n) (m .before .args .r) (m .match .keys18)
+    (c .if2 .left ∙ neither _ (c .before .list-exists2 .ensures) (c .if2 .left))
 
 returns-22 : tie.Need-returns-22
 returns-22 c = exist-at (c .before .before .args .n) (c .before .before .args .r) (c .before .match .keys19) (c .one5 .ensures)
 
 returns-23 : tie.Need-returns-23
-returns-23 c = exist-at (c .before .before .before .before .before .args .n) (c .before .before .before .before .before .args .r) (c .before .before .before .before .match .keys20) (both refl (lt-ltb _ _ (c .before .if4 .taken)) (c .two6 .ensures))
+returns-23 c =
+    let m = c .before .before .before .before in
+    exist-at (m .before .args .n) (m .before .args .r) (m .match .keys20)
+    (both refl (lt-ltb _ _ (c .before .if4 .taken)) (c .two6 .ensures))
 
 returns-24 : tie.Need-returns-24
-returns-24 c = exist-at (c .before .before .before .before .args .n) (c .before .before .before .before .args .r) (c .before .before .before .match .keys20) (le-ltb _ _ (c .if4 .left) ∙ neither _ refl (le-ltb _ _ (c .if4 .left)))
+returns-24 c =
+    let m = c .before .before .before in
+    exist-at (m .before .args .n) (m .before .args .r) (m .match .keys20)
+    (le-ltb _ _ (c .if4 .left) ∙ neither _ refl (le-ltb _ _ (c .if4 .left)))
 
 returns-25 : tie.Need-returns-25
-returns-25 c = exist-at (c .before .before .before .before .before .args .n) (c .before .before .before .before .before .args .r) (c .before .before .before .before .match .keys21) (both refl (lt-ltb _ _ (c .before .if5 .taken)) (c .one6 .ensures))
+returns-25 c =
+    let m = c .before .before .before .before in
+    exist-at (m .before .args .n) (m .before .args .r) (m .match .keys21)
+    (both refl (lt-ltb _ _ (c .before .if5 .taken)) (c .one6 .ensures))
 
 returns-26 : tie.Need-returns-26
-returns-26 c = exist-at (c .before .before .before .before .args .n) (c .before .before .before .before .args .r) (c .before .before .before .match .keys21) (le-ltb _ _ (c .if5 .left) ∙ neither _ refl (le-ltb _ _ (c .if5 .left)))
+returns-26 c =
+    let m = c .before .before .before in
+    exist-at (m .before .args .n) (m .before .args .r) (m .match .keys21)
+    (le-ltb _ _ (c .if5 .left) ∙ neither _ refl (le-ltb _ _ (c .if5 .left)))
 
 returns-27 : tie.Need-returns-27
 returns-27 c = exist-at (c .before .before .before .args .n) (c .before .before .before .args .r) (c .before .before .match .keys22) (rw (c .if6 .taken))
 
 returns-28 : tie.Need-returns-28
-returns-28 c = exist-at (c .before .before .before .before .args .n) (c .before .before .before .before .args .r) (c .before .before .before .match .keys22) (rw (← optional-some _ (c .before .if6 .left)) (c .one7 .ensures))
+returns-28 c =
+    let m = c .before .before .before in
+    exist-at (m .before .args .n) (m .before .args .r) (m .match .keys22)
+    (rw (← optional-some _ (c .before .if6 .left)) (c .one7 .ensures))
 
 returns-29 : tie.Need-returns-29
 returns-29 c = exist-at (c .before .args .n) (c .before .args .r) (c .match .keys23) (refl)
 
 returns-30 : tie.Need-returns-30
-returns-30 c = ap (λ (l : List Place). allExist (c .before .args .n) l (fields (c .before .args .r))) (past-kinds (c .before .args .r) (past 23 _ (c .match .rest)))
+returns-30 c =
+    ap (λ (l : List Place). allExist (c .before .args .n) l (fields (c .before .args .r)))
+    (past-kinds (c .before .args .r) (past 23 _ (c .match .rest)))
 
 pub instruction-exist-spec : {M : Type 1} → statement M
 instruction-exist-spec =

@@ -37,8 +37,15 @@ add-result-5 : tie.Need-add-result-5
 add-result-5 c = search needs
 
 returns : tie.Need-returns
-returns c = let a = c .before .before .before .before .before .before .args in
-    rw (c .wide6 .ensures, c .before .wide5 .ensures, c .before .before .wide4 .ensures, c .before .before .before .wide3 .ensures, c .before .before .before .before .wide2 .ensures, c .before .before .before .before .before .wide .ensures) (six-zeros (a .a) (a .b) (a .c) (a .d) (a .e) (a .f))
+returns c =
+    let c5 = c .before in
+    let c4 = c5 .before in
+    let c3 = c4 .before in
+    let c2 = c3 .before in
+    let c1 = c2 .before in
+    let a = c1 .before .args in
+    rw (c .wide6 .ensures, c5 .wide5 .ensures, c4 .wide4 .ensures, c3 .wide3 .ensures, c2 .wide2 .ensures, c1 .wide .ensures)
+    (six-zeros (a .a) (a .b) (a .c) (a .d) (a .e) (a .f))
 
 pub all-zero-spec : {M : Type 1} → statement M
 all-zero-spec =

@@ -20,7 +20,9 @@ returns-2 : tie.Need-returns-2
 returns-2 c = rw (c .before .match .keys2) (c .all-zero .ensures)
 
 returns-3 : tie.Need-returns-3
-returns-3 c = c .blank .ensures ∙ ap (λ (l : List Place). allFit l (fields (c .before .before .args .r))) (at-rest armPlaces [] (past 2 _ (c .before .match .rest)))
+returns-3 c =
+    c .blank .ensures
+    ∙ ap (λ (l : List Place). allFit l (fields (c .before .before .args .r))) (at-rest armPlaces [] (past 2 _ (c .before .match .rest)))
 
 pub arm-fits-spec : {M : Type 1} → statement M
 arm-fits-spec = tie.close (tie.spec all-zero-requires blank-requires returns returns-2 returns-3)

@@ -26,9 +26,17 @@ all-zero-requires : tie.Need-all-zero-requires
 all-zero-requires c κs = search needs
 
 returns : tie.Need-returns
-returns c = let a = c .before .before .before .before .before .before .before .args in
+returns c =
+    let c6 = c .before in
+    let c5 = c6 .before in
+    let c4 = c5 .before in
+    let c3 = c4 .before in
+    let c2 = c3 .before in
+    let c1 = c2 .before in
+    let a = c1 .before .args in
     c .all-zero .ensures
-    ∙ rw (c .before .beyond6 .ensures, c .before .before .beyond5 .ensures, c .before .before .before .beyond4 .ensures, c .before .before .before .before .beyond3 .ensures, c .before .before .before .before .before .beyond2 .ensures, c .before .before .before .before .before .before .beyond .ensures) (picked (a .used) (a .r))
+    ∙ rw (c6 .beyond6 .ensures, c5 .beyond5 .ensures, c4 .beyond4 .ensures, c3 .beyond3 .ensures, c2 .beyond2 .ensures, c1 .beyond .ensures)
+    (picked (a .used) (a .r))
 
 pub blank-spec : {M : Type 1} → statement M
 blank-spec =

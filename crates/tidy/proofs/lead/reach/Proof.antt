@@ -131,7 +131,8 @@ enter-requires-2 c κs =
     let ts = now (s .args .targets) in
     let a = s .args .from .0 in
     let h = c .before .before .before .before .before .before .before .before .loop .inv in
-    entered-sized (held-sized ts (s .pre .1) a h (c .before .before .before .before .before .before .before .loop-test .taken)) (c .before .before .before .enter .ensures)
+    entered-sized (held-sized ts (s .pre .1) a h (c .before .before .before .before .before .before .before .loop-test .taken))
+    (c .before .before .before .enter .ensures)
 
 loop-less : tie.Need-loop-less Inv-loop μ-loop
 loop-less c =
@@ -151,7 +152,8 @@ loop-again c =
     let ts = now (s .args .targets) in
     let a = s .args .from .0 in
     let h = c .before .before .before .before .before .before .before .before .before .loop .inv in
-    held-more ts (s .pre .1) a h (c .before .before .before .before .before .before .before .before .loop-test .taken) (c .before .before .before .before .enter .ensures) (c .enter2 .ensures)
+    held-more ts (s .pre .1) a h (c .before .before .before .before .before .before .before .before .loop-test .taken)
+    (c .before .before .before .before .enter .ensures) (c .enter2 .ensures)
 
 returns : tie.Need-returns Inv-loop μ-loop
 returns c =

@@ -14,13 +14,15 @@ no-requires-2 : tie.Need-no-requires-2
 no-requires-2 c κs = search needs
 
 returns-2 : tie.Need-returns-2
-returns-2 c = let a = c .before .before .before .before .before .before .args in c .no2 .ensures ∙ lower-kept (a .s) (a .r .0) (c .before .before .before .before .if1 .left) (c .before .if2 .taken)
+returns-2 c = let a = c .before .before .before .before .before .before .args in c .no2 .ensures
+    ∙ lower-kept (a .s) (a .r .0) (c .before .before .before .before .if1 .left) (c .before .if2 .taken)
 
 no-requires-3 : tie.Need-no-requires-3
 no-requires-3 c κs = search needs
 
 returns-3 : tie.Need-returns-3
-returns-3 c = let a = c .before .before .before .before .before .before .args in c .no3 .ensures ∙ lower-new (a .s) (a .r .0) (c .before .before .before .before .if1 .left) (c .before .if2 .left)
+returns-3 c = let a = c .before .before .before .before .before .before .args in c .no3 .ensures
+    ∙ lower-new (a .s) (a .r .0) (c .before .before .before .before .if1 .left) (c .before .if2 .left)
 
 pub lower-spec : {M : Type 1} → statement M
 lower-spec =

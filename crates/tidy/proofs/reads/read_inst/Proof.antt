@@ -20,7 +20,8 @@ roles-of-requires : tie.Need-roles-of-requires
 roles-of-requires c κs = search needs
 
 read-roles-requires : tie.Need-read-roles-requires
-read-roles-requires c κs = let p = c .before .before .before .before .before .pre in (p .0, five-of (c .before .before .inst-at .result) (c .roles-of .ensures), p .1, p .2)
+read-roles-requires c κs = let p = c .before .before .before .before .before .pre in
+    (p .0, five-of (c .before .before .inst-at .result) (c .roles-of .ensures), p .1, p .2)
 
 returns : tie.Need-returns
 returns c =

@@ -44,7 +44,8 @@ returns-3 c =
     let a = s .args in
     let es = edgesIn (now (a .targets)) in
     let w = c .before .before .wrong .ensures in
-    (w .0, c .lower .ensures ∙ step-wrong es (a .registers) (now (a .ws)) (a .block .0) (a .place) (a .s) (a .r .0) (omega arith) (sym (w .1) ∙ not-false _ (c .before .if2 .left)))
+    let is = sym (w .1) ∙ not-false _ (c .before .if2 .left) in
+    (w .0, c .lower .ensures ∙ step-wrong es (a .registers) (now (a .ws)) (a .block .0) (a .place) (a .s) (a .r .0) (omega arith) is)
 
 pub read-one-spec : {M : Type 1} → statement M
 read-one-spec =

@@ -1,5 +1,5 @@
 use Prim.Native.Nat.{_+_, _-_, _≤_, _<_}
-use mathlib.Core.Path.{_≡_, refl, sym, ap, _∙_}
+use mathlib.Core.Path.{_≡_, refl, ap, _∙_}
 use native.Mathlib.Omega.{arith}
 use denote.Ref.{now}
 use lib.ListN.{length, drop}
@@ -33,7 +33,8 @@ loop-holds : tie.Need-loop-holds Inv-loop μ-loop
 loop-holds c = (omega arith, c .before .before .before .before .pre .3, refl)
 
 read-reg-requires : tie.Need-read-reg-requires Inv-loop μ-loop
-read-reg-requires c κs = let p = c .before .before .before .before .before .before .pre in (p .0, p .1, rw (← c .before .before .read-count .ensures) (c .loop-test .taken))
+read-reg-requires c κs = let p = c .before .before .before .before .before .before .pre in
+    (p .0, p .1, rw (← c .before .before .read-count .ensures) (c .loop-test .taken))
 
 read-one-requires : tie.Need-read-one-requires Inv-loop μ-loop
 read-one-requires c κs = let p = c .before .before .before .before .before .before .before .before .pre in (p .2, c .before .before .before .loop .inv .1)

@@ -26,15 +26,19 @@ returns-3 c =
     let s = c .before .before .before .before .before in
     let a = s .args in
     let es = edgesIn (now (a .targets)) in
-    let e = judged-else es (a .v) (a .block .0) (a .place) (c .before .before .before .before .if1 .left) (c .before .before .before .if2 .left) (c .before .before .if3 .taken) (c .if4 .taken) in
+    let e = judged-else es (a .v) (a .block .0) (a .place) (c .before .before .before .before .if1 .left) (c .before .before .before .if2 .left)
+    (c .before .before .if3 .taken) (c .if4 .taken) in
     (s .pre, ap not (ne-eqb (a .block .0) _ (c .if4 .taken)) ∙ e)
 
 returns-4 : tie.Need-returns-4
 returns-4 c =
     let s = c .before .before .before .before .before in
     let a = s .args in
-    let es = edgesIn (now (a .targets)) in
-    (s .pre, judged-here es (a .v) (a .block .0) (a .place) (c .before .before .before .before .if1 .left) (c .before .before .before .if2 .left) (c .before .before .if3 .taken) (c .if4 .left))
+    let es = edgesIn (now (a .targets)) in (
+      s .pre,
+      judged-here es (a .v) (a .block .0) (a .place) (c .before .before .before .before .if1 .left) (c .before .before .before .if2 .left)
+          (c .before .before .if3 .taken) (c .if4 .left),
+    )
 
 returns-5 : tie.Need-returns-5
 returns-5 c =
@@ -51,8 +55,11 @@ returns-6 c =
     let s = c .before .before .before .before .before .before .before in
     let a = s .args in
     let es = edgesIn (now (a .targets)) in
-    let e = c .leads .ensures in
-    (e .0, e .1 ∙ judged-lead es (a .v) (a .block .0) (a .place) (c .before .before .before .before .before .before .if1 .left) (c .before .before .before .before .if3 .left) (c .before .before .if5 .left))
+    let e = c .leads .ensures in (
+      e .0,
+      e .1 ∙ judged-lead es (a .v) (a .block .0) (a .place) (c .before .before .before .before .before .before .if1 .left)
+          (c .before .before .before .before .if3 .left) (c .before .before .if5 .left),
+    )
 
 pub wrong-spec : {M : Type 1} → statement M
 wrong-spec =

@@ -138,7 +138,8 @@ loop-again c =
     let q = length-records (now (s .args .b)) in
     let l = c .before .before .before .before .before .before .before .before .loop in
     let t = c .targets-of .result in
-    let at = ap (λ (x : Code). x .inst) (code-at (now (s .args .b)) (s .args .l .code + c .before .before .before .before .before .record-at .result .p2 - 1)) in
+    let at = ap (λ (x : Code). x .inst)
+    (code-at (now (s .args .b)) (s .args .l .code + c .before .before .before .before .before .record-at .result .p2 - 1)) in
     let e = block-end f (l .k) (omega arith) (c .before .before .before .before .before .record-at .ensures) in
     let view = c .before .view-of .ensures ∙ ap viewOf (c .before .before .inst-at .ensures ∙ at) ∙ sym e in
     let p = subst (λ (x : End). Pair (targets x) (t .one .0) (t .two .0)) view (c .targets-of .ensures) in

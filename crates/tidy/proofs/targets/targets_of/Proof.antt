@@ -22,7 +22,8 @@ returns : tie.Need-returns
 returns c = subst (λ (x : End). Pair (targets x) (c .before .e .given .0 .0 .0) 160) (sym (c .before .e .given .1)) (refl, refl)
 
 returns-2 : tie.Need-returns-2
-returns-2 c = subst (λ (x : End). Pair (targets x) (c .before .e2 .given .0 .1 .0 .0) (c .before .e2 .given .0 .1 .1 .0 .0)) (sym (c .before .e2 .given .1)) (refl, refl)
+returns-2 c = subst (λ (x : End). Pair (targets x) (c .before .e2 .given .0 .1 .0 .0) (c .before .e2 .given .0 .1 .1 .0 .0))
+    (sym (c .before .e2 .given .1)) (refl, refl)
 
 returns-3 : tie.Need-returns-3
 returns-3 c = subst (λ (x : End). Pair (targets x) 160 160) (sym (c .before .e3 .given .1)) (refl, refl)

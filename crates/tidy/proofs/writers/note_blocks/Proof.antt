@@ -75,7 +75,8 @@ note-block-requires c κs =
     let s = c .before .before .before .before .before .before .before .before .before .before .before in
     let f = s .pre in
     let q = length-records (now (s .args .b)) in
-    let i = block-in f (c .before .before .before .before .before .before .before .loop .k) (omega arith) (c .before .before .before .before .record-at .ensures) in
+    let i = block-in f (c .before .before .before .before .before .before .before .loop .k) (omega arith)
+    (c .before .before .before .before .record-at .ensures) in
     omega arith
 
 add-k : tie.Need-add-k Inv-loop μ-loop

@@ -44,7 +44,8 @@ returns c =
     let i = c .before .before .before .before .before .before .before .inst-at in
     let is = i .ensures ∙ ap (λ (x : Code). x .inst) (code-at (now (a .b)) (a .at)) in
     c .before .before .note-defs .ensures
-    ∙ inst-noted (now (a .ws)) (a .block .0) (a .place) (i .result) is (c .before .before .before .roles-of .ensures) (c .before .before .before .before .before .before .kind .ensures)
+    ∙ inst-noted (now (a .ws)) (a .block .0) (a .place) (i .result) is (c .before .before .before .roles-of .ensures)
+    (c .before .before .before .before .before .before .kind .ensures)
 
 pub note-inst-spec : {M : Type 1} → statement M
 note-inst-spec =

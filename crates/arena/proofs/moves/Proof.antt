@@ -1,0 +1,61 @@
+use Prim.Native.Nat.{_+_}
+use mathlib.Core.Path.{refl, sym, ap, _∙_}
+use mathlib.Core.Bool.{Bool, _&&_}
+use borrow.Author.Tests.{le-leb, lt-leb}
+use denote.Ref.{now}
+use Rattle.arena.specs.Arena.{room}
+use Rattle.arena.proofs.Laws.{moves-by}
+use borrow.Author.Needs.{needs}
+use Rattle.arena.proofs.moves.Statement.{statement}
+use Rattle.arena.proofs.moves.Tie as tie
+
+is-last-requires : tie.Need-is-last-requires
+is-last-requires c κs = search needs
+
+returns : tie.Need-returns
+returns c =
+    let a = c .before .before .before .args in
+    moves-by (now (a .work)) (a .r) (a .top) (sym (c .if1 .taken) ∙ c .before .is-last .ensures) refl
+
+size-of-requires : tie.Need-size-of-requires
+size-of-requires c κs = search needs
+
+cast-if2 : tie.Need-cast-if2
+cast-if2 c = search needs
+
+add-if2 : tie.Need-add-if2
+add-if2 c = search needs
+
+has-room-requires : tie.Need-has-room-requires
+has-room-requires c κs = search needs
+
+returns-2 : tie.Need-returns-2
+returns-2 c =
+    let a = c .before .before .before .before .before .before .before .args in
+    let n = c .before .before .before .size-of in
+    let here = sym (le-leb (a .r .p1 + n .result) (a .top) (c .before .if2 .taken)) in
+    c .has-room .ensures
+    ∙ ap (λ (b : Bool). b && room (now (a .work)) (a .top) (n .result)) here
+    ∙ moves-by (now (a .work)) (a .r) (a .top) (sym (c .before .before .before .before .if1 .left) ∙ c .before .before .before .before .before .is-last .ensures) (n .ensures)
+
+returns-3 : tie.Need-returns-3
+returns-3 c =
+    let a = c .before .before .before .before .before .before .args in
+    let n = c .before .before .size-of in
+    let past = lt-leb (a .r .p1 + n .result) (a .top) (c .if2 .left) in
+    past
+    ∙ ap (λ (b : Bool). b && room (now (a .work)) (a .top) (n .result)) (sym past)
+    ∙ moves-by (now (a .work)) (a .r) (a .top) (sym (c .before .before .before .if1 .left) ∙ c .before .before .before .before .is-last .ensures) (n .ensures)
+
+pub moves-spec : {M : Type 1} → statement M
+moves-spec =
+    tie.close
+    (tie.spec
+    is-last-requires
+    returns
+    size-of-requires
+    cast-if2
+    add-if2
+    has-room-requires
+    returns-2
+    returns-3)

@@ -1,0 +1,95 @@
+use Prim.Native.Nat.{ℕ, _+_}
+use mathlib.Core.Path.{sym, ap, _∙_}
+use mathlib.Core.List.{List}
+use borrow.Author.Tests.{not-true, not-false}
+use native.Mathlib.Omega.{arith}
+use denote.Ref.{now}
+use Rattle.store.specs.Store.{putOf}
+use Rattle.codec.specs.Codec.{recordOf}
+use Rattle.arena.specs.Arena.{arena}
+use Rattle.arena.proofs.Laws.{growing, by-grows}
+use borrow.Author.Needs.{needs}
+use Rattle.arena.proofs.push.Statement.{statement}
+use Rattle.arena.proofs.push.Tie as tie
+
+record-at-requires : tie.Need-record-at-requires
+record-at-requires c κs = search needs
+
+grows-requires : tie.Need-grows-requires
+grows-requires c κs = search needs
+
+same-length : tie.Need-same-length
+same-length c = search needs
+
+same-length-2 : tie.Need-same-length-2
+same-length-2 c = search needs
+
+returns : tie.Need-returns
+returns c =
+    let q = c .before in
+    let a = q .before .before .before .before .before .before .args in
+    by-grows (a .k) (a .c) (arena (now (a .work)) (now (a .table)) (a .top)) (q .before .before .record-at .ensures) (sym (not-true _ (c .if1 .taken)) ∙ q .grows .ensures)
+
+record-of-requires : tie.Need-record-of-requires
+record-of-requires c κs = search needs
+
+put-record-requires : tie.Need-put-record-requires
+put-record-requires c κs = search needs
+
+add-point : tie.Need-add-point
+add-point c =
+    let q = c .before .before .before .before .before .before .before in
+    let a = q .before .before .before .before .before .before .args in
+    let g = growing (now (a .work)) (q .before .before .record-at .result) (a .top) (sym (q .grows .ensures) ∙ not-false _ (c .before .before .before .before .before .before .if1 .left)) in
+    omega (arith, g .fits, g .word)
+
+cast-point : tie.Need-cast-point
+cast-point c =
+    let q = c .before .before .before .before .before .before .before in
+    let a = q .before .before .before .before .before .before .args in
+    let g = growing (now (a .work)) (q .before .before .record-at .result) (a .top) (sym (q .grows .ensures) ∙ not-false _ (c .before .before .before .before .before .before .if1 .left)) in
+    omega (arith, g .fits, g .word)
+
+point-requires : tie.Need-point-requires
+point-requires c κs = search needs
+
+add-result : tie.Need-add-result
+add-result c =
+    let q = c .before .before .before .before .before .before .before .before .before .before in
+    let a = q .before .before .before .before .before .before .args in
+    let g = growing (now (a .work)) (q .before .before .record-at .result) (a .top) (sym (q .grows .ensures) ∙ not-false _ (c .before .before .before .before .before .before .before .before .before .if1 .left)) in
+    omega (arith, g .fits, g .word)
+
+same-length-3 : tie.Need-same-length-3
+same-length-3 c = search needs
+
+same-length-4 : tie.Need-same-length-4
+same-length-4 c = search needs
+
+returns-2 : tie.Need-returns-2
+returns-2 c =
+    let q = c .before .before .before .before .before .before .before .before .before .before in
+    let a = q .before .before .before .before .before .before .args in
+    let put = c .before .before .before .before .before .before .put-record .ensures ∙ ap (putOf (now (a .work)) (a .top)) (c .before .before .before .before .before .before .before .record-of .ensures) in
+    ap (λ (w : List ℕ). arena w (c .before .before .point .last .0) (a .top + 1)) put
+    ∙ ap (λ (t : List ℕ). arena (putOf (now (a .work)) (a .top) (recordOf (a .c))) t (a .top + 1)) (c .before .before .point .ensures)
+    ∙ by-grows (a .k) (a .c) (arena (now (a .work)) (now (a .table)) (a .top)) (q .before .before .record-at .ensures) (sym (not-false _ (c .before .before .before .before .before .before .before .before .before .if1 .left)) ∙ q .grows .ensures)
+
+pub push-spec : {M : Type 1} → statement M
+push-spec =
+    tie.close
+    (tie.spec
+    record-at-requires
+    grows-requires
+    same-length
+    same-length-2
+    returns
+    record-of-requires
+    put-record-requires
+    add-point
+    cast-point
+    point-requires
+    add-result
+    same-length-3
+    same-length-4
+    returns-2)

@@ -1,0 +1,137 @@
+use Prim.Native.Nat.{ℕ, _+_, _*_}
+use mathlib.Core.Path.{sym, ap, _∙_}
+use mathlib.Core.List.{List}
+use borrow.Author.Tests.{not-true, not-false}
+use native.Mathlib.Omega.{arith}
+use denote.Ref.{now}
+use lib.ListN.{drop}
+use lib.Seq.{paste}
+use Rattle.arena.specs.Arena.{arena, pointed}
+use Rattle.arena.proofs.Laws.{moving, by-moves}
+use borrow.Author.Needs.{needs}
+use Rattle.arena.proofs.to_end.Statement.{statement}
+use Rattle.arena.proofs.to_end.Tie as tie
+
+record-at-requires : tie.Need-record-at-requires
+record-at-requires c κs = search needs
+
+moves-requires : tie.Need-moves-requires
+moves-requires c κs = search needs
+
+same-length : tie.Need-same-length
+same-length c = search needs
+
+same-length-2 : tie.Need-same-length-2
+same-length-2 c = search needs
+
+returns : tie.Need-returns
+returns c =
+    let q = c .before in
+    let a = q .before .before .before .before .before .before .args in
+    by-moves (a .k) (arena (now (a .work)) (now (a .table)) (a .top)) (q .before .before .record-at .ensures) (sym (not-true _ (c .if1 .taken)) ∙ q .moves .ensures)
+
+size-of-requires : tie.Need-size-of-requires
+size-of-requires c κs = search needs
+
+cast-copy : tie.Need-cast-copy
+cast-copy c = search needs
+
+mul-copy : tie.Need-mul-copy
+mul-copy c = search needs
+
+mul-copy-2 : tie.Need-mul-copy-2
+mul-copy-2 c =
+    let q = c .before .before .before .before in
+    let a = q .before .before .before .before .before .before .args in
+    let m = moving (now (a .work)) (q .before .before .record-at .result) (a .top) (sym (q .moves .ensures) ∙ not-false _ (c .before .before .before .if1 .left)) in
+    let e = c .before .before .size-of .ensures in
+    omega (arith, m .below, m .fits, m .word, e)
+
+mul-copy-3 : tie.Need-mul-copy-3
+mul-copy-3 c = search needs
+
+copy-requires : tie.Need-copy-requires
+copy-requires c κs =
+    let q = c .before .before .before .before in
+    let a = q .before .before .before .before .before .before .args in
+    let m = moving (now (a .work)) (q .before .before .record-at .result) (a .top) (sym (q .moves .ensures) ∙ not-false _ (c .before .before .before .if1 .left)) in
+    let e = c .before .before .size-of .ensures in
+    (omega (arith, m .below, e), omega (arith, m .fits, e))
+
+cast-point : tie.Need-cast-point
+cast-point c =
+    let q = c .before .before .before .before .before .before .before .before in
+    let a = q .before .before .before .before .before .before .args in
+    let m = moving (now (a .work)) (q .before .before .record-at .result) (a .top) (sym (q .moves .ensures) ∙ not-false _ (c .before .before .before .before .before .before .before .if1 .left)) in
+    let e = c .before .before .before .before .before .before .size-of .ensures in
+    omega (arith, m .below, m .fits, m .word, e)
+
+add-point : tie.Need-add-point
+add-point c =
+    let q = c .before .before .before .before .before .before .before .before in
+    let a = q .before .before .before .before .before .before .args in
+    let m = moving (now (a .work)) (q .before .before .record-at .result) (a .top) (sym (q .moves .ensures) ∙ not-false _ (c .before .before .before .before .before .before .before .if1 .left)) in
+    let e = c .before .before .before .before .before .before .size-of .ensures in
+    omega (arith, m .below, m .fits, m .word, e)
+
+cast-point-2 : tie.Need-cast-point-2
+cast-point-2 c =
+    let q = c .before .before .before .before .before .before .before .before in
+    let a = q .before .before .before .before .before .before .args in
+    let m = moving (now (a .work)) (q .before .before .record-at .result) (a .top) (sym (q .moves .ensures) ∙ not-false _ (c .before .before .before .before .before .before .before .if1 .left)) in
+    let e = c .before .before .before .before .before .before .size-of .ensures in
+    omega (arith, m .below, m .fits, m .word, e)
+
+point-requires : tie.Need-point-requires
+point-requires c κs = search needs
+
+add-result : tie.Need-add-result
+add-result c =
+    let q = c .before .before .before .before .before .before .before .before .before .before .before in
+    let a = q .before .before .before .before .before .before .args in
+    let m = moving (now (a .work)) (q .before .before .record-at .result) (a .top) (sym (q .moves .ensures) ∙ not-false _ (c .before .before .before .before .before .before .before .before .before .before .if1 .left)) in
+    let e = c .before .before .before .before .before .before .before .before .before .size-of .ensures in
+    omega (arith, m .below, m .fits, m .word, e)
+
+same-length-3 : tie.Need-same-length-3
+same-length-3 c = search needs
+
+same-length-4 : tie.Need-same-length-4
+same-length-4 c = search needs
+
+returns-2 : tie.Need-returns-2
+returns-2 c =
+    let q = c .before .before .before .before .before .before .before .before .before .before .before in
+    let a = q .before .before .before .before .before .before .args in
+    let w = now (a .work) in
+    let r = q .before .before .record-at .result in
+    let n = c .before .before .before .before .before .before .before .before .before .size-of in
+    let at = 32 * a .top in
+    ap (λ (x : List ℕ). arena x (c .before .before .point .last .0) (a .top + n .result)) (c .before .before .before .before .before .before .copy .ensures)
+    ∙ ap (λ (t : List ℕ). arena (paste w at (drop (32 * r .p1) w) (32 * n .result)) t (a .top + n .result)) (c .before .before .point .ensures)
+    ∙ ap (λ (m : ℕ). arena (paste w at (drop (32 * r .p1) w) (32 * m)) (pointed (now (a .table)) (a .k) (a .top) (a .top + m)) (a .top + m)) (n .ensures)
+    ∙ by-moves (a .k) (arena w (now (a .table)) (a .top)) (q .before .before .record-at .ensures) (sym (not-false _ (c .before .before .before .before .before .before .before .before .before .before .if1 .left)) ∙ q .moves .ensures)
+
+pub to-end-spec : {M : Type 1} → statement M
+to-end-spec =
+    tie.close
+    (tie.spec
+    record-at-requires
+    moves-requires
+    same-length
+    same-length-2
+    returns
+    size-of-requires
+    cast-copy
+    mul-copy
+    mul-copy-2
+    mul-copy-3
+    copy-requires
+    cast-point
+    add-point
+    cast-point-2
+    point-requires
+    add-result
+    same-length-3
+    same-length-4
+    returns-2)

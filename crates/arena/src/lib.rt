@@ -1,0 +1,112 @@
+ghost use mathlib.Core.Path.{_≡_};
+ghost use Prim.Native.Nat.{ℕ, _+_, _≤_};
+ghost use lib.ListN.{length, drop};
+ghost use lib.Seq.{paste};
+ghost use Rattle.arena.specs.Arena as spec;
+use format::Record;
+use inst::Block;
+use inst::Code;
+
+fn size_of(r: Record) -> usize
+    ensures { λ n. ⌜ n ≡ spec.sizeOf r ⌝ }
+{
+    if r.p1 <= r.p2 {
+        (r.p2 - r.p1) as usize
+    } else {
+        0
+    }
+}
+
+fn is_last(r: Record, top: usize) -> bool
+    ensures { λ z. ⌜ z ≡ spec.isLast r top ⌝ }
+{
+    r.p1 <= r.p2 && r.p2 as usize == top
+}
+
+// n more records have a place.
+pub fn has_room(work: &[u8], top: usize, n: usize) -> bool
+    ensures { λ z. ⌜ z ≡ spec.room (now (work .entry)) top n ⌝ }
+{
+    let limit = blocks::least(work.len() / 32, 4294967295);
+    top <= limit && n <= limit - top
+}
+
+fn moves(work: &[u8], r: Record, top: usize) -> bool
+    ensures { λ z. ⌜ z ≡ spec.moves (now (work .entry)) r top ⌝ }
+{
+    if is_last(r, top) {
+        return false;
+    }
+    let n = size_of(r);
+    r.p1 as usize + n <= top && has_room(work, top, n)
+}
+
+// n bytes are copied to a later place.
+fn copy(b: &mut [u8], from: usize, to: usize, n: usize)
+    requires { ⌜ (from + n ≤ to) × (to + n ≤ length (now b)) ⌝ }
+    ensures { λ u. ⌜ now (b .exit) ≡ paste (now (b .entry)) to (drop from (now (b .entry))) n ⌝ }
+{
+    let mut i = 0;
+    while i < n {
+        b[to + i] = b[from + i];
+        i += 1;
+    }
+}
+
+// Start and end of block k are written.
+fn point(table: &mut [u8], k: usize, start: u32, end: u32)
+    ensures { λ u. ⌜ now (table .exit) ≡ spec.pointed (now (table .entry)) k start end ⌝ }
+{
+    store::put_record(table, k, items::record_of_block(Block { start, end }));
+}
+
+// Block k is moved to the top, where it isn't there and has room; returns the new top.
+pub fn to_end(work: &mut [u8], table: &mut [u8], k: usize, top: usize) -> usize
+    ensures { λ r. ⌜ spec.arena (now (work .exit)) (now (table .exit)) r ≡ spec.toEnd k (spec.arena (now (work .entry)) (now (table .entry)) top) ⌝ }
+{
+    let r = format::record_at(table, k);
+    if !moves(work, r, top) {
+        return top;
+    }
+    let n = size_of(r);
+    copy(work, 32 * r.p1 as usize, 32 * top, 32 * n);
+    point(table, k, top as u32, (top + n) as u32);
+    top + n
+}
+
+fn can_pop(r: Record, top: usize) -> bool
+    ensures { λ z. ⌜ z ≡ spec.popped r top ⌝ }
+{
+    r.p1 < r.p2 && r.p2 as usize == top
+}
+
+// Block k, where it ends at the top, loses its last record; returns the new top.
+pub fn pop(table: &mut [u8], k: usize, top: usize) -> usize
+    ensures { λ r. ⌜ spec.topped (now (table .exit)) r ≡ spec.pop k (spec.topped (now (table .entry)) top) ⌝ }
+{
+    let r = format::record_at(table, k);
+    if !can_pop(r, top) {
+        return top;
+    }
+    point(table, k, r.p1, r.p2 - 1);
+    top - 1
+}
+
+fn grows(work: &[u8], r: Record, top: usize) -> bool
+    ensures { λ z. ⌜ z ≡ spec.grows (now (work .entry)) r top ⌝ }
+{
+    is_last(r, top) && has_room(work, top, 1)
+}
+
+// Block k, where it ends at the top and there is room, gets one instruction more; returns the new top.
+pub fn push(work: &mut [u8], table: &mut [u8], k: usize, top: usize, c: Code) -> usize
+    ensures { λ r. ⌜ spec.arena (now (work .exit)) (now (table .exit)) r ≡ spec.push k c (spec.arena (now (work .entry)) (now (table .entry)) top) ⌝ }
+{
+    let r = format::record_at(table, k);
+    if !grows(work, r, top) {
+        return top;
+    }
+    store::put_record(work, top, codec::record_of(c));
+    point(table, k, r.p1, (top + 1) as u32);
+    top + 1
+}

@@ -1,0 +1,20 @@
+-- Work definitions, for contracts between functions alone: parts of the tests of a record.
+use Prim.Native.Nat.{ℕ}
+use mathlib.Core.List.{List, [], _∷_}
+use mathlib.Core.Bool.{Bool, true, _&&_}
+use lib.Dec.{ltb}
+use Rattle.format.specs.declared.Record.{Record}
+use Rattle.format.specs.Kinds.{zeros}
+
+-- the head of a record of a class other than the instructions': a kind, and zeros for op, byte 3 and statement
+abbrev pub plain : Record → ℕ → Bool
+plain r kinds = ltb (r .kind) kinds && zeros (r .op ∷ r .zero ∷ r .stmt ∷ [])
+
+-- each of some numbers is below n
+abbrev pub below : ℕ → List ℕ → Bool
+below n [] = true
+below n (p ∷ ps) = ltb p n && below n ps
+
+-- how many places each kind of instruction lists; 7 where not every number fits them, or the op decides
+abbrev pub listedPlaces : List ℕ
+listedPlaces = 3 ∷ 3 ∷ 2 ∷ 7 ∷ 4 ∷ 3 ∷ 3 ∷ 3 ∷ 6 ∷ 2 ∷ 2 ∷ 4 ∷ 3 ∷ 7 ∷ 4 ∷ 2 ∷ 3 ∷ 7 ∷ 1 ∷ 3 ∷ 2 ∷ 7 ∷ 1 ∷ 0 ∷ []
