@@ -2,10 +2,10 @@
 use Prim.Native.Nat.{ℕ, _+_, _-_, _*_, _/_, _≤_, _<_, _^_}
 use native.Mathlib.Omega.{arith}
 use mathlib.Core.Path.{_≡_, refl, sym, ap, subst, _∙_}
-use mathlib.Core.Bool.{Bool, true, false, _&&_, not}
+use mathlib.Core.Bool.{Bool, true, false, _&&_}
 use mathlib.Core.List.{List, [], _++_, append-assoc}
 use borrow.Author.Tests.{leb-true, le-leb, eqb-true}
-use lib.Dec.{eqb, leb}
+use lib.Dec.{leb}
 use lib.ListN.{length, getD, take, drop, length-drop}
 use lib.Seq.{paste, take-paste, length-paste, take-take, take-at, drop-at, length-take-le, set-getD}
 use Rattle.general.proofs.Booleans.{and-first, and-second}
@@ -16,9 +16,9 @@ use Rattle.read.specs.Structure.{codeOf as recordsOfBlock}
 use Rattle.blocks.specs.Blocks.{blockRecordsIn}
 use Rattle.blocks.specs.Rewrite.{Holds, Apart}
 use Rattle.blocks.proofs.Parts.{records-part, records-at}
-use Rattle.blocks.proofs.Bytes.{bytes-part, bytes-paste, bytes-drop, put-bytes}
+use Rattle.blocks.proofs.Bytes.{bytes-paste, bytes-drop, put-bytes}
 use Rattle.blocks.proofs.Apart.{last-place}
-use Rattle.arena.specs.Arena.{Arena, arena, sizeOf, isLast, room, pointed, copied, moves, moveIf, toEnd}
+use Rattle.arena.specs.Arena.{Arena, sizeOf, isLast, room, pointed, copied, moves, moveIf, toEnd}
 use Rattle.arena.proofs.Laws.{Moving, moving, moves-by, by-moves}
 use Rattle.arena.proofs.Pointed.{blockAt, pointed-there, pointed-other, pointed-length, blocks-with, apart-with, part-below}
 
@@ -119,11 +119,12 @@ module _ (s : Arena) (w : Sound s) (k : ℕ) (h : k < length (s .table) / 32) wh
         let r = recordAt (s .table) k in
         let work = s .work in
         let l = copied-length work r (s .top) m in
+        let rest = bytes-drop (32 * r .p1) work (w .work-bytes) in
         record {
           same = moved-same;
           sound =
               record {
-                work-bytes = bytes-paste work (32 * s .top) (drop (32 * r .p1) work) (32 * sizeOf r) (w .work-bytes) (bytes-drop (32 * r .p1) work (w .work-bytes));
+                work-bytes = bytes-paste work (32 * s .top) (drop (32 * r .p1) work) (32 * sizeOf r) (w .work-bytes) rest;
                 table-bytes = put-bytes (s .table) k (blockAt (s .top) (s .top + sizeOf r)) (w .table-bytes);
                 fit = omega (arith, m .fits);
                 word = m .word;

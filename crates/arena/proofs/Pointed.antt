@@ -1,19 +1,19 @@
 -- A block table with one block pointed elsewhere: the other blocks stay where they were.
-use Prim.Native.Nat.{ℕ, zero, suc, _+_, _-_, _*_, _/_, _≤_, _<_, _^_}
+use Prim.Native.Nat.{ℕ, zero, suc, _-_, _/_, _≤_, _<_, _^_}
 use native.Mathlib.Omega.{arith}
 use mathlib.Core.Path.{_≡_, refl, sym, ap, subst, _∙_}
 use mathlib.Core.Bool.{Bool, true, false}
-use mathlib.Core.List.{List, [], _∷_, map}
+use mathlib.Core.List.{List, [], _∷_}
 use mathlib.Core.Logic.{_⊎_, inl, inr}
 use borrow.Author.Tests.{eqb-true, eqb-false}
 use lib.Dec.{eqb, lit<}
-use lib.ListN.{length, getD, take, drop, set}
+use lib.ListN.{length, take, drop, set}
 use lib.Seq.{take-take, take-nil}
 use Rattle.general.proofs.Numbers.{order}
 use Rattle.format.specs.declared.Record.{Record}
-use Rattle.format.specs.Record.{recordsOf, recordAt, blank}
+use Rattle.format.specs.Record.{recordsOf, recordAt}
 use Rattle.format.proofs.Laws.{length-records}
-use Rattle.store.specs.Store.{Fits, putOf}
+use Rattle.store.specs.Store.{Fits}
 use Rattle.store.proofs.Laws.{put-same, put-other, put-length}
 use Rattle.read.specs.Structure.{codeOf as recordsOfBlock}
 use Rattle.items.specs.Items.{blockRecord}
@@ -26,7 +26,19 @@ abbrev pub blockAt : ℕ → ℕ → Record
 blockAt start end = blockRecord (record { start = start; end = end })
 
 fits-block : (start end : ℕ) → start < 2 ^ 32 → end < 2 ^ 32 → Fits (blockAt start end)
-fits-block start end s e = record { class = lit< tt; kind = lit< tt; op = lit< tt; zero = lit< tt; stmt = lit< tt; p1 = s; p2 = e; p3 = lit< tt; p4 = lit< tt; p5 = lit< tt; p6 = lit< tt }
+fits-block start end s e = record {
+  class = lit< tt;
+  kind = lit< tt;
+  op = lit< tt;
+  zero = lit< tt;
+  stmt = lit< tt;
+  p1 = s;
+  p2 = e;
+  p3 = lit< tt;
+  p4 = lit< tt;
+  p5 = lit< tt;
+  p6 = lit< tt;
+}
 
 module _ (table : List ℕ) (k start end : ℕ) where
   pub pointed-there : k < length table / 32 → start < 2 ^ 32 → end < 2 ^ 32 → recordAt (pointed table k start end) k ≡ blockAt start end

@@ -11,7 +11,8 @@ use lib.Seq.{getD-set-same, getD-set-other, set-out}
 use Rattle.inst.specs.declared.Code.{Code}
 use Rattle.procedure.specs.Procedure.{Table}
 use Rattle.ends.specs.Ends.{endOf}
-use Rattle.steps.specs.Emit.{leads, edgesOf, total, pushed, walk, walkAll, reached}
+use Rattle.paths.specs.Paths.{total, pushed, walk, reachedFrom}
+use Rattle.steps.specs.Emit.{leads, edgesOf, reached}
 use Rattle.demand.specs.Setting.{In}
 use Rattle.demand.proofs.Basics.{clash, in-left, in-right, in-split}
 
@@ -178,14 +179,14 @@ module _ (tables : List Table) (P : List (List Code)) where
   edges-at b = List·getD-map (λ c. leads tables (endOf c)) P b []
 
   pub reached-zero : Marked 0
-  unfolding reached walk
+  unfolding reached reachedFrom walk
   reached-zero =
       let es = edgesOf tables P in
       let ms = replicate (length es) false in
       walk-keeps es (total es) (pushed (getD ms 0 true) (getD es 0 []) []) (set ms 0 true) 0 (set-marked ms 0)
 
   pub reached-closed : (b t : ℕ) → Marked b → In t (leadsFrom b) → Marked t
-  unfolding reached
+  unfolding reached reachedFrom
   reached-closed b t m i =
       walk-closed es (suc (total es)) (0 ∷ []) (replicate (length es) false) (omega (arith, left-all es)) at-first b t m (subst (In t) (sym (edges-at b)) i)
     where
@@ -196,7 +197,7 @@ module _ (tables : List Table) (P : List (List Code)) where
       at-first b t m i = absurd (subst (In t) (no-edges es b (none-marked (length es) b m)) i)
 
   pub reached-least : (S : ℕ → Type 0) → S 0 → ((b t : ℕ) → S b → In t (leadsFrom b) → S t) → (b : ℕ) → Marked b → (length (edgesOf tables P) ≤ b) ⊎ S b
-  unfolding reached
+  unfolding reached reachedFrom
   reached-least S z closed b m =
       walk-least es S (λ b t s i. closed b t s (subst (In t) (edges-at b) i)) (suc (total es)) (0 ∷ []) (replicate (length es) false)
       (λ t i. elim i [ inl e ↦ subst S (sym e) z | inr k ↦ absurd k ]) (λ t q. inl (none-marked (length es) t q)) b m

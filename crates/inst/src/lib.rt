@@ -209,8 +209,8 @@ pub struct Block {
     pub end: u32,
 }
 
-// An arm of a table. The default's bounds are zero.
-pub struct Arm {
+// An arm as its record has it: with its table, and whether it is the default, whose bounds are zero.
+pub struct ArmEntry {
     pub table: u32,
     pub low: u64,
     pub high: u64,

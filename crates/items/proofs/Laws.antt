@@ -14,7 +14,7 @@ use Rattle.inst.specs.declared.Reg.{Reg}
 use Rattle.inst.specs.declared.RegTy.{RegTy}
 use Rattle.inst.specs.declared.BlockId.{BlockId}
 use Rattle.inst.specs.declared.Block.{Block}
-use Rattle.inst.specs.declared.Arm.{Arm}
+use Rattle.inst.specs.declared.ArmEntry.{ArmEntry}
 use Rattle.ops.specs.Ops.{regTyOf, regTyNum}
 use Rattle.ops.proofs.Laws.{reg-ty-num, reg-ty-back, reg-ty-lt}
 use Rattle.store.specs.Store.{Fits}
@@ -146,13 +146,13 @@ default-back : (d : Bool) → eqb (armKind d) 1 ≡ d
 default-back true = refl
 default-back false = refl
 
-pub arm-read-back : (x : Arm) → armOf (armRecord x) ≡ x
+pub arm-read-back : (x : ArmEntry) → armOf (armRecord x) ≡ x
 arm-read-back x =
     ap (λ (v : ℕ). of v (wordOf (lowOf (x .high)) (highOf (x .high))) (eqb (armKind (x .default)) 1)) (word-join (x .low))
     ∙ ap (λ (v : ℕ). of (x .low) v (eqb (armKind (x .default)) 1)) (word-join (x .high))
     ∙ ap (of (x .low) (x .high)) (default-back (x .default))
   where
-    of : ℕ → ℕ → Bool → Arm
+    of : ℕ → ℕ → Bool → ArmEntry
     of low high d = record { table = x .table; low = low; high = high; to = x .to; default = d }
 
 pub register-right : (x : RegTy) → right (registerRecord x) ≡ true
@@ -179,7 +179,7 @@ other-right : (t p q r s b : ℕ) → right (rowOf 6 0 t p q r s b) ≡ true
 unfolding right
 other-right t p q r s b = refl
 
-pub arm-right : (x : Arm) → ArmInRange x → right (armRecord x) ≡ true
+pub arm-right : (x : ArmEntry) → ArmInRange x → right (armRecord x) ≡ true
 arm-right x h = go (x .default) refl
   where
     go : (d : Bool) → x .default ≡ d → right (armRecord x) ≡ true
@@ -214,7 +214,7 @@ low-lt v = omega arith
 high-lt : (v : ℕ) → v < 2 ^ 64 → highOf v < 2 ^ 32
 high-lt v h = omega arith
 
-pub arm-fits : (x : Arm) → ArmInRange x → Fits (armRecord x)
+pub arm-fits : (x : ArmEntry) → ArmInRange x → Fits (armRecord x)
 arm-fits x h =
     row-fits 6 (armKind (x .default)) (x .table) (lowOf (x .low)) (highOf (x .low)) (lowOf (x .high)) (highOf (x .high)) (x .to .0) (lit< tt)
     (kind-lt (x .default)) (h .table) (low-lt (x .low)) (high-lt (x .low) (h .low)) (low-lt (x .high)) (high-lt (x .high) (h .high)) (h .to)

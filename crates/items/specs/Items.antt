@@ -8,7 +8,7 @@ use Rattle.inst.specs.declared.Reg.{Reg}
 use Rattle.inst.specs.declared.RegTy.{RegTy}
 use Rattle.inst.specs.declared.BlockId.{BlockId}
 use Rattle.inst.specs.declared.Block.{Block}
-use Rattle.inst.specs.declared.Arm.{Arm}
+use Rattle.inst.specs.declared.ArmEntry.{ArmEntry}
 use Rattle.ops.specs.Ops.{regTyOf, regTyNum}
 use Rattle.codec.specs.Codec.{wordOf, lowOf, highOf}
 
@@ -57,7 +57,7 @@ abbrev pub operandRecord : Reg → Record
 operandRecord x = rowOf 5 0 (x .0) 0 0 0 0 0
 
 -- "Arm: p1 table, p2-3 low, p4-5 high (signed, 64-bit), p6 target; kind 1 is the default"
-abbrev pub armOf : Record → Arm
+abbrev pub armOf : Record → ArmEntry
 armOf r = record {
   table = r .p1;
   low = wordOf (r .p2) (r .p3);
@@ -69,12 +69,12 @@ armOf r = record {
 abbrev pub armKind : Bool → ℕ
 armKind default = cond default 1 0
 
-abbrev pub armRecord : Arm → Record
+abbrev pub armRecord : ArmEntry → Record
 armRecord x =
     rowOf 6 (armKind (x .default)) (x .table) (lowOf (x .low)) (highOf (x .low)) (lowOf (x .high)) (highOf (x .high)) (x .to .0)
 
 -- the ranges of an arm's words, and "the default, low and high zero"
-pub record ArmInRange (x : Arm) : Type 0 where
+pub record ArmInRange (x : ArmEntry) : Type 0 where
   pub table : x .table < 2 ^ 32
   pub low : x .low < 2 ^ 64
   pub high : x .high < 2 ^ 64

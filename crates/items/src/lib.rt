@@ -2,7 +2,7 @@ ghost use mathlib.Core.Path.{_≡_};
 ghost use Rattle.items.specs.Items.{rowOf, registerOf, registerRecord, blockOf, blockRecord, bodyOf, bodyRecord};
 ghost use Rattle.items.specs.Items.{operandOf, operandRecord, armOf, armRecord};
 use format::Record;
-use inst::Arm;
+use inst::ArmEntry;
 use inst::Block;
 use inst::BlockId;
 use inst::Reg;
@@ -77,12 +77,12 @@ pub fn record_of_operand(x: Reg) -> Record
     row(5, 0, x.0, 0, 0, 0, 0, 0)
 }
 
-pub fn arm_of(r: Record) -> Arm
+pub fn arm_of(r: Record) -> ArmEntry
     ensures { λ x. ⌜ x ≡ armOf r ⌝ }
 {
     let low = codec::word_of(r.p2, r.p3);
     let high = codec::word_of(r.p4, r.p5);
-    Arm {
+    ArmEntry {
         table: r.p1,
         low,
         high,
@@ -91,7 +91,7 @@ pub fn arm_of(r: Record) -> Arm
     }
 }
 
-pub fn record_of_arm(x: Arm) -> Record
+pub fn record_of_arm(x: ArmEntry) -> Record
     ensures { λ r. ⌜ r ≡ armRecord x ⌝ }
 {
     let low = x.low;

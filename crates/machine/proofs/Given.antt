@@ -14,7 +14,8 @@ use Rattle.steps.specs.Gate.{backEdgeFrom, copied, mayThreadFrom}
 use Rattle.roles.specs.Exchange.{exchanged}
 use Rattle.steps.specs.Copy.{howOf, ownUses, copyFrom, kindsGiven}
 use Rattle.steps.specs.Thread.{armOf, hopCondBr, stops, hopBr, hop, hops, threadFrom}
-use Rattle.steps.specs.Emit.{total, walk, reached, stays, emptyFrom, rescuedOf, rescues}
+use Rattle.paths.specs.Paths.{total, walk, reachedFrom}
+use Rattle.steps.specs.Emit.{reached, stays, emptyFrom, rescuedOf, rescues}
 use Rattle.steps.specs.Run.{emit, run}
 use Rattle.machine.specs.Demand.{Demand3}
 use Rattle.machine.proofs.Printed.{printed, printed′}
@@ -26,11 +27,11 @@ abbrev pub Kept : Procedure → Type 0
 Kept p = Demand3 p (run p .procedure) (run p .rescued)
 
 printed-given : run printed ≡ record { procedure = printed′; moved = true; grown = 2; fresh = 0; rescued = 0 }
-unfolding anyOf times found formOf viewOf endOf front withEnd copyable small stepBy stepBlock latch readsKonst writesIn useCount fixedOf constIn constOf konstOf factsOf valuesWithout copiesWithout forgetAll learn notes follow joinArms joinFrom backEdgeFrom copied mayThreadFrom exchanged howOf ownUses copyFrom kindsGiven armOf hopCondBr stops hopBr hop hops threadFrom total walk reached stays emptyFrom rescuedOf rescues emit run
+unfolding anyOf times found formOf viewOf endOf front withEnd copyable small stepBy stepBlock latch readsKonst writesIn useCount fixedOf constIn constOf konstOf factsOf valuesWithout copiesWithout forgetAll learn notes follow joinArms joinFrom backEdgeFrom copied mayThreadFrom exchanged howOf ownUses copyFrom kindsGiven armOf hopCondBr stops hopBr hop hops threadFrom total walk reachedFrom reached stays emptyFrom rescuedOf rescues emit run
 printed-given = refl
 
 looping-given : run looping ≡ record { procedure = looping′; moved = true; grown = 1; fresh = 0; rescued = 1 }
-unfolding anyOf times found formOf viewOf endOf front withEnd copyable small stepBy stepBlock latch readsKonst writesIn useCount fixedOf constIn constOf konstOf factsOf valuesWithout copiesWithout forgetAll learn notes follow joinArms joinFrom backEdgeFrom copied mayThreadFrom exchanged howOf ownUses copyFrom kindsGiven armOf hopCondBr stops hopBr hop hops threadFrom total walk reached stays emptyFrom rescuedOf rescues emit run
+unfolding anyOf times found formOf viewOf endOf front withEnd copyable small stepBy stepBlock latch readsKonst writesIn useCount fixedOf constIn constOf konstOf factsOf valuesWithout copiesWithout forgetAll learn notes follow joinArms joinFrom backEdgeFrom copied mayThreadFrom exchanged howOf ownUses copyFrom kindsGiven armOf hopCondBr stops hopBr hop hops threadFrom total walk reachedFrom reached stays emptyFrom rescuedOf rescues emit run
 looping-given = refl
 
 pub printed-kept : Kept printed

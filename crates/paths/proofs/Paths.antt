@@ -1,7 +1,7 @@
 -- The marks of a walk are exactly the blocks that a path reaches.
 use Prim.Native.Nat.{ℕ, zero, suc, _+_, _≤_, _<_}
 use native.Mathlib.Omega.{arith}
-use mathlib.Core.Path.{_≡_, refl, sym, ap, subst, _∙_}
+use mathlib.Core.Path.{_≡_, refl, sym, ap, _∙_}
 use mathlib.Core.Bool.{Bool, true, false, _||_, cond}
 use mathlib.Core.List.{List, [], _∷_, _++_}
 use mathlib.Core.Logic.{_⊎_, inl, inr, ⊎-elim, _↔_}
@@ -9,11 +9,9 @@ use borrow.Author.Tests.{eqb-true, eqb-false, eq-eqb, ltb-true, ltb-false}
 use lib.Dec.{eqb, ltb}
 use lib.ListN.{length, getD, set, replicate, length-set, length-append, length-replicate, getD-replicate, List·getD-eq-default}
 use lib.Seq.{getD-set-same, getD-set-other, ext-getD}
+use Rattle.general.proofs.Booleans.{cases}
+use Rattle.general.proofs.Lists.{getD-any}
 use Rattle.paths.specs.Paths.{isIn, Path, Leads, total, pushed, walk, reachedFrom}
-
-pub cases : (b : Bool) → (b ≡ true) ⊎ (b ≡ false)
-cases true = inl refl
-cases false = inr refl
 
 pub false-true : {A : Type 0} {b : Bool} → b ≡ false → b ≡ true → A
 false-true e f = absurd (mathlib.Core.Bool.false≢true (sym e ∙ f))
@@ -83,16 +81,6 @@ set-marked m b x e = by (cases (eqb x b))
     by : (eqb x b ≡ true) ⊎ (eqb x b ≡ false) → (x ≡ b) ⊎ (getD m x false ≡ true)
     by (inl i) = inl (eqb-true x b i)
     by (inr i) = inr (sym (getD-set-other m b x true false (eqb-false x b i)) ∙ e)
-
-default-same : (m : List Bool) (b : ℕ) → b < length m → getD m b true ≡ getD m b false
-default-same [] b h = absurd (omega arith)
-default-same (x ∷ m) zero h = refl
-default-same (x ∷ m) (suc b) h = default-same m b (omega arith)
-
-unmarked-inside : (m : List Bool) (b : ℕ) → getD m b true ≡ false → getD m b false ≡ false
-unmarked-inside [] b e = refl
-unmarked-inside (x ∷ m) zero e = e
-unmarked-inside (x ∷ m) (suc b) e = unmarked-inside m b e
 
 -- edges of the blocks that are not marked
 due : List Bool → List (List ℕ) → ℕ
@@ -183,7 +171,7 @@ module _ (edges : List (List ℕ)) where
           was : (x : ℕ) → getD (set m b true) x false ≡ true → (x ≡ b) ⊎ (getD m x false ≡ true) → getD m x false ≡ true
           was x i (inl j) =
               let l : b < length m = rw (← j, ← length-set m b true) (marked-inside (set m b true) x i) in
-              rw j (sym (default-same m b l) ∙ e)
+              rw j (sym (getD-any m b true false l) ∙ e)
           was x i (inr j) = j
 
       new : Going (getD edges b [] ++ stack) (set m b true)

@@ -1,9 +1,9 @@
 -- Document 01, "Emit".
-use Prim.Native.Nat.{ℕ, zero, suc, _+_}
+use Prim.Native.Nat.{ℕ, suc}
 use mathlib.Core.List.{List, [], _∷_, _++_, map}
 use mathlib.Core.Bool.{Bool, true, false, _&&_, _||_, not, cond}
 use lib.Dec.{eqb, leb}
-use lib.ListN.{length, getD, set, replicate}
+use lib.ListN.{length, getD}
 use Rattle.inst.specs.declared.Code.{Code}
 use Rattle.inst.specs.declared.StmtId.{StmtId}
 use Rattle.inst.specs.declared.Inst.the-variants as i
@@ -11,6 +11,7 @@ use Rattle.codec.specs.Codec.{blockOf}
 use Rattle.roles.specs.Roles.{defsOf}
 use Rattle.procedure.specs.Procedure.{Table, tableAt}
 use Rattle.procedure.specs.Lists.{anyOf}
+use Rattle.paths.specs.Paths.{reachedFrom}
 use Rattle.ends.specs.declared.End.{End}
 use Rattle.ends.specs.declared.End.the-variants as e
 use Rattle.ends.specs.Forms.{fixedOf, isFixed}
@@ -31,28 +32,9 @@ leads tables e.Other = []
 abbrev pub edgesOf : List Table → List (List Code) → List (List ℕ)
 edgesOf tables P = map (λ c. leads tables (endOf c)) P
 
-unfoldable pub total : List (List ℕ) → ℕ
-total [] = 0
-total (x ∷ xs) = length x + total xs
-
--- the blocks still to be entered, after one whose mark was there already or not
-abbrev pub pushed : Bool → List ℕ → List ℕ → List ℕ
-pushed true more stack = stack
-pushed false more stack = more ++ stack
-
--- the walk, over the blocks still to be entered and the marks
-unfoldable pub walk : ℕ → List (List ℕ) → List ℕ → List Bool → List Bool
-walk zero edges stack marks = marks
-walk (suc k) edges [] marks = marks
-walk (suc k) edges (b ∷ stack) marks = walk k edges (pushed (getD marks b true) (getD edges b []) stack) (set marks b true)
-
--- "one mark for each of 160 blocks, all clear at the start": a block is entered once for each edge at most, and at the start
-abbrev pub walkAll : List (List ℕ) → List Bool
-walkAll edges = walk (suc (total edges)) edges (0 ∷ []) (replicate (length edges) false)
-
--- "From block 0 over Br, CondBr and arms"
+-- "From block 0 over Br, CondBr and arms"; "one mark for each of 160 blocks, all clear at the start"
 unfoldable pub reached : List Table → List (List Code) → List Bool
-reached tables P = walkAll (edgesOf tables P)
+reached tables P = reachedFrom (edgesOf tables P) 0
 
 abbrev pub isJump : End → Bool
 isJump (e.Br l) = true

@@ -32,20 +32,20 @@ has-room-requires c κs = search needs
 returns-2 : tie.Need-returns-2
 returns-2 c =
     let a = c .before .before .before .before .before .before .before .args in
-    let n = c .before .before .before .size-of in
-    let here = sym (le-leb (a .r .p1 + n .result) (a .top) (c .before .if2 .taken)) in
+    let n = c .before .before .before in
+    let here = sym (le-leb (a .r .p1 + n .size-of .result) (a .top) (c .before .if2 .taken)) in
     c .has-room .ensures
-    ∙ ap (λ (b : Bool). b && room (now (a .work)) (a .top) (n .result)) here
-    ∙ moves-by (now (a .work)) (a .r) (a .top) (sym (c .before .before .before .before .if1 .left) ∙ c .before .before .before .before .before .is-last .ensures) (n .ensures)
+    ∙ ap (λ (b : Bool). b && room (now (a .work)) (a .top) (n .size-of .result)) here
+    ∙ moves-by (now (a .work)) (a .r) (a .top) (sym (n .before .if1 .left) ∙ n .before .before .is-last .ensures) (n .size-of .ensures)
 
 returns-3 : tie.Need-returns-3
 returns-3 c =
     let a = c .before .before .before .before .before .before .args in
-    let n = c .before .before .size-of in
-    let past = lt-leb (a .r .p1 + n .result) (a .top) (c .if2 .left) in
+    let n = c .before .before in
+    let past = lt-leb (a .r .p1 + n .size-of .result) (a .top) (c .if2 .left) in
     past
-    ∙ ap (λ (b : Bool). b && room (now (a .work)) (a .top) (n .result)) (sym past)
-    ∙ moves-by (now (a .work)) (a .r) (a .top) (sym (c .before .before .before .if1 .left) ∙ c .before .before .before .before .is-last .ensures) (n .ensures)
+    ∙ ap (λ (b : Bool). b && room (now (a .work)) (a .top) (n .size-of .result)) (sym past)
+    ∙ moves-by (now (a .work)) (a .r) (a .top) (sym (n .before .if1 .left) ∙ n .before .before .is-last .ensures) (n .size-of .ensures)
 
 pub moves-spec : {M : Type 1} → statement M
 moves-spec =

@@ -15,7 +15,9 @@ same-length : tie.Need-same-length
 same-length c = search needs
 
 returns : tie.Need-returns
-returns c = c .before .before .put-record .ensures ∙ ap (putOf (now (c .before .before .before .before .before .before .args .table)) (c .before .before .before .before .before .before .args .k)) (c .before .before .before .record-of-block .ensures)
+returns c =
+    let a = c .before .before .before .before .before .before .args in
+    c .before .before .put-record .ensures ∙ ap (putOf (now (a .table)) (a .k)) (c .before .before .before .record-of-block .ensures)
 
 pub point-spec : {M : Type 1} → statement M
 point-spec = tie.close (tie.spec record-of-block-requires put-record-requires same-length returns)

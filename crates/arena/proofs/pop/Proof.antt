@@ -28,7 +28,8 @@ returns c =
 sub-point : tie.Need-sub-point
 sub-point c =
     let q = c .before .before .before in
-    let p = popping (q .before .record-at .result) (q .before .before .before .before .args .top) (sym (q .can-pop .ensures) ∙ not-false _ (c .before .before .if1 .left)) in
+    let test = not-false _ (c .before .before .if1 .left) in
+    let p = popping (q .before .record-at .result) (q .before .before .before .before .args .top) (sym (q .can-pop .ensures) ∙ test) in
     omega (arith, p .holds, p .last)
 
 point-requires : tie.Need-point-requires
@@ -37,7 +38,8 @@ point-requires c κs = search needs
 sub-result : tie.Need-sub-result
 sub-result c =
     let q = c .before .before .before .before .before .before in
-    let p = popping (q .before .record-at .result) (q .before .before .before .before .args .top) (sym (q .can-pop .ensures) ∙ not-false _ (c .before .before .before .before .before .if1 .left)) in
+    let test = not-false _ (c .before .before .before .before .before .if1 .left) in
+    let p = popping (q .before .record-at .result) (q .before .before .before .before .args .top) (sym (q .can-pop .ensures) ∙ test) in
     omega (arith, p .holds, p .last)
 
 same-length-2 : tie.Need-same-length-2
@@ -47,8 +49,9 @@ returns-2 : tie.Need-returns-2
 returns-2 c =
     let q = c .before .before .before .before .before .before in
     let a = q .before .before .before .before .args in
+    let test = not-false _ (c .before .before .before .before .before .if1 .left) in
     ap (λ (t : List ℕ). topped t (a .top - 1)) (c .before .before .point .ensures)
-    ∙ by-popped (a .k) (topped (now (a .table)) (a .top)) (q .before .record-at .ensures) (sym (not-false _ (c .before .before .before .before .before .if1 .left)) ∙ q .can-pop .ensures)
+    ∙ by-popped (a .k) (topped (now (a .table)) (a .top)) (q .before .record-at .ensures) (sym test ∙ q .can-pop .ensures)
 
 pub pop-spec : {M : Type 1} → statement M
 pop-spec =

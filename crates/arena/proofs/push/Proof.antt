@@ -28,7 +28,8 @@ returns : tie.Need-returns
 returns c =
     let q = c .before in
     let a = q .before .before .before .before .before .before .args in
-    by-grows (a .k) (a .c) (arena (now (a .work)) (now (a .table)) (a .top)) (q .before .before .record-at .ensures) (sym (not-true _ (c .if1 .taken)) ∙ q .grows .ensures)
+    let test = not-true _ (c .if1 .taken) in
+    by-grows (a .k) (a .c) (arena (now (a .work)) (now (a .table)) (a .top)) (q .before .before .record-at .ensures) (sym test ∙ q .grows .ensures)
 
 record-of-requires : tie.Need-record-of-requires
 record-of-requires c κs = search needs
@@ -40,14 +41,16 @@ add-point : tie.Need-add-point
 add-point c =
     let q = c .before .before .before .before .before .before .before in
     let a = q .before .before .before .before .before .before .args in
-    let g = growing (now (a .work)) (q .before .before .record-at .result) (a .top) (sym (q .grows .ensures) ∙ not-false _ (c .before .before .before .before .before .before .if1 .left)) in
+    let test = not-false _ (c .before .before .before .before .before .before .if1 .left) in
+    let g = growing (now (a .work)) (q .before .before .record-at .result) (a .top) (sym (q .grows .ensures) ∙ test) in
     omega (arith, g .fits, g .word)
 
 cast-point : tie.Need-cast-point
 cast-point c =
     let q = c .before .before .before .before .before .before .before in
     let a = q .before .before .before .before .before .before .args in
-    let g = growing (now (a .work)) (q .before .before .record-at .result) (a .top) (sym (q .grows .ensures) ∙ not-false _ (c .before .before .before .before .before .before .if1 .left)) in
+    let test = not-false _ (c .before .before .before .before .before .before .if1 .left) in
+    let g = growing (now (a .work)) (q .before .before .record-at .result) (a .top) (sym (q .grows .ensures) ∙ test) in
     omega (arith, g .fits, g .word)
 
 point-requires : tie.Need-point-requires
@@ -57,7 +60,8 @@ add-result : tie.Need-add-result
 add-result c =
     let q = c .before .before .before .before .before .before .before .before .before .before in
     let a = q .before .before .before .before .before .before .args in
-    let g = growing (now (a .work)) (q .before .before .record-at .result) (a .top) (sym (q .grows .ensures) ∙ not-false _ (c .before .before .before .before .before .before .before .before .before .if1 .left)) in
+    let test = not-false _ (c .before .before .before .before .before .before .before .before .before .if1 .left) in
+    let g = growing (now (a .work)) (q .before .before .record-at .result) (a .top) (sym (q .grows .ensures) ∙ test) in
     omega (arith, g .fits, g .word)
 
 same-length-3 : tie.Need-same-length-3
@@ -70,10 +74,12 @@ returns-2 : tie.Need-returns-2
 returns-2 c =
     let q = c .before .before .before .before .before .before .before .before .before .before in
     let a = q .before .before .before .before .before .before .args in
-    let put = c .before .before .before .before .before .before .put-record .ensures ∙ ap (putOf (now (a .work)) (a .top)) (c .before .before .before .before .before .before .before .record-of .ensures) in
+    let p = c .before .before .before .before .before .before in
+    let put = p .put-record .ensures ∙ ap (putOf (now (a .work)) (a .top)) (p .before .record-of .ensures) in
+    let test = not-false _ (c .before .before .before .before .before .before .before .before .before .if1 .left) in
     ap (λ (w : List ℕ). arena w (c .before .before .point .last .0) (a .top + 1)) put
     ∙ ap (λ (t : List ℕ). arena (putOf (now (a .work)) (a .top) (recordOf (a .c))) t (a .top + 1)) (c .before .before .point .ensures)
-    ∙ by-grows (a .k) (a .c) (arena (now (a .work)) (now (a .table)) (a .top)) (q .before .before .record-at .ensures) (sym (not-false _ (c .before .before .before .before .before .before .before .before .before .if1 .left)) ∙ q .grows .ensures)
+    ∙ by-grows (a .k) (a .c) (arena (now (a .work)) (now (a .table)) (a .top)) (q .before .before .record-at .ensures) (sym test ∙ q .grows .ensures)
 
 pub push-spec : {M : Type 1} → statement M
 push-spec =

@@ -28,7 +28,8 @@ returns : tie.Need-returns
 returns c =
     let q = c .before in
     let a = q .before .before .before .before .before .before .args in
-    by-moves (a .k) (arena (now (a .work)) (now (a .table)) (a .top)) (q .before .before .record-at .ensures) (sym (not-true _ (c .if1 .taken)) ∙ q .moves .ensures)
+    let test = not-true _ (c .if1 .taken) in
+    by-moves (a .k) (arena (now (a .work)) (now (a .table)) (a .top)) (q .before .before .record-at .ensures) (sym test ∙ q .moves .ensures)
 
 size-of-requires : tie.Need-size-of-requires
 size-of-requires c κs = search needs
@@ -43,7 +44,8 @@ mul-copy-2 : tie.Need-mul-copy-2
 mul-copy-2 c =
     let q = c .before .before .before .before in
     let a = q .before .before .before .before .before .before .args in
-    let m = moving (now (a .work)) (q .before .before .record-at .result) (a .top) (sym (q .moves .ensures) ∙ not-false _ (c .before .before .before .if1 .left)) in
+    let test = not-false _ (c .before .before .before .if1 .left) in
+    let m = moving (now (a .work)) (q .before .before .record-at .result) (a .top) (sym (q .moves .ensures) ∙ test) in
     let e = c .before .before .size-of .ensures in
     omega (arith, m .below, m .fits, m .word, e)
 
@@ -54,7 +56,8 @@ copy-requires : tie.Need-copy-requires
 copy-requires c κs =
     let q = c .before .before .before .before in
     let a = q .before .before .before .before .before .before .args in
-    let m = moving (now (a .work)) (q .before .before .record-at .result) (a .top) (sym (q .moves .ensures) ∙ not-false _ (c .before .before .before .if1 .left)) in
+    let test = not-false _ (c .before .before .before .if1 .left) in
+    let m = moving (now (a .work)) (q .before .before .record-at .result) (a .top) (sym (q .moves .ensures) ∙ test) in
     let e = c .before .before .size-of .ensures in
     (omega (arith, m .below, e), omega (arith, m .fits, e))
 
@@ -62,7 +65,8 @@ cast-point : tie.Need-cast-point
 cast-point c =
     let q = c .before .before .before .before .before .before .before .before in
     let a = q .before .before .before .before .before .before .args in
-    let m = moving (now (a .work)) (q .before .before .record-at .result) (a .top) (sym (q .moves .ensures) ∙ not-false _ (c .before .before .before .before .before .before .before .if1 .left)) in
+    let test = not-false _ (c .before .before .before .before .before .before .before .if1 .left) in
+    let m = moving (now (a .work)) (q .before .before .record-at .result) (a .top) (sym (q .moves .ensures) ∙ test) in
     let e = c .before .before .before .before .before .before .size-of .ensures in
     omega (arith, m .below, m .fits, m .word, e)
 
@@ -70,7 +74,8 @@ add-point : tie.Need-add-point
 add-point c =
     let q = c .before .before .before .before .before .before .before .before in
     let a = q .before .before .before .before .before .before .args in
-    let m = moving (now (a .work)) (q .before .before .record-at .result) (a .top) (sym (q .moves .ensures) ∙ not-false _ (c .before .before .before .before .before .before .before .if1 .left)) in
+    let test = not-false _ (c .before .before .before .before .before .before .before .if1 .left) in
+    let m = moving (now (a .work)) (q .before .before .record-at .result) (a .top) (sym (q .moves .ensures) ∙ test) in
     let e = c .before .before .before .before .before .before .size-of .ensures in
     omega (arith, m .below, m .fits, m .word, e)
 
@@ -78,7 +83,8 @@ cast-point-2 : tie.Need-cast-point-2
 cast-point-2 c =
     let q = c .before .before .before .before .before .before .before .before in
     let a = q .before .before .before .before .before .before .args in
-    let m = moving (now (a .work)) (q .before .before .record-at .result) (a .top) (sym (q .moves .ensures) ∙ not-false _ (c .before .before .before .before .before .before .before .if1 .left)) in
+    let test = not-false _ (c .before .before .before .before .before .before .before .if1 .left) in
+    let m = moving (now (a .work)) (q .before .before .record-at .result) (a .top) (sym (q .moves .ensures) ∙ test) in
     let e = c .before .before .before .before .before .before .size-of .ensures in
     omega (arith, m .below, m .fits, m .word, e)
 
@@ -89,7 +95,8 @@ add-result : tie.Need-add-result
 add-result c =
     let q = c .before .before .before .before .before .before .before .before .before .before .before in
     let a = q .before .before .before .before .before .before .args in
-    let m = moving (now (a .work)) (q .before .before .record-at .result) (a .top) (sym (q .moves .ensures) ∙ not-false _ (c .before .before .before .before .before .before .before .before .before .before .if1 .left)) in
+    let test = not-false _ (c .before .before .before .before .before .before .before .before .before .before .if1 .left) in
+    let m = moving (now (a .work)) (q .before .before .record-at .result) (a .top) (sym (q .moves .ensures) ∙ test) in
     let e = c .before .before .before .before .before .before .before .before .before .size-of .ensures in
     omega (arith, m .below, m .fits, m .word, e)
 
@@ -107,10 +114,11 @@ returns-2 c =
     let r = q .before .before .record-at .result in
     let n = c .before .before .before .before .before .before .before .before .before .size-of in
     let at = 32 * a .top in
+    let test = not-false _ (c .before .before .before .before .before .before .before .before .before .before .if1 .left) in
     ap (λ (x : List ℕ). arena x (c .before .before .point .last .0) (a .top + n .result)) (c .before .before .before .before .before .before .copy .ensures)
     ∙ ap (λ (t : List ℕ). arena (paste w at (drop (32 * r .p1) w) (32 * n .result)) t (a .top + n .result)) (c .before .before .point .ensures)
     ∙ ap (λ (m : ℕ). arena (paste w at (drop (32 * r .p1) w) (32 * m)) (pointed (now (a .table)) (a .k) (a .top) (a .top + m)) (a .top + m)) (n .ensures)
-    ∙ by-moves (a .k) (arena w (now (a .table)) (a .top)) (q .before .before .record-at .ensures) (sym (not-false _ (c .before .before .before .before .before .before .before .before .before .before .if1 .left)) ∙ q .moves .ensures)
+    ∙ by-moves (a .k) (arena w (now (a .table)) (a .top)) (q .before .before .record-at .ensures) (sym test ∙ q .moves .ensures)
 
 pub to-end-spec : {M : Type 1} → statement M
 to-end-spec =
