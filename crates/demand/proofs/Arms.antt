@@ -20,8 +20,7 @@ use Rattle.ends.specs.Ends.{viewOf, endOf, front, withEnd}
 use Rattle.steps.specs.EqualArms.{reachedFrom, Arms, joinIf, joinEnd, joinArms, joinFrom, equalArms}
 use Rattle.machine.specs.Machine.{Address}
 use Rattle.demand.specs.Setting.{defsAt, readsAt}
-use Rattle.demand.proofs.Effects.{Shape, computed, acting, going, testing, casing, ending, shape}
-use Rattle.demand.proofs.Rescued.{constant}
+use Rattle.demand.proofs.Effects.{Shape, constant, computed, acting, going, testing, casing, ending, shape}
 use Rattle.demand.proofs.Codes.{Ended, ends-in, in-range, set-block}
 use Rattle.demand.proofs.Rewrites.{empty-end}
 use Rattle.demand.proofs.Counted.{writes-last}

@@ -29,8 +29,7 @@ use Rattle.machine.specs.Single.{given, constantOf}
 use Rattle.machine.proofs.Exchanged.{effect-exchanged}
 use Rattle.demand.specs.Setting.{In, Setting, does, defsAt, readsAt}
 use Rattle.demand.proofs.Basics.{clash, eqb-eq, and-both}
-use Rattle.demand.proofs.Effects.{Shape, computed, acting, going, testing, casing, ending, shape, plain, varies, fixed-constant}
-use Rattle.demand.proofs.Rescued.{constant}
+use Rattle.demand.proofs.Effects.{Shape, constant, computed, acting, going, testing, casing, ending, shape, plain, varies, fixed-constant}
 
 -- an effect that leaves the block
 abbrev pub Leaves : Effect → Type 0

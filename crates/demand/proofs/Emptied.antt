@@ -21,8 +21,7 @@ use Rattle.machine.specs.Machine.{Regs, End, Effect, writes, goes, ends, asks, 
 use Rattle.machine.proofs.Shorter.{Mach, Shorter, Stretch, simulates, together, mach}
 use Rattle.demand.specs.Setting.{In, Each, Front, Setting, code, does, defsAt, readsAt}
 use Rattle.demand.proofs.Basics.{clash}
-use Rattle.demand.proofs.Effects.{Shape, computed, acting, going, testing, casing, ending, shape, choose-in, arm-in}
-use Rattle.demand.proofs.Rescued.{constant}
+use Rattle.demand.proofs.Effects.{Shape, constant, computed, acting, going, testing, casing, ending, shape, choose-in, arm-in}
 use Rattle.demand.proofs.Codes.{each-append}
 use Rattle.demand.proofs.Branches.{NoEnd}
 use Rattle.demand.proofs.Edit.{step-is, weigh}

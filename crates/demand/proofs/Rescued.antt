@@ -34,7 +34,7 @@ module _ (E : Setting) where
     pub v : ℕ
     pub one : defsAt x ≡ d ∷ []
     pub single : E .single d ≡ some v
-    pub constant : constantOf (E .address) (x .inst) ≡ some v
+    pub writes-v : constantOf (E .address) (x .inst) ≡ some v
 
   module _ (qs : List ℕ) (Q : List (List Code)) where
     abbrev next : State → State
@@ -42,7 +42,7 @@ module _ (E : Setting) where
 
     idle : (x : Code) → Constant x → (c : List Code) (g : Regs) (h : List Act) → Loaded E g → next (at (x ∷ c) g h) ≡ at c g h
     idle x k c g h l =
-        step-is E qs Q x c g h ∙ rw (constant-does E x (k .v) g (k .constant), k .one) (ap (λ g. at c g h) (upd-idle (k .d) (k .v) g (l (k .d) (k .v) (k .single))))
+        step-is E qs Q x c g h ∙ rw (constant-does E x (k .v) g (k .writes-v), k .one) (ap (λ g. at c g h) (upd-idle (k .d) (k .v) g (l (k .d) (k .v) (k .single))))
 
     idle-run : (k : List Code) → Each Constant k → (c : List Code) (g : Regs) (h : List Act) → Loaded E g
         → run (E .outside) (E .address) (code E qs Q) (length k) (at (k ++ c) g h) ≡ at c g h

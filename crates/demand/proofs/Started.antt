@@ -24,8 +24,7 @@ use Rattle.machine.specs.Single.{constantOf, single}
 use Rattle.demand.specs.Setting.{In, Each, Setting, defsAt, readsAt, Written, Read, Exposed, Fine}
 use Rattle.demand.specs.Whole.{Whole, Inside}
 use Rattle.demand.proofs.Basics.{clash, clash-some, and-both}
-use Rattle.demand.proofs.Effects.{Shape, computed, acting, going, testing, casing, ending, shape}
-use Rattle.demand.proofs.Rescued.{constant}
+use Rattle.demand.proofs.Effects.{Shape, constant, computed, acting, going, testing, casing, ending, shape}
 use Rattle.demand.proofs.Codes.{each-append, exposed-left, read-exposed, read-split, dec-read, dec-written, Ended, ended}
 use Rattle.demand.proofs.Branches.{Low, Good}
 use Rattle.demand.proofs.Counted.{times-some, times-most, written-once, unwritten, front-writes, front-read, front-exposed, readersIn, hidden-reader, unread, uses-append}

@@ -29,8 +29,7 @@ use Rattle.demand.specs.Setting.{In, Each, Setting, code, defsAt, Fine, 
 use Rattle.demand.specs.Whole.{Whole, Inside}
 use Rattle.demand.specs.Claim.{Reaches, Kept}
 use Rattle.demand.proofs.Basics.{clash, clash-some, and-both, any-in, eqb-eq}
-use Rattle.demand.proofs.Effects.{Shape, computed, acting, going, testing, casing, ending, shape, fixed-constant, varies}
-use Rattle.demand.proofs.Rescued.{constant}
+use Rattle.demand.proofs.Effects.{Shape, constant, computed, acting, going, testing, casing, ending, shape, fixed-constant, varies}
 use Rattle.demand.proofs.Codes.{each-map, end-append}
 use Rattle.demand.proofs.Edit.{Meet}
 use Rattle.demand.proofs.Branches.{Good}
@@ -145,7 +144,7 @@ module _ (p : Procedure) (whole : Whole p) (inside : Inside p) where
               v = u .0;
               one = u .2 .one;
               single = fine d (subst (In d) (sym (u .2 .one)) (inl refl)) o ∙ u .1;
-              constant = u .1;
+              writes-v = u .1;
             }
           where
             only : (r d : ℕ) → In r (d ∷ []) → r ≡ d
@@ -184,10 +183,10 @@ module _ (p : Procedure) (whole : Whole p) (inside : Inside p) where
         by (constant d v p u l n f a) = f .view
         by (computed d G p l f a) = f .view
         by (acting u f a) = f .view
-        by (going l v f a) = clash-some (k .constant) (varies address (x .inst) (f .varies))
-        by (testing c l m v u f a) = clash-some (k .constant) (varies address (x .inst) (f .varies))
-        by (casing n v f a) = clash-some (k .constant) (varies address (x .inst) (f .varies))
-        by (ending G v f a) = clash-some (k .constant) (varies address (x .inst) (f .varies))
+        by (going l v f a) = clash-some (k .writes-v) (varies address (x .inst) (f .varies))
+        by (testing c l m v u f a) = clash-some (k .writes-v) (varies address (x .inst) (f .varies))
+        by (casing n v f a) = clash-some (k .writes-v) (varies address (x .inst) (f .varies))
+        by (ending G v f a) = clash-some (k .writes-v) (varies address (x .inst) (f .varies))
 
     constants-end : (c : List Code) → Each (Constant F) c → endOf c ≡ e.Other
     unfolding endOf

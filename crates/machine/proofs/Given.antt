@@ -30,7 +30,7 @@ printed-given : run printed ≡ record { procedure = printed′; moved = true; g
 unfolding anyOf times found formOf viewOf endOf front withEnd copyable small stepBy stepBlock latch readsKonst writesIn useCount fixedOf constIn constOf konstOf factsOf valuesWithout copiesWithout forgetAll learn notes follow joinArms joinFrom backEdgeFrom copied mayThreadFrom exchanged howOf ownUses copyFrom kindsGiven armOf hopCondBr stops hopBr hop hops threadFrom total walk reachedFrom reached stays emptyFrom rescuedOf rescues emit run
 printed-given = refl
 
-looping-given : run looping ≡ record { procedure = looping′; moved = true; grown = 1; fresh = 0; rescued = 1 }
+pub looping-given : run looping ≡ record { procedure = looping′; moved = true; grown = 1; fresh = 0; rescued = 1 }
 unfolding anyOf times found formOf viewOf endOf front withEnd copyable small stepBy stepBlock latch readsKonst writesIn useCount fixedOf constIn constOf konstOf factsOf valuesWithout copiesWithout forgetAll learn notes follow joinArms joinFrom backEdgeFrom copied mayThreadFrom exchanged howOf ownUses copyFrom kindsGiven armOf hopCondBr stops hopBr hop hops threadFrom total walk reachedFrom reached stays emptyFrom rescuedOf rescues emit run
 looping-given = refl
 
