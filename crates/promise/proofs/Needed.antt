@@ -57,7 +57,7 @@ elsewhere = procedure (0 ∷ 0 ∷ 0 ∷ 0 ∷ []) (
     (cmp c.Eq 2 0 1 40 ∷ move 3 2 41 ∷ condBr 3 1 2 42 ∷ [])
     ∷ (load 0 1 43 ∷ br 0 44 ∷ [])
     ∷ (stmt 45 ∷ condBr 2 3 4 46 ∷ [])
-    ∷ (stmt 47 ∷ ret 48 ∷ [])
+    ∷ (load 0 1 47 ∷ ret 48 ∷ [])
     ∷ (ret 49 ∷ [])
     ∷ [])
 
@@ -66,7 +66,7 @@ elsewhere′ = procedure (0 ∷ 0 ∷ 0 ∷ 0 ∷ 0 ∷ []) (
     (cmp c.Eq 2 0 1 40 ∷ move 3 2 41 ∷ condBr 2 1 2 42 ∷ [])
     ∷ (load 0 1 43 ∷ cmp c.Eq 4 0 1 40 ∷ move 3 4 41 ∷ condBr 4 1 2 42 ∷ [])
     ∷ (stmt 45 ∷ condBr 2 3 4 46 ∷ [])
-    ∷ (stmt 47 ∷ ret 48 ∷ [])
+    ∷ (load 0 1 47 ∷ ret 48 ∷ [])
     ∷ (ret 49 ∷ [])
     ∷ [])
 

@@ -277,7 +277,7 @@ tidy-inside p tidy r low once varying b z = by (writers r (written (placed p))) 
     offends-by : (ws : List Placed) → writers r (written (placed p)) ≡ ws → onlyOne (λ w. wrongFor (leads p) w (record { block = 0 + b; place = at .0; inst = read .0 })) ws ≡ false
     offends-by ws q = subst (λ ws. onlyOne (λ w. wrongFor (leads p) w (record { block = 0 + b; place = at .0; inst = read .0 })) ws ≡ false) q
         (subst (λ t. (t && onlyOne (λ w. wrongFor (leads p) w (record { block = 0 + b; place = at .0; inst = read .0 })) (writers r (written (placed p)))) ≡ false)
-          (lt-yes r (length (p .registers)) low) (read .1))
+        (lt-yes r (length (p .registers)) low) (read .1))
 
     by : (ws : List Placed) → writers r (written (placed p)) ≡ ws → length (writers r (written (placed p))) ≡ writesIn (joined (p .blocks)) r
         → All (Stands r (p .blocks)) (writers r (written (placed p))) → ⊥
