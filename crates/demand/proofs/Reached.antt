@@ -1,7 +1,7 @@
 -- The marks of Emit: block 0 is marked, and so is what a marked block leads to. A block that there isn't counts as marked.
 use Prim.Native.Nat.{ℕ, zero, suc, _≤_, _<_}
-use mathlib.Core.Path.{_≡_, refl, sym, ap, subst, _∙_}
-use mathlib.Core.Logic.{_⊎_, inl, inr}
+use mathlib.Core.Path.{_≡_, refl, sym, subst, _∙_}
+use mathlib.Core.Logic.{inl, inr}
 use mathlib.Core.List.{List, [], _∷_}
 use mathlib.Core.Bool.{Bool, true, false}
 use native.Mathlib.Omega.{arith}
@@ -14,7 +14,6 @@ use Rattle.paths.specs.Paths.{isIn, Leads, reachedFrom}
 use Rattle.paths.proofs.Paths.{in-here, in-more, leads-on, length-reached, reached-is}
 use Rattle.steps.specs.Emit.{leads, edgesOf, reached}
 use Rattle.demand.specs.Setting.{In}
-use Rattle.demand.proofs.Basics.{clash}
 
 in-isIn : (s : ℕ) (xs : List ℕ) → In s xs → isIn s xs ≡ true
 in-isIn s [] k = absurd k

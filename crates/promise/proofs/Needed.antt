@@ -1,9 +1,8 @@
 -- Every hypothesis is needed: files for which demand 3 fails, found by running, where one of them is left out.
-use Prim.Native.Nat.{ℕ, zero, suc, _+_, _*_, _≤_, _<_}
-use mathlib.Core.Path.{_≡_, refl, sym, ap, subst, _∙_}
+use Prim.Native.Nat.{ℕ, _+_, _*_, _<_}
+use mathlib.Core.Path.{_≡_, refl, ap}
 use mathlib.Core.Bool.{true}
-use mathlib.Core.List.{List, [], _∷_}
-use lib.Dec.{T}
+use mathlib.Core.List.{[], _∷_}
 use lib.ListN.{length}
 use Rattle.inst.specs.declared.Code.{Code}
 use Rattle.inst.specs.declared.CmpOp.{CmpOp}
@@ -28,13 +27,13 @@ use Rattle.roles.specs.Exchange.{exchanged}
 use Rattle.steps.specs.Copy.{howOf, ownUses, copyFrom, kindsGiven}
 use Rattle.steps.specs.Thread.{armOf, hopCondBr, stops, hopBr, hop, hops, threadFrom}
 use Rattle.steps.specs.Emit.{reached, stays, emptyFrom, rescuedOf, rescues}
-use Rattle.steps.specs.Run.{Shortened, emit, run}
+use Rattle.steps.specs.Run.{emit, run}
 use Rattle.machine.specs.Act.{opOf}
 use Rattle.machine.specs.Machine.{Regs, Address, Outside, effect}
 use Rattle.machine.specs.Single.{singleIn, constantIn, constantOf}
 use Rattle.machine.specs.Demand.{Alike, AlikeFrom, Demand3, shows, entries}
 use Rattle.machine.proofs.Printed.{code, stmt, br, condBr, ret, procedure, nowhere, willing, all}
-use Rattle.machine.proofs.Refuted.{weight, absent, none-of, regs, original, shortened, refute, looping, looping′, without-entries, one-entry}
+use Rattle.machine.proofs.Refuted.{weight, none-of, refute, looping, without-entries, one-entry}
 use Rattle.machine.proofs.Given.{looping-given}
 
 abbrev cmp : CmpOp → ℕ → ℕ → ℕ → ℕ → Code

@@ -1,13 +1,12 @@
 -- Demand 3, for every tidy file.
-use Prim.Native.Nat.{ℕ, _≤_}
+use Prim.Native.Nat.{ℕ}
 use native.Mathlib.Omega.{arith}
 use mathlib.Core.Path.{_≡_, refl, sym, ap, subst, _∙_}
-use mathlib.Core.List.{List, _++_}
+use mathlib.Core.List.{List}
 use lib.ListN.{length, take, drop}
 use lib.Seq.{take-append-seam}
-use Rattle.format.specs.Record.{recordsOf}
 use Rattle.store.specs.Store.{Bytes}
-use Rattle.procedure.specs.Procedure.{Procedure, procedureOf}
+use Rattle.procedure.specs.Procedure.{Procedure}
 use Rattle.tidy.specs.Tidy.{Tidy}
 use Rattle.steps.specs.Run.{run}
 use Rattle.steps.specs.Shorten.{success, shorten}

@@ -1,8 +1,8 @@
 -- What tidy says of a register that one field writes, not by a Const, ConstF or AddrOf: no block reads it before it is written there.
-use Prim.Native.Nat.{ℕ, zero, suc, _+_, _≤_, _<_}
+use Prim.Native.Nat.{ℕ, zero, suc, _+_, _<_}
 use mathlib.Core.Path.{_≡_, refl, sym, ap, subst, _∙_}
-use mathlib.Core.Logic.{_⊎_, inl, inr}
-use mathlib.Core.List.{List, [], _∷_, _++_, map}
+use mathlib.Core.Logic.{inl, inr}
+use mathlib.Core.List.{List, [], _∷_, _++_}
 use mathlib.Core.Bool.{Bool, true, false, _&&_, _||_, not, cond}
 use native.Mathlib.Omega.{arith}
 use lib.Dec.{eqb, ltb, leb}
@@ -14,9 +14,9 @@ use Rattle.inst.specs.declared.Inst.the-variants as i
 use Rattle.roles.specs.Roles.{defsOf, readsOf}
 use Rattle.procedure.specs.Procedure.{Procedure}
 use Rattle.procedure.specs.Lists.{joined, times}
-use Rattle.procedure.specs.Counts.{writesIn, singly}
+use Rattle.procedure.specs.Counts.{writesIn}
 use Rattle.ends.specs.Forms.{formOf, fixedOf, isFixed}
-use Rattle.tidy.specs.Tidy.{Placed, Field, placedIn, placedFrom, placed, fieldsAt, written, reads, writers, leads, tooEarly, later, wrong, wrongFor, onlyOne, offends, regsOf, offenders, Tidy}
+use Rattle.tidy.specs.Tidy.{Placed, Field, placedIn, placedFrom, placed, fieldsAt, written, reads, writers, leads, tooEarly, later, wrong, wrongFor, onlyOne, offends, regsOf, Tidy}
 use Rattle.demand.specs.Setting.{In, Each, defsAt, readsAt, Exposed}
 use Rattle.demand.specs.Whole.{Inside}
 use Rattle.demand.proofs.Basics.{clash, eqb-eq, eqb-true, eqb-false, and-both, not-false}
