@@ -1,5 +1,5 @@
 -- What the equal-arms step keeps: a fact that every rewriting of a CondBr to a Br keeps.
-use Prim.Native.Nat.{ℕ, zero, suc, _≤_, _<_}
+use Prim.Native.Nat.{ℕ, zero, suc, _≤_}
 use mathlib.Core.Path.{_≡_, refl, sym, ap, subst, _∙_}
 use mathlib.Core.Logic.{_⊎_, inl, inr}
 use mathlib.Core.List.{List, [], _∷_, _++_}
@@ -20,9 +20,8 @@ use Rattle.ends.specs.Ends.{viewOf, endOf, front, withEnd}
 use Rattle.steps.specs.EqualArms.{reachedFrom, Arms, joinIf, joinEnd, joinArms, joinFrom, equalArms}
 use Rattle.machine.specs.Machine.{Address}
 use Rattle.demand.specs.Setting.{defsAt, readsAt}
-use Rattle.demand.proofs.Effects.{Shape, computed, acting, going, testing, casing, ending, shape}
-use Rattle.demand.proofs.Rescued.{constant}
-use Rattle.demand.proofs.Codes.{Ended, ends-in, in-range, set-block}
+use Rattle.demand.proofs.Effects.{Shape, constant, computed, acting, going, testing, casing, ending, shape}
+use Rattle.demand.proofs.Codes.{ends-in, in-range, set-block}
 use Rattle.demand.proofs.Rewrites.{empty-end}
 use Rattle.demand.proofs.Counted.{writes-last}
 use Rattle.demand.proofs.Sums.{writes-count, sum-set}

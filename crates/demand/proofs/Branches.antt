@@ -1,9 +1,9 @@
 -- The end of one block rewritten: what every program of the steps keeps, and the branches' effects.
-use Prim.Native.Nat.{ℕ, zero, suc, _≤_, _<_}
+use Prim.Native.Nat.{ℕ, _≤_, _<_}
 use mathlib.Core.Path.{_≡_, refl, sym, ap, subst, _∙_}
 use mathlib.Core.Logic.{_⊎_, inl, inr}
-use mathlib.Core.List.{List, [], _∷_, _++_, map}
-use mathlib.Core.Bool.{Bool, true, false}
+use mathlib.Core.List.{List, [], _∷_, _++_}
+use mathlib.Core.Bool.{false}
 use native.Mathlib.Omega.{arith}
 use lib.ListN.{length, getD, set}
 use Rattle.inst.specs.declared.Code.{Code}
@@ -12,17 +12,15 @@ use Rattle.inst.specs.declared.BlockId.{BlockId}
 use Rattle.inst.specs.declared.Inst.{Inst}
 use Rattle.inst.specs.declared.Inst.the-variants as i
 use Rattle.codec.specs.Codec.{regOf, blockOf}
-use Rattle.roles.specs.Roles.{defsOf, readsOf, noList}
+use Rattle.roles.specs.Roles.{defsOf, readsOf}
 use Rattle.word.specs.Word.{choose}
 use Rattle.ends.specs.declared.End.{End}
 use Rattle.ends.specs.declared.End.the-variants as e
-use Rattle.ends.specs.Ends.{terminatorOf, viewOf, endOf, front, withEnd}
+use Rattle.ends.specs.Ends.{terminatorOf, viewOf, front, withEnd}
 use Rattle.codec.specs.Codec.{withInst}
 use Rattle.machine.specs.Machine.{Regs, effect, goes}
 use Rattle.demand.specs.Setting.{In, Each, Front, Setting, does, defsAt, readsAt, Written, Read, Exposed, Hidden, Fine, Loaded, Behind}
-use Rattle.demand.proofs.Basics.{clash}
-use Rattle.demand.proofs.Effects.{Shape, computed, acting, going, testing, casing, ending, shape}
-use Rattle.demand.proofs.Rescued.{constant}
+use Rattle.demand.proofs.Effects.{Shape, constant, computed, acting, going, testing, casing, ending, shape}
 use Rattle.demand.proofs.Codes.{each-append, each-left, each-right, front-each, each-front, exposed-left, exposed-right, exposed-split, read-exposed, Ended, set-block}
 use Rattle.demand.proofs.Edit.{Tail, Block, whole, part}
 

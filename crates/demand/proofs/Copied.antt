@@ -1,20 +1,17 @@
 -- The code that is copied, and what becomes of each instruction in the copy.
-use Prim.Native.Nat.{ℕ, zero, suc, _+_, _≤_, _<_}
+use Prim.Native.Nat.{ℕ, _≤_}
 use mathlib.Core.Path.{_≡_, refl, sym, ap, subst, _∙_}
-use mathlib.Core.Logic.{_⊎_, inl, inr}
-use mathlib.Core.List.{List, [], _∷_, _++_, map, map-map, map-id, append-nil}
-use mathlib.Core.Option.{Option, none, some}
+use mathlib.Core.Logic.{inl, inr}
+use mathlib.Core.List.{List, [], _∷_, map, map-map, append-nil}
+use mathlib.Core.Option.{none, some}
 use mathlib.Core.Bool.{Bool, true, false, _&&_, _||_, cond}
-use native.Mathlib.Omega.{arith}
 use lib.Dec.{eqb, ltb}
-use lib.ListN.{length, getD}
+use lib.ListN.{length}
 use Rattle.inst.specs.Inst.{kindOf}
 use Rattle.inst.specs.declared.Code.{Code}
-use Rattle.inst.specs.declared.OptReg.the-variants as o
 use Rattle.inst.specs.declared.Inst.{Inst}
 use Rattle.inst.specs.declared.Inst.the-variants as i
-use Rattle.roles.specs.Roles.{defsOf, usesOf, listOf, readsOf, noList}
-use Rattle.procedure.specs.Lists.{found, valueOr}
+use Rattle.roles.specs.Roles.{usesOf, listOf, noList}
 use Rattle.ends.specs.Forms.{Fixed, word, real, address, varying, formOf, fixedOf, isFixed}
 use Rattle.codec.specs.Codec.{withInst}
 use Rattle.read.specs.Structure.{terminatorKind}
@@ -23,14 +20,13 @@ use Rattle.steps.specs.Small.{dupable, smallEndKind, smallEnd, copyable}
 use Rattle.steps.specs.Facts.{Facts}
 use Rattle.roles.specs.Exchange.{exchanged}
 use Rattle.roles.proofs.Exchanged.{defs-exchanged, uses-exchanged, list-exchanged}
-use Rattle.steps.specs.Copy.{How, leftOut, renumbered, kept, howFixed, howSingle, howWritten, howOf, readThrough, renamed}
+use Rattle.steps.specs.Copy.{How, leftOut, renumbered, kept, howFixed, howSingle, howOf}
 use Rattle.machine.specs.Machine.{Regs, Effect, writes, goes, ends, asks, effect}
-use Rattle.machine.specs.Single.{given, constantOf}
+use Rattle.machine.specs.Single.{constantOf}
 use Rattle.machine.proofs.Exchanged.{effect-exchanged}
 use Rattle.demand.specs.Setting.{In, Setting, does, defsAt, readsAt}
 use Rattle.demand.proofs.Basics.{clash, eqb-eq, and-both}
-use Rattle.demand.proofs.Effects.{Shape, computed, acting, going, testing, casing, ending, shape, plain, varies, fixed-constant}
-use Rattle.demand.proofs.Rescued.{constant}
+use Rattle.demand.proofs.Effects.{Shape, constant, computed, acting, going, testing, casing, ending, shape, plain, varies, fixed-constant}
 
 -- an effect that leaves the block
 abbrev pub Leaves : Effect → Type 0

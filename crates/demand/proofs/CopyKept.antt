@@ -1,25 +1,24 @@
 -- The copy of a block is as good as the block: what it exposes, which numbers it names, how it ends.
-use Prim.Native.Nat.{ℕ, zero, suc, _+_, _≤_, _<_}
+use Prim.Native.Nat.{ℕ, suc, _+_, _≤_, _<_}
 use mathlib.Core.Path.{_≡_, refl, sym, ap, subst, _∙_}
 use mathlib.Core.Logic.{_⊎_, inl, inr}
-use mathlib.Core.List.{List, [], _∷_, _++_, map, map-id}
+use mathlib.Core.List.{List, [], _∷_, _++_, map-id}
 use mathlib.Core.Option.{Option, none, some}
-use mathlib.Core.Bool.{Bool, true, false, _&&_, cond}
+use mathlib.Core.Bool.{false, _&&_}
 use native.Mathlib.Omega.{arith}
 use native.Mathlib.Decide.{ℕ-discrete}
-use lib.Dec.{eqb, ltb}
-use lib.ListN.{length, getD}
+use lib.Dec.{ltb}
+use lib.ListN.{length}
 use Rattle.inst.specs.declared.Code.{Code}
 use Rattle.roles.specs.Roles.{listOf, noList}
 use Rattle.procedure.specs.Lists.{found, valueOr}
 use Rattle.steps.specs.Facts.{Facts}
-use Rattle.steps.specs.Copy.{How, leftOut, renumbered, kept, howOf, readThrough, written, renamed, place, copyFrom, kindFor, kindsGiven}
-use Rattle.machine.specs.Single.{constantOf}
-use Rattle.demand.specs.Setting.{In, Each, Front, Setting, defsAt, readsAt, Read, Exposed, Fine}
-use Rattle.demand.proofs.Basics.{clash, clash-some, eqb-true, in-map}
+use Rattle.steps.specs.Copy.{How, howOf, readThrough, written, renamed, place, copyFrom, kindFor, kindsGiven}
+use Rattle.demand.specs.Setting.{In, Each, Front, Setting, defsAt, readsAt, Exposed, Fine}
+use Rattle.demand.proofs.Basics.{clash-some, eqb-true, in-map}
 use Rattle.demand.proofs.Codes.{each-front}
 use Rattle.demand.proofs.Branches.{Low, NoEnd}
-use Rattle.demand.proofs.Copied.{Silent, Last, Small, terminator-exchanged, renamed-defs, renamed-reads, renamed-constant, all-own, Way, way-out, way-new, way-kept, way-last, way-silent}
+use Rattle.demand.proofs.Copied.{Silent, Last, Small, terminator-exchanged, renamed-defs, renamed-reads, renamed-constant, Way, way-out, way-new, way-kept, way-last, way-silent}
 use Rattle.demand.proofs.Joined.{found-old, found-new, found-other}
 
 module _ (E : Setting) (f : Facts) (same-one : (r : ℕ) → (ltb r (length (f .registers)) && f .single r) ≡ E .one r) (own : ℕ → ℕ) where

@@ -1,13 +1,13 @@
 -- What a copy writes and reads of a register that one field writes.
-use Prim.Native.Nat.{ℕ, zero, suc, _+_, _≤_, _<_}
+use Prim.Native.Nat.{ℕ, suc, _≤_, _<_}
 use mathlib.Core.Path.{_≡_, refl, sym, ap, subst, _∙_}
 use mathlib.Core.Logic.{_⊎_, inl, inr}
 use mathlib.Core.List.{List, [], _∷_, _++_, map}
 use mathlib.Core.Option.{Option, none, some}
-use mathlib.Core.Bool.{Bool, true, false, _&&_, cond}
+use mathlib.Core.Bool.{Bool, true, false, _&&_}
 use native.Mathlib.Omega.{arith}
 use native.Mathlib.Decide.{ℕ-discrete}
-use lib.Dec.{eqb, ltb}
+use lib.Dec.{ltb}
 use lib.ListN.{length}
 use Rattle.inst.specs.declared.Code.{Code}
 use Rattle.roles.specs.Roles.{listOf, noList}
@@ -15,11 +15,11 @@ use Rattle.procedure.specs.Lists.{times, found, valueOr}
 use Rattle.procedure.specs.Counts.{writesIn}
 use Rattle.ends.specs.Ends.{front}
 use Rattle.steps.specs.Facts.{Facts}
-use Rattle.steps.specs.Copy.{How, leftOut, renumbered, kept, howOf, readThrough, written, renamed, place, copyFrom}
+use Rattle.steps.specs.Copy.{How, howOf, readThrough, written, renamed, place, copyFrom}
 use Rattle.demand.specs.Setting.{In, Each, Setting, defsAt, readsAt, Written, Read, Exposed, Fine}
 use Rattle.demand.proofs.Basics.{clash, clash-some, in-mapped}
 use Rattle.demand.proofs.Effects.{constant-fixes}
-use Rattle.demand.proofs.Copied.{Silent, Last, Small, renamed-reads, all-own, Way, way-out, way-new, way-kept, way-last, way-silent}
+use Rattle.demand.proofs.Copied.{Silent, Small, renamed-reads, all-own, Way, way-out, way-new, way-kept, way-last, way-silent}
 use Rattle.demand.proofs.Joined.{found-old, found-new, found-other}
 use Rattle.demand.proofs.CopyKept.{defs-kept, defs-new, only, read-through}
 use Rattle.demand.proofs.Counted.{times-none, front-cons, reader, readersIn, reader-of, reader-more}

@@ -1,17 +1,17 @@
 -- One block's end replaced: the two runs stay related. Registers agree where they aren't local, or are exposed in what the new run has left of its block.
-use Prim.Native.Nat.{ℕ, zero, suc, _*_, _≤_, _<_}
-use mathlib.Core.Path.{_≡_, refl, sym, ap, subst, subst₂, _∙_}
+use Prim.Native.Nat.{ℕ, _*_, _≤_}
+use mathlib.Core.Path.{_≡_, refl, sym, ap, subst₂, _∙_}
 use mathlib.Core.Logic.{_⊎_, inl, inr}
-use mathlib.Core.List.{List, [], _∷_, _++_, map}
+use mathlib.Core.List.{List, [], _∷_, _++_}
 use mathlib.Core.Option.{Option, none, some}
-use mathlib.Core.Bool.{true, false}
+use mathlib.Core.Bool.{false}
 use native.Mathlib.Omega.{arith}
 use lib.ListN.{getD}
 use Rattle.inst.specs.declared.Code.{Code}
 use Rattle.machine.specs.Act.{Act}
-use Rattle.machine.specs.Machine.{Regs, End, Effect, writes, goes, ends, asks, State, at, done, stores, shown, enter, answered, after, effect, step, entry, entryOf, ranOut}
+use Rattle.machine.specs.Machine.{Regs, End, Effect, writes, goes, ends, asks, State, at, done, stores, shown, answered, after, effect, step, entry, entryOf, ranOut}
 use Rattle.machine.proofs.Shorter.{Mach, Shorter, Stretch, simulates, together, mach}
-use Rattle.demand.specs.Setting.{In, Each, Setting, code, does, defsAt, readsAt, Exposed, Hidden, Fine, Loaded, Passes, Behind}
+use Rattle.demand.specs.Setting.{Each, Setting, code, does, defsAt, readsAt, Exposed, Hidden, Fine, Loaded, Passes, Behind}
 use Rattle.demand.proofs.Basics.{map-same, stores-agree}
 use Rattle.demand.proofs.Effects.{effect-is, keeps}
 use Rattle.demand.proofs.Stretches.{widen}

@@ -1,7 +1,7 @@
 -- The 24 kinds in five shapes: what an instruction's effect is made of. All else that the proof knows of a kind follows from its shape.
 use Prim.Native.Nat.{ℕ, zero, suc, _≤_}
-use mathlib.Core.Path.{_≡_, refl, sym, ap, subst, _∙_}
-use mathlib.Core.Logic.{_⊎_, inl, inr}
+use mathlib.Core.Path.{_≡_, refl, sym, subst, _∙_}
+use mathlib.Core.Logic.{inl, inr}
 use mathlib.Core.List.{List, [], _∷_, _++_, map}
 use mathlib.Core.Option.{Option, none, some}
 use mathlib.Core.Bool.{Bool, true, false, cond}
@@ -20,14 +20,13 @@ use Rattle.ends.specs.declared.End.the-variants as e
 use Rattle.ends.specs.Forms.{Fixed, word, real, address, varying, formOf, fixedOf, isFixed}
 use Rattle.ends.specs.Ends.{terminatorOf, viewOf}
 use Rattle.steps.specs.Small.{dupable}
-use Rattle.steps.specs.Emit.{leads}
 use Rattle.word.specs.Word.{choose, compares, tests, within, armOf, targetOf}
 use Rattle.machine.specs.Act.{opOf, actOf}
 use Rattle.inst.specs.declared.Code.{Code}
-use Rattle.machine.specs.Machine.{Address, Outside, Regs, End, Effect, writes, goes, ends, asks, returned, unreachable, effect, effectOf, stores, upd}
-use Rattle.machine.specs.Single.{given, constantOf}
+use Rattle.machine.specs.Machine.{Address, Regs, End, Effect, writes, goes, ends, asks, returned, unreachable, effect, effectOf, stores, upd}
+use Rattle.machine.specs.Single.{constantOf}
 use Rattle.demand.proofs.Basics.{clash, clash-some, dec-in, upd-same, upd-other, stores-other}
-use Rattle.demand.specs.Setting.{In, Setting, code, does, defsAt, readsAt, Fine, Loaded, Passes}
+use Rattle.demand.specs.Setting.{In, Setting, code, does, defsAt, Fine, Loaded, Passes}
 
 -- an arm is one of the table's targets
 pub arm-in : (arms : List Arm) (d v : ℕ) → In (armOf arms d v) (map (λ a. a .target) arms ++ (d ∷ []))

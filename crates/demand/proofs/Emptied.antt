@@ -1,28 +1,27 @@
 -- Blocks that no run comes to may be anything.
-use Prim.Native.Nat.{ℕ, zero, suc, _+_, _*_, _≤_, _<_}
-use mathlib.Core.Path.{_≡_, refl, sym, ap, subst, subst₂, _∙_}
+use Prim.Native.Nat.{ℕ, zero, suc, _<_}
+use mathlib.Core.Path.{_≡_, refl, sym, subst, subst₂, _∙_}
 use mathlib.Core.Logic.{_⊎_, inl, inr}
-use mathlib.Core.List.{List, [], _∷_, _++_, map}
+use mathlib.Core.List.{List, [], _∷_, map}
 use mathlib.Core.Option.{Option, none, some}
-use mathlib.Core.Bool.{Bool, true, false, _||_, _&&_, cond}
+use mathlib.Core.Bool.{Bool, true, false, cond}
 use native.Mathlib.Omega.{arith}
 use lib.ListN.{length, getD}
 use Rattle.inst.specs.declared.Code.{Code}
 use Rattle.inst.specs.declared.StmtId.{StmtId}
 use Rattle.inst.specs.declared.Inst.the-variants as i
 use Rattle.codec.specs.Codec.{blockOf}
-use Rattle.procedure.specs.Procedure.{Table, tableAt}
+use Rattle.procedure.specs.Procedure.{tableAt}
 use Rattle.ends.specs.declared.End.the-variants as e
 use Rattle.ends.specs.Ends.{terminatorOf, viewOf, endOf}
 use Rattle.steps.specs.Facts.{Facts}
-use Rattle.steps.specs.Emit.{leads, stays, emptied, emptyFrom, isRescued, rescuedOf, rescues, ontoFront}
+use Rattle.steps.specs.Emit.{leads, stays, emptied, emptyFrom, isRescued, rescuedOf, rescues}
 use Rattle.machine.specs.Act.{Act}
-use Rattle.machine.specs.Machine.{Regs, End, Effect, writes, goes, ends, asks, State, at, done, stores, shown, ranOut, answered, after, effect}
+use Rattle.machine.specs.Machine.{Regs, End, Effect, writes, goes, ends, asks, State, at, done, shown, ranOut, answered, after}
 use Rattle.machine.proofs.Shorter.{Mach, Shorter, Stretch, simulates, together, mach}
 use Rattle.demand.specs.Setting.{In, Each, Front, Setting, code, does, defsAt, readsAt}
 use Rattle.demand.proofs.Basics.{clash}
-use Rattle.demand.proofs.Effects.{Shape, computed, acting, going, testing, casing, ending, shape, choose-in, arm-in}
-use Rattle.demand.proofs.Rescued.{constant}
+use Rattle.demand.proofs.Effects.{Shape, constant, computed, acting, going, testing, casing, ending, shape, choose-in, arm-in}
 use Rattle.demand.proofs.Codes.{each-append}
 use Rattle.demand.proofs.Branches.{NoEnd}
 use Rattle.demand.proofs.Edit.{step-is, weigh}

@@ -1,38 +1,38 @@
 -- A Br gives way to the code of its target: the runs stay related, and the program stays good.
-use Prim.Native.Nat.{ℕ, zero, suc, _+_, _≤_, _<_}
+use Prim.Native.Nat.{ℕ, _+_, _≤_, _<_}
 use mathlib.Core.Path.{_≡_, refl, sym, ap, subst, _∙_}
 use mathlib.Core.Logic.{_⊎_, inl, inr}
-use mathlib.Core.List.{List, [], _∷_, _++_, map, append-nil}
-use mathlib.Core.Option.{Option, none, some}
-use mathlib.Core.Bool.{Bool, true, false, _&&_, cond}
+use mathlib.Core.List.{List, [], _∷_, _++_, append-nil}
+use mathlib.Core.Option.{some}
+use mathlib.Core.Bool.{Bool, true, false, _&&_}
 use native.Mathlib.Omega.{arith}
-use lib.Dec.{T, eqb, ltb, leb, leb→le}
+use lib.Dec.{T, ltb, leb, leb→le}
 use lib.ListN.{length, getD, set}
 use Rattle.inst.specs.declared.Code.{Code}
 use Rattle.inst.specs.declared.BlockId.{BlockId}
 use Rattle.roles.specs.Roles.{usesOf, listOf, noList}
-use Rattle.procedure.specs.Lists.{times, found}
+use Rattle.procedure.specs.Lists.{found}
 use Rattle.procedure.specs.Counts.{writesIn}
 use Rattle.ends.specs.declared.End.the-variants as e
 use Rattle.ends.specs.Ends.{endOf, front}
 use Rattle.steps.specs.Small.{copyable, small}
 use Rattle.steps.specs.Facts.{Facts}
-use Rattle.steps.specs.Copy.{ownUses, readThrough, copyFrom, copyOf, kindsOf}
+use Rattle.steps.specs.Copy.{ownUses, copyFrom, kindsOf}
 use Rattle.machine.specs.Machine.{Regs, at}
-use Rattle.demand.specs.Setting.{In, Each, Setting, defsAt, readsAt, Written, Read, Exposed, Hidden, Fine, Loaded, Behind}
-use Rattle.demand.proofs.Basics.{clash, clash-some, eqb-true, and-both, in-left}
+use Rattle.demand.specs.Setting.{In, Each, Setting, readsAt, Written, Read, Exposed, Hidden, Fine, Loaded}
+use Rattle.demand.proofs.Basics.{clash, clash-some, eqb-true, and-both}
 use Rattle.demand.proofs.Stretches.{ahead}
 use Rattle.demand.proofs.Codes.{each-append, each-left, front-each, each-front, exposed-left, exposed-split, read-split, Ended, ends-in, in-range, front-append}
-use Rattle.demand.proofs.Edit.{Meet, Live, meet, Tail, Block, edited}
+use Rattle.demand.proofs.Edit.{Meet, Live, meet, Tail, edited}
 use Rattle.demand.proofs.Branches.{br-does, Low, NoEnd, Good, set-good, part-blocks}
 use Rattle.demand.proofs.Jumps.{goes-is}
 use Rattle.demand.proofs.Rewrites.{Edited, always, empty-end}
-use Rattle.demand.proofs.Copied.{Silent, Last, Small, small-is, all-own}
+use Rattle.demand.proofs.Copied.{Small, small-is, all-own}
 use Rattle.demand.proofs.Joined.{Ready, copy-runs}
 use Rattle.demand.proofs.CopyKept.{copy-hidden, Copy, copied-well}
 use Rattle.demand.proofs.Counted.{times-none, times-some, times-most, writes-append, unwritten, front-writes, front-read, readersIn, readers-append}
-use Rattle.demand.proofs.CopySparse.{owned-unwritten, owned-unread, copy-read, copy-some, Balanced, copy-balanced}
-use Rattle.demand.proofs.Sparse.{Quiet, Sparse, busy, quiet, sparse-set, once-small}
+use Rattle.demand.proofs.CopySparse.{owned-unwritten, owned-unread, copy-read, copy-some, copy-balanced}
+use Rattle.demand.proofs.Sparse.{Quiet, Sparse, sparse-set, once-small}
 
 br-no-other : (l : BlockId) → e.Br l ≡ e.Other → ⊥
 br-no-other l q = let z : _≡_ {A = ℕ} 0 1 = cc in omega arith

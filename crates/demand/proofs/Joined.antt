@@ -1,5 +1,5 @@
 -- The copy of a block runs as the block does: registers are read through their new numbers.
-use Prim.Native.Nat.{ℕ, zero, suc, _+_, _≤_, _<_}
+use Prim.Native.Nat.{ℕ, suc, _+_, _≤_, _<_}
 use mathlib.Core.Path.{_≡_, refl, sym, ap, subst, subst₂, _∙_}
 use mathlib.Core.Logic.{_⊎_, inl, inr}
 use mathlib.Core.List.{List, [], _∷_, _++_, map}
@@ -8,25 +8,25 @@ use mathlib.Core.Bool.{Bool, true, false, _&&_, cond}
 use native.Mathlib.Omega.{arith}
 use native.Mathlib.Decide.{ℕ-discrete}
 use lib.Dec.{eqb, ltb}
-use lib.ListN.{length, getD}
+use lib.ListN.{length}
 use Rattle.inst.specs.declared.Code.{Code}
 use Rattle.procedure.specs.Lists.{times, found, valueOr}
 use Rattle.procedure.specs.Counts.{writesIn}
 use Rattle.steps.specs.Facts.{Facts}
-use Rattle.steps.specs.Copy.{How, leftOut, renumbered, kept, howOf, readThrough, written, renamed, place, copyFrom}
+use Rattle.steps.specs.Copy.{How, howOf, readThrough, written, renamed, place, copyFrom}
 use Rattle.machine.specs.Act.{Act}
-use Rattle.machine.specs.Machine.{Regs, Effect, writes, goes, ends, asks, State, at, done, stores, upd, after, step}
+use Rattle.machine.specs.Machine.{Regs, Effect, writes, goes, ends, asks, at, upd, after, step}
 use Rattle.machine.specs.Single.{constantOf}
-use Rattle.machine.proofs.Shorter.{Stretch, together}
-use Rattle.demand.specs.Setting.{In, Each, Setting, code, does, defsAt, readsAt, Read, Exposed, Fine, Loaded, Passes}
+use Rattle.machine.proofs.Shorter.{together}
+use Rattle.demand.specs.Setting.{In, Each, Setting, code, does, defsAt, readsAt, Read, Fine, Loaded, Passes}
 use Rattle.demand.proofs.Basics.{clash, clash-some, eqb-true, eqb-false, map-same, upd-same, upd-other}
 use Rattle.demand.proofs.Effects.{keeps, constant-does}
 use Rattle.demand.proofs.Stretches.{ahead, abreast}
 use Rattle.demand.proofs.Codes.{exposed-read}
-use Rattle.demand.proofs.Edit.{Meet, Live, step-is, old, new, Same, entering, both, weigh}
+use Rattle.demand.proofs.Edit.{Meet, Live, step-is, Same, entering, both, weigh}
 use Rattle.demand.proofs.Branches.{Low}
 use Rattle.demand.proofs.Jumps.{St}
-use Rattle.demand.proofs.Copied.{Leaves, Silent, Last, Small, renamed-defs, renamed-reads, renamed-does, all-own, Way, way-out, way-new, way-kept, way-last, way-silent}
+use Rattle.demand.proofs.Copied.{Leaves, Silent, Last, Small, renamed-defs, renamed-does, all-own, Way, way-out, way-new, way-kept, way-last, way-silent}
 
 -- a register has a new number
 abbrev pub counted : Option ℕ → ℕ

@@ -1,35 +1,27 @@
 -- Ends of blocks that both go somewhere: at once to one block, or over lone branches.
-use Prim.Native.Nat.{ℕ, zero, suc, _≤_, _<_}
-use mathlib.Core.Path.{_≡_, refl, sym, ap, subst, subst₂, _∙_}
-use mathlib.Core.Logic.{_⊎_, inl, inr}
-use mathlib.Core.List.{List, [], _∷_, _++_}
-use mathlib.Core.Option.{Option, none, some}
-use mathlib.Core.Bool.{Bool, true, false, _||_, cond}
+use Prim.Native.Nat.{ℕ, zero, suc}
+use mathlib.Core.Path.{_≡_, refl, sym, ap, subst₂, _∙_}
+use mathlib.Core.List.{List, [], _∷_}
+use mathlib.Core.Bool.{Bool, true, false, cond}
 use native.Mathlib.Omega.{arith}
 use lib.Dec.{eqb}
-use lib.ListN.{length, getD, set}
+use lib.ListN.{getD}
 use Rattle.inst.specs.declared.Code.{Code}
-use Rattle.inst.specs.declared.Reg.{Reg}
-use Rattle.inst.specs.declared.BlockId.{BlockId}
-use Rattle.inst.specs.declared.Inst.the-variants as i
-use Rattle.codec.specs.Codec.{regOf, blockOf}
-use Rattle.procedure.specs.Lists.{holds}
 use Rattle.word.specs.Word.{choose}
 use Rattle.ends.specs.declared.End.{End}
 use Rattle.ends.specs.declared.End.the-variants as e
-use Rattle.ends.specs.Ends.{viewOf, endOf, loneOf, front, withEnd}
-use Rattle.codec.specs.Codec.{withInst}
+use Rattle.ends.specs.Ends.{loneOf}
 use Rattle.steps.specs.EqualArms.{past, follow}
 use Rattle.steps.specs.Thread.{matching}
 use Rattle.machine.specs.Act.{Act}
-use Rattle.machine.specs.Machine.{Regs, State, at, done, goes, after, step}
-use Rattle.machine.proofs.Shorter.{Mach, Shorter, Stretch, together, mach, shorter-refl, shorter-trans}
-use Rattle.demand.specs.Setting.{In, Each, Setting, code, does, defsAt, readsAt, Loaded}
-use Rattle.demand.proofs.Basics.{clash, eqb-eq}
+use Rattle.machine.specs.Machine.{Regs, State, at, goes, after, step}
+use Rattle.machine.proofs.Shorter.{Stretch, together}
+use Rattle.demand.specs.Setting.{Setting, code, does, defsAt, Loaded}
+use Rattle.demand.proofs.Basics.{eqb-eq}
 use Rattle.demand.proofs.Stretches.{ahead}
 use Rattle.demand.proofs.Codes.{lone-is}
 use Rattle.demand.proofs.Edit.{Meet, step-is, old, new, Same, entering, weigh}
-use Rattle.demand.proofs.Branches.{br-does, Tests, cond-does}
+use Rattle.demand.proofs.Branches.{br-does, cond-does}
 
 module _ (E : Setting) (κ : ℕ) (rs rs′ : List ℕ) (P P′ : List (List Code)) where
   abbrev pub St : State → State → Type 0

@@ -1,12 +1,10 @@
 -- What `note` gathers holds behind the code that it looked at, and the source of a copy was read there.
-use Prim.Native.Nat.{ℕ, zero, suc}
-use mathlib.Core.Path.{_≡_, refl, sym, ap, subst, _∙_}
+use Prim.Native.Nat.{ℕ}
+use mathlib.Core.Path.{_≡_, refl, sym, subst, _∙_}
 use mathlib.Core.Logic.{_⊎_, inl, inr}
 use mathlib.Core.List.{List, [], _∷_, _++_, map}
 use mathlib.Core.Option.{Option, none, some}
 use mathlib.Core.Bool.{Bool, true, false, _||_, cond}
-use native.Mathlib.Omega.{arith}
-use native.Mathlib.Decide.{ℕ-discrete}
 use lib.Dec.{eqb}
 use lib.ListN.{getD, drop}
 use Rattle.inst.specs.declared.Code.{Code}
@@ -14,14 +12,14 @@ use Rattle.inst.specs.declared.BoolOp.{BoolOp}
 use Rattle.inst.specs.declared.BoolOp.the-variants as b
 use Rattle.inst.specs.declared.Inst.{Inst}
 use Rattle.inst.specs.declared.Inst.the-variants as i
-use Rattle.roles.specs.Roles.{defsOf, usesOf, listOf, readsOf, boolUses, noList}
+use Rattle.roles.specs.Roles.{defsOf, readsOf, boolUses}
 use Rattle.procedure.specs.Procedure.{Table}
 use Rattle.procedure.specs.Lists.{found, orElse, valueOr}
 use Rattle.word.specs.Word.{tests}
 use Rattle.ends.specs.Forms.{Form, const, constF, addrOf, move, bool, bin, jump, other, formOf}
 use Rattle.steps.specs.Facts.{Facts}
-use Rattle.steps.specs.Note.{Known, nothing, valuesWithout, copiesWithout, forget, forgetAll, withValue, withCopy, withValueIf, sourceOf, valueOf, alike, noteMove, boolOfOne, boolOf, learnt, learn, note, notes}
-use Rattle.machine.specs.Machine.{Address, Regs, Effect, writes, goes, ends, asks, effect, stores, upd}
+use Rattle.steps.specs.Note.{Known, nothing, valuesWithout, copiesWithout, forget, forgetAll, withCopy, withValueIf, sourceOf, valueOf, alike, noteMove, boolOf, learnt, learn, note, notes}
+use Rattle.machine.specs.Machine.{Address, Regs, writes, effect, stores, upd}
 use Rattle.demand.specs.Setting.{In, Each, Setting, does, defsAt, readsAt, Read, Fine, Loaded, Passes, Behind}
 use Rattle.demand.proofs.Basics.{clash, clash-some, eqb-eq, eqb-true, upd-same, upd-other, or-none}
 use Rattle.demand.proofs.Effects.{keeps, passes-any, passes-map, passes-both}

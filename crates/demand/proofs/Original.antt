@@ -1,36 +1,31 @@
 -- The original procedure: its setting, and that it is good and sparse.
-use Prim.Native.Nat.{ℕ, zero, suc, _+_, _≤_, _<_, min}
+use Prim.Native.Nat.{ℕ, _≤_, _<_, min}
 use mathlib.Core.Path.{_≡_, refl, sym, ap, subst, _∙_}
 use mathlib.Core.Logic.{_⊎_, inl, inr}
-use mathlib.Core.List.{List, [], _∷_, _++_}
+use mathlib.Core.List.{List, [], _∷_}
 use mathlib.Core.Option.{Option, none, some}
 use mathlib.Core.Bool.{Bool, true, false, _&&_, _||_, not, cond}
 use native.Mathlib.Omega.{arith}
-use native.Mathlib.Decide.{ℕ-discrete}
 use lib.Dec.{T, eqb, ltb, ltb→lt, lt→ltb}
 use lib.ListN.{length, getD}
 use Rattle.inst.specs.declared.Code.{Code}
 use Rattle.inst.specs.declared.Inst.{Inst}
 use Rattle.procedure.specs.Procedure.{Procedure}
 use Rattle.procedure.specs.Lists.{anyOf, joined, present, orElse}
-use Rattle.procedure.specs.Counts.{writesIn, singly, useCount}
+use Rattle.procedure.specs.Counts.{writesIn, singly}
 use Rattle.ends.specs.Forms.{Form, const, constF, addrOf, move, bool, bin, jump, other, formOf, fixedIn, fixedOf, isFixed}
-use Rattle.ends.specs.Ends.{front}
-use Rattle.steps.specs.Facts.{Facts, wordOf, writes as names, constIn, constOf, factsOf}
-use Rattle.steps.specs.EqualArms.{equalArms}
-use Rattle.machine.specs.Machine.{Address, Outside, writes, effect}
-use Rattle.machine.specs.Single.{given, constantOf, constantIn, singleIn, single}
-use Rattle.demand.specs.Setting.{In, Each, Front, Setting, defsAt, readsAt, Written, Read, Exposed, Hidden, Fine}
+use Rattle.steps.specs.Facts.{wordOf, writes as names, constIn}
+use Rattle.machine.specs.Machine.{Address, Outside}
+use Rattle.machine.specs.Single.{constantOf, constantIn, singleIn, single}
+use Rattle.demand.specs.Setting.{In, Each, Setting, defsAt, readsAt, Written, Read, Hidden, Fine}
 use Rattle.demand.specs.Whole.{Whole, Inside}
 use Rattle.demand.proofs.Basics.{clash, clash-some, eqb-eq, eqb-true, and-both, any-in}
 use Rattle.demand.proofs.Effects.{fixed-constant}
 use Rattle.demand.proofs.Noted.{Says, says}
-use Rattle.demand.proofs.Codes.{each-map, exposed-read, exposed-left, read-exposed, read-split, dec-read, dec-written, Ended, ended}
-use Rattle.demand.proofs.Branches.{Low, NoEnd, Good}
-use Rattle.demand.proofs.Counted.{times-some, times-most, times-none, written-once, unwritten, front-writes, front-read, readersIn, hidden-reader, unread, uses-append}
-use Rattle.demand.proofs.Sparse.{Quiet, Sparse, busy, quiet}
-use Rattle.demand.proofs.Sums.{each-joined, joined-each, writes-count, uses-count, sum-one, sum-two, sum-only}
-use Rattle.demand.proofs.Arms.{EndFew}
+use Rattle.demand.proofs.Codes.{each-map, exposed-read}
+use Rattle.demand.proofs.Branches.{Good}
+use Rattle.demand.proofs.Counted.{times-some}
+use Rattle.demand.proofs.Sums.{each-joined, joined-each}
 
 -- an instruction names a register
 names-in : (r : ℕ) (x : Code) → names r (x .inst) ≡ true → In r (defsAt x)

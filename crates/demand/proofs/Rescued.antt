@@ -1,5 +1,5 @@
 -- Single constants written once more at the front of block 0: they hold already, and each entry into block 0 pays for them.
-use Prim.Native.Nat.{ℕ, zero, suc, _+_, _*_, _≤_, _<_}
+use Prim.Native.Nat.{ℕ, zero, suc, _*_, _≤_, _<_}
 use mathlib.Core.Path.{_≡_, refl, sym, ap, subst, subst₂, _∙_, fun-ext}
 use mathlib.Core.Logic.{_⊎_, inl, inr}
 use mathlib.Core.List.{List, [], _∷_, _++_}
@@ -13,8 +13,8 @@ use Rattle.machine.specs.Act.{Act}
 use Rattle.machine.specs.Machine.{Regs, End, Effect, writes, goes, ends, asks, State, at, done, stores, upd, shown, ranOut, start, answered, after, step, run, entry, entryOf, intoZero}
 use Rattle.machine.specs.Single.{constantOf}
 use Rattle.machine.specs.Demand.{shows}
-use Rattle.machine.proofs.Shorter.{Mach, Shorter, Stretch, simulates, together, mach, steps, seen, spent, steps-run, spent-is, at-once, alike}
-use Rattle.demand.specs.Setting.{In, Each, Setting, code, does, defsAt, Fine, Loaded, Passes}
+use Rattle.machine.proofs.Shorter.{Mach, Shorter, Stretch, simulates, together, mach, steps, seen, steps-run, spent-is, at-once}
+use Rattle.demand.specs.Setting.{Each, Setting, code, does, defsAt, Fine, Loaded, Passes}
 use Rattle.demand.proofs.Basics.{upd-same, upd-other}
 use Rattle.demand.proofs.Effects.{keeps, constant-does}
 use Rattle.demand.proofs.Edit.{step-is, entry-is}
@@ -34,7 +34,7 @@ module _ (E : Setting) where
     pub v : ℕ
     pub one : defsAt x ≡ d ∷ []
     pub single : E .single d ≡ some v
-    pub constant : constantOf (E .address) (x .inst) ≡ some v
+    pub writes-v : constantOf (E .address) (x .inst) ≡ some v
 
   module _ (qs : List ℕ) (Q : List (List Code)) where
     abbrev next : State → State
@@ -42,7 +42,7 @@ module _ (E : Setting) where
 
     idle : (x : Code) → Constant x → (c : List Code) (g : Regs) (h : List Act) → Loaded E g → next (at (x ∷ c) g h) ≡ at c g h
     idle x k c g h l =
-        step-is E qs Q x c g h ∙ rw (constant-does E x (k .v) g (k .constant), k .one) (ap (λ g. at c g h) (upd-idle (k .d) (k .v) g (l (k .d) (k .v) (k .single))))
+        step-is E qs Q x c g h ∙ rw (constant-does E x (k .v) g (k .writes-v), k .one) (ap (λ g. at c g h) (upd-idle (k .d) (k .v) g (l (k .d) (k .v) (k .single))))
 
     idle-run : (k : List Code) → Each Constant k → (c : List Code) (g : Regs) (h : List Act) → Loaded E g
         → run (E .outside) (E .address) (code E qs Q) (length k) (at (k ++ c) g h) ≡ at c g h

@@ -1,9 +1,9 @@
 -- The steps that rewrite the end of one block: equal arms, a fold by a known value, a turned CondBr.
-use Prim.Native.Nat.{ℕ, zero, suc, _≤_, _<_}
-use mathlib.Core.Path.{_≡_, refl, sym, ap, subst, subst₂, _∙_}
+use Prim.Native.Nat.{ℕ, zero, suc, _<_}
+use mathlib.Core.Path.{_≡_, refl, sym, ap, subst, _∙_}
 use mathlib.Core.Logic.{_⊎_, inl, inr}
 use mathlib.Core.List.{List, [], _∷_, _++_}
-use mathlib.Core.Option.{Option, none, some}
+use mathlib.Core.Option.{some}
 use mathlib.Core.Bool.{Bool, true, false, _||_, cond}
 use native.Mathlib.Omega.{arith}
 use lib.Dec.{eqb}
@@ -17,22 +17,20 @@ use Rattle.codec.specs.Codec.{regOf, blockOf}
 use Rattle.roles.specs.Roles.{defsOf, readsOf}
 use Rattle.procedure.specs.Lists.{holds}
 use Rattle.word.specs.Word.{choose}
-use Rattle.ends.specs.declared.End.{End}
 use Rattle.ends.specs.declared.End.the-variants as e
-use Rattle.ends.specs.Ends.{viewOf, endOf, loneOf, front, withEnd}
+use Rattle.ends.specs.Ends.{endOf, loneOf, front, withEnd}
 use Rattle.codec.specs.Codec.{withInst}
-use Rattle.steps.specs.EqualArms.{follow, reachedFrom, Arms, joinIf, joinEnd, joinArms, joinFrom, equalArms}
+use Rattle.steps.specs.EqualArms.{reachedFrom}
 use Rattle.steps.specs.Facts.{Facts}
 use Rattle.steps.specs.Note.{Known, nothing, notes, sourceOf, valueOf}
 use Rattle.steps.specs.Thread.{Work, blockAt, matching, armOf}
 use Rattle.machine.specs.Act.{Act}
-use Rattle.machine.specs.Machine.{Regs, State, at, goes}
-use Rattle.machine.proofs.Shorter.{Mach, Shorter, Stretch, mach, shorter-trans}
+use Rattle.machine.specs.Machine.{Regs, at, goes}
+use Rattle.machine.proofs.Shorter.{Shorter, mach, shorter-trans}
 use Rattle.demand.specs.Setting.{In, Each, Setting, code, does, defsAt, readsAt, Read, Fine, Loaded, Behind}
-use Rattle.demand.proofs.Basics.{clash, eqb-eq}
 use Rattle.demand.proofs.Effects.{passes-any}
 use Rattle.demand.proofs.Codes.{each-left, Ended, ends-in, in-range}
-use Rattle.demand.proofs.Edit.{Meet, Agree, meet, Tail, Block, whole, edited}
+use Rattle.demand.proofs.Edit.{Meet, meet, Tail, whole, edited}
 use Rattle.demand.proofs.Branches.{Tests, cond-does, br-new, cond-new, Good, end-good, end-blocks}
 use Rattle.demand.proofs.Noted.{Holds, nothing-holds, value-holds, source-holds, notes-hold, source-read}
 use Rattle.demand.proofs.Sparse.{Sparse, sparse-end}

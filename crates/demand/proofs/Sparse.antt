@@ -1,32 +1,24 @@
 -- A register that gets a new number in a copy is written once there, or isn't read: no copy gives it two numbers and reads it through the first.
 -- In each block every write of such a register has an instruction of its own, before the block's end, that reads it; or only a block's end reads it.
-use Prim.Native.Nat.{ℕ, zero, suc, _+_, _≤_, _<_}
+use Prim.Native.Nat.{ℕ, _+_, _≤_, _<_}
 use mathlib.Core.Path.{_≡_, refl, sym, ap, subst, _∙_}
 use mathlib.Core.Logic.{_⊎_, inl, inr}
-use mathlib.Core.List.{List, [], _∷_, _++_, map}
-use mathlib.Core.Option.{Option, none, some}
-use mathlib.Core.Bool.{Bool, true, false, _&&_, cond}
+use mathlib.Core.List.{List, [], _∷_, _++_}
+use mathlib.Core.Option.{none}
 use native.Mathlib.Omega.{arith}
-use native.Mathlib.Decide.{ℕ-discrete}
-use lib.Dec.{eqb, ltb}
 use lib.ListN.{length, getD, set}
 use Rattle.inst.specs.declared.Code.{Code}
 use Rattle.inst.specs.declared.Inst.{Inst}
-use Rattle.roles.specs.Roles.{defsOf, readsOf, listOf, noList}
-use Rattle.procedure.specs.Lists.{times, found, valueOr}
+use Rattle.roles.specs.Roles.{defsOf, readsOf}
+use Rattle.procedure.specs.Lists.{times}
 use Rattle.procedure.specs.Counts.{writesIn}
 use Rattle.ends.specs.Ends.{front, withEnd}
 use Rattle.codec.specs.Codec.{withInst}
 use Rattle.steps.specs.Facts.{Facts}
-use Rattle.steps.specs.Copy.{How, leftOut, renumbered, kept, howOf, readThrough, written, renamed, place, copyFrom}
-use Rattle.demand.specs.Setting.{In, Each, Setting, defsAt, readsAt, Read, Exposed, Fine}
-use Rattle.demand.proofs.Basics.{clash, clash-some, eqb-true, eqb-false, dec-in}
-use Rattle.demand.proofs.Effects.{constant-fixes}
-use Rattle.demand.proofs.Codes.{read-split, read-left, read-right, dec-read, Ended, front-append, set-block}
-use Rattle.demand.proofs.Copied.{Silent, Last, Small, renamed-reads, all-own, Way, way-out, way-new, way-kept, way-last, way-silent}
-use Rattle.demand.proofs.Joined.{found-old, found-new, found-other}
-use Rattle.demand.proofs.CopyKept.{defs-kept, defs-new, only, read-through}
-use Rattle.demand.proofs.Counted.{times-none, times-some, times-one, writes-append, writes-last, front-cons, reader, readersIn, reader-is, reader-of, reader-more, readers-append}
+use Rattle.demand.specs.Setting.{In, Setting, defsAt, readsAt, Read}
+use Rattle.demand.proofs.Codes.{read-split, read-right, dec-read, Ended, set-block}
+use Rattle.demand.proofs.Copied.{Small}
+use Rattle.demand.proofs.Counted.{times-none, times-one, writes-append, writes-last, reader, readersIn, reader-of}
 
 module _ (E : Setting) (f : Facts) where
   abbrev ops : List ℕ

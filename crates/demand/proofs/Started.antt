@@ -2,17 +2,17 @@
 use Prim.Native.Nat.{ℕ, zero, suc, _+_, _≤_, _<_, min}
 use mathlib.Core.Path.{_≡_, refl, sym, ap, subst, _∙_}
 use mathlib.Core.Logic.{_⊎_, inl, inr}
-use mathlib.Core.List.{List, [], _∷_, _++_, append-nil}
-use mathlib.Core.Option.{Option, none, some}
+use mathlib.Core.List.{List, [], _∷_, append-nil}
+use mathlib.Core.Option.{none, some}
 use mathlib.Core.Bool.{Bool, true, false, _&&_, cond}
 use native.Mathlib.Omega.{arith}
 use native.Mathlib.Decide.{ℕ-discrete}
-use lib.Dec.{T, eqb, ltb, ltb→lt}
+use lib.Dec.{eqb, ltb}
 use lib.ListN.{length, getD}
 use Rattle.inst.specs.declared.Code.{Code}
 use Rattle.roles.specs.Roles.{usesOf, listOf, noList}
 use Rattle.procedure.specs.Procedure.{Procedure}
-use Rattle.procedure.specs.Lists.{joined, times}
+use Rattle.procedure.specs.Lists.{joined}
 use Rattle.procedure.specs.Counts.{writesIn, singly, useCount}
 use Rattle.ends.specs.Ends.{terminatorOf, front}
 use Rattle.steps.specs.EqualArms.{equalArms}
@@ -20,16 +20,15 @@ use Rattle.steps.specs.Facts.{Facts, constIn, constOf, factsOf}
 use Rattle.steps.specs.Thread.{unthreaded}
 use Rattle.steps.specs.Run.{countedIn, withBlocks}
 use Rattle.machine.specs.Machine.{Address, Outside}
-use Rattle.machine.specs.Single.{constantOf, single}
-use Rattle.demand.specs.Setting.{In, Each, Setting, defsAt, readsAt, Written, Read, Exposed, Fine}
+use Rattle.machine.specs.Single.{single}
+use Rattle.demand.specs.Setting.{Each, Setting, readsAt, Written, Read, Exposed, Fine}
 use Rattle.demand.specs.Whole.{Whole, Inside}
 use Rattle.demand.proofs.Basics.{clash, clash-some, and-both}
-use Rattle.demand.proofs.Effects.{Shape, computed, acting, going, testing, casing, ending, shape}
-use Rattle.demand.proofs.Rescued.{constant}
-use Rattle.demand.proofs.Codes.{each-append, exposed-left, read-exposed, read-split, dec-read, dec-written, Ended, ended}
+use Rattle.demand.proofs.Effects.{Shape, constant, computed, acting, going, testing, casing, ending, shape}
+use Rattle.demand.proofs.Codes.{read-exposed, read-split, dec-read, dec-written, Ended, ended}
 use Rattle.demand.proofs.Branches.{Low, Good}
 use Rattle.demand.proofs.Counted.{times-some, times-most, written-once, unwritten, front-writes, front-read, front-exposed, readersIn, hidden-reader, unread, uses-append}
-use Rattle.demand.proofs.Sparse.{Quiet, Sparse, busy, quiet}
+use Rattle.demand.proofs.Sparse.{Sparse, busy, quiet}
 use Rattle.demand.proofs.Join.{AllSparse}
 use Rattle.demand.proofs.Rewrites.{Edited}
 use Rattle.demand.proofs.Threads.{arms-edited, Kept}

@@ -1,9 +1,8 @@
 -- Stretches of two runs put together.
 use Prim.Native.Nat.{ℕ, zero, suc, _≤_}
-use mathlib.Core.Path.{_≡_, refl, sym, ap, subst, subst₂, _∙_}
+use mathlib.Core.Path.{_≡_, refl, ap, _∙_}
 use native.Mathlib.Omega.{arith}
-use Rattle.machine.specs.Machine.{Shown}
-use Rattle.machine.proofs.Shorter.{Mach, Stretch, steps, seen, spent}
+use Rattle.machine.proofs.Shorter.{Mach, Stretch, seen}
 
 module _ (m m′ : Mach) where
   -- a stretch to a wider relation

@@ -3,11 +3,11 @@ use Prim.Native.Nat.{ℕ, zero, suc, _+_, _*_, _≤_, _<_}
 use mathlib.Core.Path.{_≡_, refl, sym, ap, subst, _∙_}
 use mathlib.Core.Logic.{_⊎_, inl, inr}
 use mathlib.Core.List.{List, [], _∷_, _++_, append-nil}
-use mathlib.Core.Option.{Option, none, some}
+use mathlib.Core.Option.{some}
 use mathlib.Core.Bool.{Bool, true, false, _&&_, _||_}
 use native.Mathlib.Omega.{arith}
 use lib.Dec.{eqb, ltb}
-use lib.ListN.{length, getD, List·getD-map}
+use lib.ListN.{length, getD}
 use Rattle.inst.specs.declared.Code.{Code}
 use Rattle.roles.specs.Roles.{defsOf}
 use Rattle.procedure.specs.Procedure.{Procedure}
@@ -21,26 +21,25 @@ use Rattle.steps.specs.Emit.{leads, edgesOf, reached, emptyFrom, isRescued, res
 use Rattle.steps.specs.EqualArms.{equalArms}
 use Rattle.steps.specs.Facts.{Facts}
 use Rattle.steps.specs.Thread.{Work, thread, unthreaded, nextNumber}
-use Rattle.steps.specs.Run.{Shortened, countedIn, unchanged, armsJoined, emit, emitIf, threadIf, fromArms, runIf, run}
-use Rattle.machine.specs.Machine.{Regs, Address, Outside, State, at, start, intoZero, run as runs}
+use Rattle.steps.specs.Run.{countedIn, unchanged, armsJoined, emit, emitIf, threadIf, runIf, run}
+use Rattle.machine.specs.Machine.{Regs, Address, Outside, at, start, intoZero}
 use Rattle.machine.specs.Demand.{Starts, Alike, AlikeFrom, Demand3, shows, entries}
-use Rattle.machine.proofs.Shorter.{Mach, Shorter, mach, shorter-trans, alike}
-use Rattle.demand.specs.Setting.{In, Each, Setting, code, defsAt, Fine, Loaded}
+use Rattle.machine.proofs.Shorter.{Shorter, mach, shorter-trans, alike}
+use Rattle.demand.specs.Setting.{In, Each, Setting, code, Fine}
 use Rattle.demand.specs.Whole.{Whole, Inside}
-use Rattle.demand.specs.Claim.{Reaches, Kept}
+use Rattle.demand.specs.Claim.{Kept}
 use Rattle.demand.proofs.Basics.{clash, clash-some, and-both, any-in, eqb-eq}
-use Rattle.demand.proofs.Effects.{Shape, computed, acting, going, testing, casing, ending, shape, fixed-constant, varies}
-use Rattle.demand.proofs.Rescued.{constant}
+use Rattle.demand.proofs.Effects.{Shape, constant, computed, acting, going, testing, casing, ending, shape, fixed-constant, varies}
 use Rattle.demand.proofs.Codes.{each-map, end-append}
 use Rattle.demand.proofs.Edit.{Meet}
 use Rattle.demand.proofs.Branches.{Good}
-use Rattle.demand.proofs.Rewrites.{Shortens, Edited, edited-none, shortens-then, settle}
+use Rattle.demand.proofs.Rewrites.{Shortens, edited-none, shortens-then, settle}
 use Rattle.demand.proofs.Threads.{thread-onward, Onward}
 use Rattle.demand.proofs.Reached.{Marked, edges-at, reached-zero, reached-closed}
-use Rattle.demand.proofs.Emptied.{kept-block, some-or-none, emptied-each, rescues-each, Leads, block-leads, unreached}
+use Rattle.demand.proofs.Emptied.{kept-block, some-or-none, emptied-each, rescues-each, block-leads, unreached}
 use Rattle.demand.proofs.Rescued.{Constant, at-front, elsewhere, rescued-runs, rescued-front, rescued-quiet}
 use Rattle.demand.proofs.Original.{setting, good}
-use Rattle.demand.proofs.Started.{P₁, counted, arms, size-is, same-one, known, counted-one, kept}
+use Rattle.demand.proofs.Started.{arms, size-is, same-one, known, counted-one, kept}
 
 isIn-in : (s : ℕ) (xs : List ℕ) → isIn s xs ≡ true → In s xs
 isIn-in s [] q = clash q refl
@@ -145,7 +144,7 @@ module _ (p : Procedure) (whole : Whole p) (inside : Inside p) where
               v = u .0;
               one = u .2 .one;
               single = fine d (subst (In d) (sym (u .2 .one)) (inl refl)) o ∙ u .1;
-              constant = u .1;
+              writes-v = u .1;
             }
           where
             only : (r d : ℕ) → In r (d ∷ []) → r ≡ d
@@ -184,10 +183,10 @@ module _ (p : Procedure) (whole : Whole p) (inside : Inside p) where
         by (constant d v p u l n f a) = f .view
         by (computed d G p l f a) = f .view
         by (acting u f a) = f .view
-        by (going l v f a) = clash-some (k .constant) (varies address (x .inst) (f .varies))
-        by (testing c l m v u f a) = clash-some (k .constant) (varies address (x .inst) (f .varies))
-        by (casing n v f a) = clash-some (k .constant) (varies address (x .inst) (f .varies))
-        by (ending G v f a) = clash-some (k .constant) (varies address (x .inst) (f .varies))
+        by (going l v f a) = clash-some (k .writes-v) (varies address (x .inst) (f .varies))
+        by (testing c l m v u f a) = clash-some (k .writes-v) (varies address (x .inst) (f .varies))
+        by (casing n v f a) = clash-some (k .writes-v) (varies address (x .inst) (f .varies))
+        by (ending G v f a) = clash-some (k .writes-v) (varies address (x .inst) (f .varies))
 
     constants-end : (c : List Code) → Each (Constant F) c → endOf c ≡ e.Other
     unfolding endOf

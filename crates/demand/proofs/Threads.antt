@@ -1,25 +1,24 @@
 -- Equal arms and Thread, each a row of edits: the shortened program is good, and its run is the old one's.
-use Prim.Native.Nat.{ℕ, zero, suc, _+_, _≤_, _<_}
-use mathlib.Core.Path.{_≡_, refl, sym, ap, subst, _∙_}
-use mathlib.Core.List.{List, [], _∷_, _++_, append-nil}
-use mathlib.Core.Option.{Option, none, some}
-use mathlib.Core.Bool.{Bool, true, false, _&&_, _||_, not, cond}
+use Prim.Native.Nat.{ℕ, zero, suc, _+_}
+use mathlib.Core.Path.{_≡_, refl, subst}
+use mathlib.Core.List.{List, [], _++_}
+use mathlib.Core.Option.{some}
+use mathlib.Core.Bool.{Bool, true, false, _&&_, _||_, not}
 use native.Mathlib.Omega.{arith}
 use lib.Dec.{eqb, ltb}
 use lib.ListN.{length, getD, set, length-append}
 use Rattle.inst.specs.declared.Code.{Code}
 use Rattle.procedure.specs.Lists.{present, holds}
-use Rattle.word.specs.Word.{choose}
 use Rattle.ends.specs.declared.End.{End}
 use Rattle.ends.specs.declared.End.the-variants as e
 use Rattle.ends.specs.Ends.{endOf}
-use Rattle.steps.specs.Small.{small, latch, readsKonst}
+use Rattle.steps.specs.Small.{small, readsKonst}
 use Rattle.steps.specs.Gate.{copied}
 use Rattle.steps.specs.EqualArms.{reachedFrom, Arms, joinIf, joinEnd, joinArms, joinFrom, equalArms}
 use Rattle.steps.specs.Facts.{Facts}
 use Rattle.steps.specs.Copy.{kindsOf}
-use Rattle.steps.specs.Thread.{Work, blockAt, edit, armOf, stops, nextNumber, thread, unthreaded}
-use Rattle.steps.proofs.Edits.{Edit, Edits, joins, folds, turns, nil, then, sourceAt, thread-edits}
+use Rattle.steps.specs.Thread.{Work, blockAt, edit, stops, nextNumber, thread, unthreaded}
+use Rattle.steps.proofs.Edits.{Edit, Edits, joins, folds, turns, nil, then, thread-edits}
 use Rattle.demand.specs.Setting.{Setting}
 use Rattle.demand.proofs.Basics.{or-none, and-both, not-false, eqb-eq}
 use Rattle.demand.proofs.Branches.{Good}

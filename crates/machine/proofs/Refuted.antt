@@ -23,15 +23,15 @@ use Rattle.machine.proofs.Reading.{run-done}
 use Rattle.machine.proofs.Printed.{code, stmt, br, condBr, ret, procedure, printed, nowhere, willing, all}
 
 -- two for each act done, and one if the run has ended
-abbrev ended : Option End → ℕ
+abbrev pub ended : Option End → ℕ
 ended none = 0
 ended (some e) = 1
 
-abbrev weight : Shown → ℕ
+abbrev pub weight : Shown → ℕ
 weight o = 2 * length (o .acts) + ended (o .end)
 
 -- no number up to k is taken to x
-abbrev absent : (ℕ → ℕ) → ℕ → ℕ → Bool
+abbrev pub absent : (ℕ → ℕ) → ℕ → ℕ → Bool
 absent f x zero = not (eqb (f 0) x)
 absent f x (suc k) = not (eqb (f (suc k)) x) && absent f x k
 
@@ -43,7 +43,7 @@ both false b t = absurd t
 differs : (f : ℕ → ℕ) (x k : ℕ) → T (not (eqb (f k) x)) → f k ≡ x → ⊥
 differs f x k t e = T-not (eqb (f k) x) t (rw e (eqb-refl x))
 
-none-of : (f : ℕ → ℕ) (x k : ℕ) → T (absent f x k) → (M : ℕ) → M ≤ k → f M ≡ x → ⊥
+pub none-of : (f : ℕ → ℕ) (x k : ℕ) → T (absent f x k) → (M : ℕ) → M ≤ k → f M ≡ x → ⊥
 none-of f x zero t M l e = let z : M ≡ 0 = omega arith in differs f x 0 t (ap f (sym z) ∙ e)
 none-of f x (suc k) t M l e = by (ℕ-discrete M (suc k)) (λ n. none-of f x k (s .1) M n e)
   where
@@ -55,21 +55,21 @@ none-of f x (suc k) t M l e = by (ℕ-discrete M (suc k)) (λ n. none-of f x k (
     by (no n) o = o (omega arith)
 
 -- registers that all hold v, but for the single constants
-abbrev regs : Procedure → ℕ → Regs
+abbrev pub regs : Procedure → ℕ → Regs
 regs p v = load nowhere p (all v)
 
-starts : (p : Procedure) (v : ℕ) → Starts nowhere p (regs p v) (regs p v)
+pub starts : (p : Procedure) (v : ℕ) → Starts nowhere p (regs p v) (regs p v)
 starts p v = record { loaded = load-loads nowhere p (all v); loaded′ = load-loads nowhere p (all v); same = λ r l. refl }
 
 module _ (p q : Procedure) (v : ℕ) where
-  abbrev original : ℕ → Shown
+  abbrev pub original : ℕ → Shown
   original = shows willing nowhere p 0 (regs p v)
 
-  abbrev shortened : ℕ → Shown
+  abbrev pub shortened : ℕ → Shown
   shortened = shows willing nowhere q 0 (regs p v)
 
   -- refuted after N instructions of the original, where no number of instructions within the bound shows the same
-  refute : (bound : ℕ → ℕ → ℕ) (N : ℕ)
+  pub refute : (bound : ℕ → ℕ → ℕ) (N : ℕ)
       → T (absent (λ M. weight (shortened M)) (weight (original N)) (bound N (entries willing nowhere p 0 (regs p v) N)))
       → AlikeFrom 0 bound p q → ⊥
   refute bound N t d =

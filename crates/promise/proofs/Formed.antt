@@ -1,0 +1,152 @@
+-- A well-formed procedure is whole: every register exists, and each block ends in its only terminator.
+use Prim.Native.Nat.{ℕ, zero, suc, _<_}
+use mathlib.Core.Path.{_≡_, refl, sym, subst, _∙_}
+use mathlib.Core.Logic.{_⊎_, inl, inr}
+use mathlib.Core.List.{List, [], _∷_, _++_}
+use mathlib.Core.Bool.{Bool, true, false}
+use native.Mathlib.Omega.{arith}
+use lib.ListN.{length, getD, take, drop}
+use Rattle.shape.specs.declared.exist.Counts.{Counts}
+use Rattle.inst.specs.declared.Code.{Code}
+use Rattle.inst.specs.declared.OptReg.the-variants as o
+use Rattle.inst.specs.declared.BoolOp.the-variants as b
+use Rattle.inst.specs.declared.CheckKind.the-variants as k
+use Rattle.inst.specs.declared.Inst.{Inst}
+use Rattle.inst.specs.declared.Inst.the-variants as i
+use Rattle.codec.specs.Codec.{instRecord}
+use Rattle.roles.specs.Roles.{defsOf, usesOf, listOf, operandsOf}
+use Rattle.procedure.specs.Procedure.{Procedure}
+use Rattle.ends.specs.Ends.{terminatorOf}
+use Rattle.round.specs.WellFormed.{All, Ends, Sound, BlockIn, countsIn, WellFormed}
+use Rattle.sized.proofs.Names.{Named, named}
+use Rattle.demand.specs.Setting.{In, Each, Front, defsAt, readsAt}
+use Rattle.demand.specs.Whole.{Whole}
+use Rattle.demand.proofs.Basics.{in-split}
+
+-- the registers that an instruction names
+module _ (n : Counts) where
+  abbrev Low : ℕ → Type 0
+  Low r = r < n .registers
+
+  regs-exist : (x : Inst) → Named n x → All Low (defsOf x ++ usesOf x)
+  unfolding instRecord
+  regs-exist (i.Const d v) h = (h .0, tt)
+  regs-exist (i.ConstF d v) h = (h .0, tt)
+  regs-exist (i.Move d s) h = (h .0, (h .1 .0, tt))
+  regs-exist (i.AddrOf d s f) h = (h .0, tt)
+  regs-exist (i.Select d c x y) h = (h .0, (h .1 .0, (h .1 .1 .0, (h .1 .1 .1 .0, tt))))
+  regs-exist (i.Cmp op d x y) h = (h .0, (h .1 .0, (h .1 .1 .0, tt)))
+  regs-exist (i.Bool b.And d x y) h = (h .0, (h .1 .0, (h .1 .1 .0, tt)))
+  regs-exist (i.Bool b.Or d x y) h = (h .0, (h .1 .0, (h .1 .1 .0, tt)))
+  regs-exist (i.Bool b.Xor d x y) h = (h .0, (h .1 .0, (h .1 .1 .0, tt)))
+  regs-exist (i.Bool b.Not d x y) h = (h .0, (h .1 .0, tt))
+  regs-exist (i.Bin op d x y) h = (h .0, (h .1 .0, (h .1 .1 .0, tt)))
+  regs-exist (i.BinRange op d x y l u w) h = (h .0, (h .1 .0, (h .1 .1 .0, (h .1 .1 .1 .0, (h .1 .1 .1 .1 .0, tt)))))
+  regs-exist (i.Load d a w) h = (h .0, (h .1 .0, tt))
+  regs-exist (i.Store a s w) h = (h .0, (h .1 .0, tt))
+  regs-exist (i.Check k.Range v l u w) h = (h .0, (h .1 .0, (h .1 .1 .0, tt)))
+  regs-exist (i.Check k.Index v l u w) h = (h .0, (h .1 .0, (h .1 .1 .0, tt)))
+  regs-exist (i.Check k.IndexDown v l u w) h = (h .0, (h .1 .0, (h .1 .1 .0, tt)))
+  regs-exist (i.Check k.Length v l u w) h = (h .0, (h .1 .0, tt))
+  regs-exist (i.Check k.Null v l u w) h = (h .0, tt)
+  regs-exist (i.MakeDope a p) h = (h .0, tt)
+  regs-exist (i.DopeLen d p m) h = (h .0, (h .1 .0, tt))
+  regs-exist (i.BoundsLen d l r e) h = (h .0, (h .1 .0, (h .1 .1 .0, (h .1 .1 .1 .0, tt))))
+  regs-exist (i.Alloc d s) h = (h .0, (h .1 .0, tt))
+  regs-exist (i.TakeBounds l r e) h = (h .0, (h .1 .0, (h .1 .1 .0, tt)))
+  regs-exist (i.CallNative m a (o.Some d)) h = (h .1 .1 .1 .0, tt)
+  regs-exist (i.CallNative m a o.None) h = tt
+  regs-exist (i.Br t) h = tt
+  regs-exist (i.CondBr c t f) h = (h .0, tt)
+  regs-exist (i.Case v t) h = (h .0, tt)
+  regs-exist (i.Ret (o.Some v)) h = (h .0, tt)
+  regs-exist (i.Ret o.None) h = tt
+  regs-exist (i.Unreachable w) h = tt
+  regs-exist i.Stmt h = tt
+
+all-in : (F : ℕ → Type 0) (xs : List ℕ) (r : ℕ) → All F xs → In r xs → F r
+all-in F [] r p k = absurd k
+all-in F (x ∷ xs) r p (inl e) = subst F (sym e) (p .0)
+all-in F (x ∷ xs) r p (inr k) = all-in F xs r (p .1) k
+
+in-left : (r : ℕ) (xs ys : List ℕ) → In r xs → In r (xs ++ ys)
+in-left r [] ys k = absurd k
+in-left r (x ∷ xs) ys (inl e) = inl e
+in-left r (x ∷ xs) ys (inr k) = inr (in-left r xs ys k)
+
+in-right : (r : ℕ) (xs ys : List ℕ) → In r ys → In r (xs ++ ys)
+in-right r [] ys k = k
+in-right r (x ∷ xs) ys k = inr (in-right r xs ys k)
+
+in-take : (r n : ℕ) (xs : List ℕ) → In r (take n xs) → In r xs
+in-take r zero xs k = absurd k
+in-take r (suc n) [] k = absurd k
+in-take r (suc n) (x ∷ xs) (inl e) = inl e
+in-take r (suc n) (x ∷ xs) (inr k) = inr (in-take r n xs k)
+
+in-drop : (r n : ℕ) (xs : List ℕ) → In r (drop n xs) → In r xs
+in-drop r zero xs k = k
+in-drop r (suc n) [] k = absurd k
+in-drop r (suc n) (x ∷ xs) k = inr (in-drop r n xs k)
+
+-- each block's code before its end, and its end
+front-goes : (c : List Code) → Ends c → Front (λ x. terminatorOf (x .inst) ≡ false) c
+front-goes [] e = tt
+front-goes (x ∷ []) e = tt
+front-goes (x ∷ y ∷ c) e = (e .0, front-goes (y ∷ c) (e .1))
+
+end-ends : (c : List Code) (x : Code) → Ends (c ++ (x ∷ [])) → terminatorOf (x .inst) ≡ true
+end-ends [] x e = e
+end-ends (y ∷ []) x e = e .1
+end-ends (y ∷ z ∷ c) x e = end-ends (z ∷ c) x (e .1)
+
+module _ (p : Procedure) (w : WellFormed p) where
+  abbrev n : Counts
+  n = countsIn p
+
+  some-code : (c : List Code) (x : Code) → [] ≡ c ++ (x ∷ []) → ⊥
+  some-code [] x q = let z : _≡_ {A = ℕ} 0 1 = cc in omega arith
+  some-code (y ∷ c) x q = let z : _≡_ {A = ℕ} 0 1 = cc in omega arith
+
+  -- of a block, if it is one
+  block-at : (P : List (List Code)) → All (BlockIn n) P → (b : ℕ) → BlockIn n (getD P b []) ⊎ (getD P b [] ≡ [])
+  block-at [] q b = inr refl
+  block-at (c ∷ P) q zero = inl (q .0)
+  block-at (c ∷ P) q (suc b) = block-at P (q .1) b
+
+  names-low : (x : Code) → Sound n x → (r : ℕ) → In r (defsAt x) ⊎ In r (readsAt (p .operands) x) → r < length (p .registers)
+  names-low x s r (inl k) = all-in _ (defsOf (x .inst) ++ usesOf (x .inst)) r (regs-exist n (x .inst) (named n x (s .names))) (in-left r (defsOf (x .inst)) (usesOf (x .inst)) k)
+  names-low x s r (inr k) = by (in-split r (usesOf (x .inst)) (operandsOf (p .operands) (listOf (x .inst))) k)
+    where
+      l : List ℕ
+      l = p .operands
+
+      by : In r (usesOf (x .inst)) ⊎ In r (operandsOf l (listOf (x .inst))) → r < length (p .registers)
+      by (inl z) = all-in _ (defsOf (x .inst) ++ usesOf (x .inst)) r (regs-exist n (x .inst) (named n x (s .names))) (in-right r (defsOf (x .inst)) (usesOf (x .inst)) z)
+      by (inr z) = all-in (λ r. r < length (p .registers)) l r (w .each-operand) (in-drop r (listOf (x .inst) .start) l (in-take r (listOf (x .inst) .len) _ z))
+
+  each-low : (c : List Code) → All (Sound n) c → Each (λ x. (r : ℕ) → In r (defsAt x) ⊎ In r (readsAt (p .operands) x) → r < length (p .registers)) c
+  each-low [] q = tt
+  each-low (x ∷ c) q = (names-low x (q .0), each-low c (q .1))
+
+  pub whole : Whole p
+  whole =
+      record {
+        exist = λ b. low b (block-at (p .blocks) (w .each-block) b);
+        formed = λ b. front b (block-at (p .blocks) (w .each-block) b);
+        ends = λ b c x q. end b c x q (block-at (p .blocks) (w .each-block) b);
+      }
+    where
+      low : (b : ℕ) → BlockIn n (getD (p .blocks) b []) ⊎ (getD (p .blocks) b [] ≡ [])
+          → Each (λ x. (r : ℕ) → In r (defsAt x) ⊎ In r (readsAt (p .operands) x) → r < length (p .registers)) (getD (p .blocks) b [])
+      low b (inl s) = each-low (getD (p .blocks) b []) (s .each)
+      low b (inr q) = rw q tt
+
+      front : (b : ℕ) → BlockIn n (getD (p .blocks) b []) ⊎ (getD (p .blocks) b [] ≡ []) → Front (λ x. terminatorOf (x .inst) ≡ false) (getD (p .blocks) b [])
+      front b (inl s) = front-goes (getD (p .blocks) b []) (s .ends)
+      front b (inr q) = rw q tt
+
+      end : (b : ℕ) (c : List Code) (x : Code) → getD (p .blocks) b [] ≡ c ++ (x ∷ []) → BlockIn n (getD (p .blocks) b []) ⊎ (getD (p .blocks) b [] ≡ [])
+          → terminatorOf (x .inst) ≡ true
+      end b c x q (inl s) = end-ends c x (subst Ends q (s .ends))
+      end b c x q (inr z) = absurd (some-code c x (sym z ∙ q))

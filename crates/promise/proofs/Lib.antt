@@ -1,0 +1,4 @@
+pub mod Tidied
+pub mod Formed
+pub mod Promised
+pub mod Needed

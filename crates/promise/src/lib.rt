@@ -1,0 +1,1 @@
+// A theorem alone: demand 3, for every tidy file.
