@@ -1,6 +1,6 @@
 ghost use mathlib.Core.Path.{_≡_};
 ghost use Prim.Native.Nat.{ℕ, _+_, _≤_};
-ghost use lib.ListN.{length, drop};
+ghost use lib.ListN.{length, take, drop};
 ghost use lib.Seq.{paste};
 ghost use Rattle.arena.specs.Arena as spec;
 use format::Record;
@@ -109,4 +109,25 @@ pub fn push(work: &mut [u8], table: &mut [u8], k: usize, top: usize, c: Code) ->
     store::put_record(work, top, codec::record_of(c));
     point(table, k, r.p1, (top + 1) as u32);
     top + 1
+}
+
+// Block k gets the first n of some instructions more; returns the new top.
+pub fn append(
+    work: &mut [u8],
+    table: &mut [u8],
+    k: usize,
+    top: usize,
+    code: [Code; 4],
+    n: usize,
+) -> usize
+    ensures { λ r. ⌜ spec.arena (now (work .exit)) (now (table .exit)) r ≡ spec.pushAll k (take n code) (spec.arena (now (work .entry)) (now (table .entry)) top) ⌝ }
+{
+    let end = blocks::least(n, 4);
+    let mut at = top;
+    let mut i = 0;
+    while i < end {
+        at = push(work, table, k, at, code[i]);
+        i += 1;
+    }
+    at
 }
