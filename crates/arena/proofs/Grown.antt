@@ -194,6 +194,19 @@ module _ (s : Arena) (w : Sound s) (k : ℕ) (h : k < length (s .table) / 32) (l
         let t : true ≡ grows (s .work) r (s .top) = sym (rw (le-leb (r .p1) (r .p2) (l .ordered), eq-eqb (r .p2) (s .top) (l .end)) free) in
         by-grows k c s refl t
 
+    pub pushed-top : push k c s .top ≡ s .top + 1
+    pushed-top = ap (λ (t : Arena). t .top) (sym pushes)
+
+    pub pushed-work : length (push k c s .work) ≡ length (s .work)
+    unfolding work-pushed
+    pushed-work = ap (λ (t : Arena). length (t .work)) (sym pushes) ∙ put-length (s .work) (s .top) (recordOf c)
+
+    pub pushed-table : length (push k c s .table) ≡ length (s .table)
+    unfolding table-pushed
+    pushed-table =
+        ap (λ (t : Arena). length (t .table)) (sym pushes)
+        ∙ put-length (s .table) k (blockAt (recordAt (s .table) k .p1) (s .top + 1))
+
     push-there : recordAt table-pushed k ≡ blockAt (recordAt (s .table) k .p1) (s .top + 1)
     unfolding table-pushed
     push-there = pointed-there (s .table) k (recordAt (s .table) k .p1) (s .top + 1) h start (space .1)
