@@ -183,7 +183,8 @@ constant-fails : Unloaded constant constant′ 0 → ⊥
 unfolding effect opOf compares
 constant-fails d =
     let a = (d willing nowhere (all 0) (all 0) (λ r l. refl)) .there 6 in
-    none-of (λ M. weight (shows willing nowhere constant′ 0 (all 0) M)) (weight (shows willing nowhere constant 0 (all 0) 6)) _ tt (a .0) (a .1) (ap weight (a .2))
+    none-of (λ M. weight (shows willing nowhere constant′ 0 (all 0) M)) (weight (shows willing nowhere constant 0 (all 0) 6)) _ tt (a .0) (a .1)
+    (ap weight (a .2))
 
 pub not-loaded : Unloaded constant (run constant .procedure) (run constant .rescued) → ⊥
 not-loaded d = constant-fails (rw constant-given at d)
