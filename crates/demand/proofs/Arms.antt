@@ -68,7 +68,8 @@ module _ (address : Address) where
       by (ending F w f a) = f .none
 
   pub arms-writes : (P : List (List Code)) (r : ℕ) → writesIn (joined (equalArms P .blocks)) r ≡ writesIn (joined P) r
-  arms-writes P r = arms-keep (λ Q. writesIn (joined Q) r ≡ writesIn (joined P) r) (λ Q k to c t u q p. sum-set (writes-count r) Q k _ (same Q k to c t u q) ∙ p) P refl
+  arms-writes P r = arms-keep (λ Q. writesIn (joined Q) r ≡ writesIn (joined P) r)
+      (λ Q k to c t u q p. sum-set (writes-count r) Q k _ (same Q k to c t u q) ∙ p) P refl
     where
       same : (Q : List (List Code)) (k to : ℕ) (c : Reg) (t u : BlockId) → endOf (getD Q k []) ≡ e.CondBr c t u
           → writesIn (withEnd (i.Br (blockOf to)) (getD Q k [])) r ≡ writesIn (getD Q k []) r
@@ -102,6 +103,7 @@ arms-few ops P p = arms-keep (λ Q. (b : ℕ) → EndFew ops (getD Q b [])) keep
             → EndFew ops (getD (branched Q k to) b [])
         by (inl s) pre x w =
             let z = ends-in (getD Q k []) (e.CondBr c t u) q (cond-no-other c t u) in
-            let v = last-same (front (getD Q k [])) pre (withInst (i.Br (blockOf to)) (z .last)) x (sym (z .rewritten (i.Br (blockOf to))) ∙ sym (s .1) ∙ w) in
+            let v = last-same (front (getD Q k [])) pre (withInst (i.Br (blockOf to)) (z .last)) x
+            (sym (z .rewritten (i.Br (blockOf to))) ∙ sym (s .1) ∙ w) in
             subst (λ x. length (readsAt ops x) ≤ 1) v (omega arith)
         by (inr s) pre x w = p b pre x (sym s ∙ w)

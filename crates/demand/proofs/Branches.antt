@@ -21,7 +21,8 @@ use Rattle.codec.specs.Codec.{withInst}
 use Rattle.machine.specs.Machine.{Regs, effect, goes}
 use Rattle.demand.specs.Setting.{In, Each, Front, Setting, does, defsAt, readsAt, Written, Read, Exposed, Hidden, Fine, Loaded, Behind}
 use Rattle.demand.proofs.Effects.{Shape, constant, computed, acting, going, testing, casing, ending, shape}
-use Rattle.demand.proofs.Codes.{each-append, each-left, each-right, front-each, each-front, exposed-left, exposed-right, exposed-split, read-exposed, Ended, set-block}
+use Rattle.demand.proofs.Codes.{each-append, each-left, each-right, front-each, each-front}
+use Rattle.demand.proofs.Codes.{exposed-left, exposed-right, exposed-split, read-exposed, Ended, set-block}
 use Rattle.demand.proofs.Edit.{Tail, Block, whole, part}
 
 -- two views of one instruction

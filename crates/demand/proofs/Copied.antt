@@ -111,7 +111,16 @@ module _ (E : Setting) where
       by (constant d v e u l c f a) =
           record { d = d; value = λ vs. v; one = e; unlisted = l; does-write = λ g. a _ _ _ _; copied = sym c ∙ q; no-end = f .no-end }
       by (computed d F e l f a) =
-          record { d = d; value = F; one = e; unlisted = l; does-write = λ g. a _ _ _ _; copied = plain-varying (fixedOf (x .inst)) (f .is-fixed); no-end = f .no-end }
+          record {
+            d = d;
+            value = F;
+            one = e;
+            unlisted = l;
+            does-write = λ g. a _ _ _ _;
+            copied = plain-varying (fixedOf (x .inst))
+                (f .is-fixed);
+            no-end = f .no-end;
+          }
       by (acting u f a) = clash q u
       by (going l w f a) = clash q (f .no-copy)
       by (testing c l m w u f a) = clash q (f .no-copy)

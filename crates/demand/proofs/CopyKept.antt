@@ -18,7 +18,8 @@ use Rattle.demand.specs.Setting.{In, Each, Front, Setting, defsAt, reads
 use Rattle.demand.proofs.Basics.{clash-some, eqb-true, in-map}
 use Rattle.demand.proofs.Codes.{each-front}
 use Rattle.demand.proofs.Branches.{Low, NoEnd}
-use Rattle.demand.proofs.Copied.{Silent, Last, Small, terminator-exchanged, renamed-defs, renamed-reads, renamed-constant, Way, way-out, way-new, way-kept, way-last, way-silent}
+use Rattle.demand.proofs.Copied.{Silent, Last, Small, terminator-exchanged, renamed-defs, renamed-reads}
+use Rattle.demand.proofs.Copied.{renamed-constant, Way, way-out, way-new, way-kept, way-last, way-silent}
 use Rattle.demand.proofs.Joined.{found-old, found-new, found-other}
 
 module _ (E : Setting) (f : Facts) (same-one : (r : ℕ) → (ltb r (length (f .registers)) && f .single r) ≡ E .one r) (own : ℕ → ℕ) where
@@ -83,13 +84,18 @@ module _ (E : Setting) (f : Facts) (same-one : (r : ℕ) → (ltb r (length (f .
         none-before r v = by (found r local) refl
           where
             by : (o : Option ℕ) → found r local ≡ o → (¬ (r ≡ d)) × (o ≡ none)
-            by none y = (λ e. clash-some (subst (λ u. found u (local ++ ((d, m) ∷ [])) ≡ some m) (sym e) (found-new d m local (subst (λ u. found u local ≡ none) e y))) v, refl)
+            by none y = (
+              λ e. clash-some (subst (λ u. found u (local ++ ((d, m) ∷ [])) ≡ some m) (sym e)
+                  (found-new d m local (subst (λ u. found u local ≡ none) e y))) v,
+              refl,
+            )
             by (some j) y = clash-some (found-old d m local r j y) v
 
         from : (u : ℕ) → found u (local ++ ((d, m) ∷ [])) ≡ some r → Dec (u ≡ d) → (o : Option ℕ) → found u local ≡ o → (s : ℕ) × (found s local ≡ some r)
         from u v e (some j) y = let t = found-old d m local u j y in (u, cc)
         from u v (yes e) none y =
-            let t : found u (local ++ ((d, m) ∷ [])) ≡ some m = subst (λ u. found u (local ++ ((d, m) ∷ [])) ≡ some m) (sym e) (found-new d m local (subst (λ u. found u local ≡ none) e y)) in
+            let t : found u (local ++ ((d, m) ∷ [])) ≡ some m = subst (λ u. found u (local ++ ((d, m) ∷ [])) ≡ some m) (sym e)
+            (found-new d m local (subst (λ u. found u local ≡ none) e y)) in
             let i : r ≡ m = cc in
             absurd (not-m i)
         from u v (no e) none y = clash-some v (found-other d m local u e ∙ y)
@@ -109,7 +115,8 @@ module _ (E : Setting) (f : Facts) (same-one : (r : ℕ) → (ltb r (length (f .
   last-hidden x local m l w (way-kept z) r (inl k) = seen-read x [] local (λ r. r) (l .unlisted) r k
   last-hidden x local m l w (way-kept z) r (inr k) = absurd (k .1)
 
-  copy-seen : (c : List Code) → Small E c → Each (Fine E) c → (local : List (ℕ × ℕ)) (m r : ℕ) → Exposed (E .operands) (copyFrom f own c local m) r → Seen c local r
+  copy-seen : (c : List Code) → Small E c → Each (Fine E) c → (local : List (ℕ × ℕ)) (m r : ℕ) → Exposed (E .operands) (copyFrom f own c local m) r
+      → Seen c local r
   unfolding copyFrom
   copy-seen [] k fine local m r e = absurd k
   copy-seen (x ∷ []) k fine local m r e = last-hidden x local m k (howOf f own (x .inst)) (way-last E f same-one own x k) r e
@@ -189,8 +196,13 @@ module _ (E : Setting) (f : Facts) (same-one : (r : ℕ) → (ltb r (length (f .
         let e : suc m + length (kindsGiven f own c) ≡ m + suc (length (kindsGiven f own c)) = omega arith in
         record {
           fine = (new-fine x local m (s .unlisted) low g d p, t .fine);
-          low = (new-low x local m (s .unlisted) low g d _ p (omega arith), subst (λ M. Each (Low E M) (copyFrom f own c (local ++ ((d, m) ∷ [])) (suc m))) e (t .low));
-          formed = each-front (NoEnd E) (renamed local (written d m) x ∷ []) (copyFrom f own c (local ++ ((d, m) ∷ [])) (suc m)) (no-end x local (written d m) (s .no-end), tt) (t .formed);
+          low = (
+            new-low x local m (s .unlisted) low g d _ p (omega arith),
+            subst
+                (λ M. Each (Low E M) (copyFrom f own c (local ++ ((d, m) ∷ [])) (suc m))) e (t .low),
+          );
+          formed = each-front (NoEnd E) (renamed local (written d m) x ∷ []) (copyFrom f own c (local ++ ((d, m) ∷ [])) (suc m))
+              (no-end x local (written d m) (s .no-end), tt) (t .formed);
         }
     copy-by x c local m s fine low g w (way-kept z) ih =
         let t = ih local m g in

@@ -85,7 +85,8 @@ module _ (E : Setting) (f : Facts) (same-one : (r : ℕ) → (ltb r (length (f .
 
   new-unwritten : (x : Code) (local : List (ℕ × ℕ)) (e m : ℕ) → listOf (x .inst) ≡ noList → defsAt x ≡ e ∷ [] → n₀ ≤ m
       → ¬ (In d (defsAt (renamed local (written e m) x)))
-  new-unwritten x local e m u p l k = let i = only E f same-one own d m (subst (In d) (defs-new E f same-one own x local e m u p) k) in let v = low-d in absurd (omega arith)
+  new-unwritten x local e m u p l k = let i = only E f same-one own d m
+      (subst (In d) (defs-new E f same-one own x local e m u p) k) in let v = low-d in absurd (omega arith)
 
   -- all the uses of d are in the block: the copy neither writes nor reads it
   module _ (own-d : owned d ≡ true) where
@@ -121,16 +122,19 @@ module _ (E : Setting) (f : Facts) (same-one : (r : ℕ) → (ltb r (length (f .
     unread-by x c local m u fine l g s w (way-out e n p q z) ih k = ih local m l g (λ v y. s v (inr (λ t. off t, y))) k
       where
         off : ¬ (In d (defsAt x))
-        off t = let i : d ≡ e = only E f same-one own d e (subst (In d) p t) in clash local-d (ap (E .local) i ∙ E .single-shared e n (fine e (rw p (inl refl)) q ∙ z))
+        off t = let i : d ≡ e = only E f same-one own d e (subst (In d) p t) in clash local-d
+            (ap (E .local) i ∙ E .single-shared e n (fine e (rw p (inl refl)) q ∙ z))
     unread-by x c local m u fine l g s w (way-new e p q z v) ih (inl k) = let t = read-before x local (written e m) u g k in s (t .1) (inl (t .0))
-    unread-by x c local m u fine l g s w (way-new e p q z v) ih (inr k) = ih (local ++ ((e, m) ∷ [])) (suc m) (omega arith) (given-more local e m l z g) safe k
+    unread-by x c local m u fine l g s w (way-new e p q z v) ih (inr k) = ih (local ++ ((e, m) ∷ [])) (suc m) (omega arith)
+        (given-more local e m l z g) safe k
       where
         safe : Safe c (local ++ ((e, m) ∷ []))
         safe y = by (ℕ-discrete d e) (found d local) refl
           where
             by : Dec (d ≡ e) → (o : Option ℕ) → found d local ≡ o → ¬ (Exposed ops c d)
             by i (some j) t = λ r. clash-some (found-old e m local d j t) y
-            by (yes i) none t = λ r. clash-some (subst (λ u. found u (local ++ ((e, m) ∷ [])) ≡ some m) (sym i) (found-new e m local (subst (λ u. found u local ≡ none) i t))) y
+            by (yes i) none t = λ r. clash-some (subst (λ u. found u (local ++ ((e, m) ∷ [])) ≡ some m) (sym i)
+                (found-new e m local (subst (λ u. found u local ≡ none) i t))) y
             by (no i) none t = λ r. s t (inr (λ a. i (only E f same-one own d e (subst (In d) p a)), r))
     unread-by x c local m u fine l g s w (way-kept z) ih (inl k) = let t = read-before x local (λ r. r) u g k in s (t .1) (inl (t .0))
     unread-by x c local m u fine l g s w (way-kept z) ih (inr k) = ih local m l g (λ v y. s v (inr (λ t. z d t one-d own-d, y))) k
@@ -142,7 +146,8 @@ module _ (E : Setting) (f : Facts) (same-one : (r : ℕ) → (ltb r (length (f .
     owned-unread (x ∷ []) k fine local m l g s =
         unread-by x [] local m (k .unlisted) (fine .0) l g s (howOf f own (x .inst)) (way-last E f same-one own x k) (λ local m l g s k. k)
     owned-unread (x ∷ y ∷ c) k fine local m l g s =
-        unread-by x (y ∷ c) local m (k .0 .unlisted) (fine .0) l g s (howOf f own (x .inst)) (way-silent E f same-one own x (k .0)) (owned-unread (y ∷ c) (k .1) (fine .1))
+        unread-by x (y ∷ c) local m (k .0 .unlisted) (fine .0) l g s (howOf f own (x .inst)) (way-silent E f same-one own x (k .0))
+        (owned-unread (y ∷ c) (k .1) (fine .1))
 
   -- what reads d in the copy reads it in the block
   read-by : (x : Code) (c : List Code) (local : List (ℕ × ℕ)) (m : ℕ) → listOf (x .inst) ≡ noList → n₀ ≤ m → Given local → (w : How) → W x w
@@ -217,7 +222,11 @@ module _ (E : Setting) (f : Facts) (same-one : (r : ℕ) → (ltb r (length (f .
     balanced-by x c local m n s l g w (way-kept z) n′ ih =
         balanced-cons x _ c _ n (n′ local m)
         (let t = ap (times d) (defs-kept E f same-one own x local (s .unlisted)) in omega arith)
-        (reader-more ops d x _ (λ k o. (read-on x local (λ r. r) (s .unlisted) g k, λ i. o (subst (In d) (defs-kept E f same-one own x local (s .unlisted)) i))))
+        (reader-more ops d x _ (λ k o. (
+          read-on x local (λ r. r) (s .unlisted) g k,
+          λ i. o
+              (subst (In d) (defs-kept E f same-one own x local (s .unlisted)) i),
+        )))
         (ih local m l g)
 
     pub copy-balanced : (c : List Code) → Small E c → (local : List (ℕ × ℕ)) (m : ℕ) → n₀ ≤ m → Given local → Balanced c (copyFrom f own c local m)
@@ -230,5 +239,6 @@ module _ (E : Setting) (f : Facts) (same-one : (r : ℕ) → (ltb r (length (f .
         by w (way-new e p q z v) = absurd (subst (In e) (k .none) (rw p (inl refl)))
         by w (way-kept z) = record { writes = omega arith; readers = omega arith }
     copy-balanced (x ∷ y ∷ c) k local m l g =
-        balanced-by x (y ∷ c) local m (λ q. let z : _≡_ {A = ℕ} 0 1 = cc in omega arith) (k .0) l g (howOf f own (x .inst)) (way-silent E f same-one own x (k .0))
+        balanced-by x (y ∷ c) local m (λ q. let z : _≡_ {A = ℕ} 0 1 = cc in omega arith) (k .0) l g (howOf f own (x .inst))
+        (way-silent E f same-one own x (k .0))
         (copy-some E f same-one own (y ∷ c) (k .1)) (copy-balanced (y ∷ c) (k .1))

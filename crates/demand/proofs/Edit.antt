@@ -9,7 +9,8 @@ use native.Mathlib.Omega.{arith}
 use lib.ListN.{getD}
 use Rattle.inst.specs.declared.Code.{Code}
 use Rattle.machine.specs.Act.{Act}
-use Rattle.machine.specs.Machine.{Regs, End, Effect, writes, goes, ends, asks, State, at, done, stores, shown, answered, after, effect, step, entry, entryOf, ranOut}
+use Rattle.machine.specs.Machine.{Regs, End, Effect, writes, goes, ends, asks, State, at}
+use Rattle.machine.specs.Machine.{done, stores, shown, answered, after, effect, step, entry, entryOf, ranOut}
 use Rattle.machine.proofs.Shorter.{Mach, Shorter, Stretch, simulates, together, mach}
 use Rattle.demand.specs.Setting.{Each, Setting, code, does, defsAt, readsAt, Exposed, Hidden, Fine, Loaded, Passes, Behind}
 use Rattle.demand.proofs.Basics.{map-same, stores-agree}
@@ -75,7 +76,8 @@ module _ (E : Setting) where
         → new .cost (at (x′ ∷ c′) g′ h′) ≤ old .cost (at (x ∷ c) g h)
     weigh x x′ c c′ g g′ h h′ e =
         let p : entry (E .outside) (E .address) (code E rs′ P′) (at (x′ ∷ c′) g′ h′) ≡ entry (E .outside) (E .address) (code E rs P) (at (x ∷ c) g h) =
-        entry-is rs′ P′ x′ c′ g′ h′ ∙ ap (entryOf (E .outside) (E .address) (code E rs′ P′)) (sym e) ∙ sym (entry-same (does E x g)) ∙ sym (entry-is rs P x c g h) in
+        entry-is rs′ P′ x′ c′ g′ h′ ∙ ap (entryOf (E .outside) (E .address) (code E rs′ P′)) (sym e) ∙ sym (entry-same (does E x g))
+        ∙ sym (entry-is rs P x c g h) in
         omega (arith, ap (λ z. κ * z) p)
 
     module _ (Q : Regs → Type 0) where
@@ -117,8 +119,10 @@ module _ (E : Setting) where
         rest (apart pre d d′ f t) g g′ h b l a = near pre d d′ g g′ h f b t l a
 
         module _ (x : Code) {c c′ : List Code} (y : Rest c c′) (g g′ : Regs) (h : List Act) (l : Loaded E g) (a : Agree (x ∷ c′) g g′) where
-          answer-on : (o : Option (List ℕ)) (q : Act) → ((vs : List ℕ) → Loaded E (stores (defsAt x) vs g)) → ((vs : List ℕ) → Ahead y (stores (defsAt x) vs g))
-              → R (answered (E .outside) (E .address) (code E rs P) o q (defsAt x) c g h) (answered (E .outside) (E .address) (code E rs′ P′) o q (defsAt x) c′ g′ h)
+          answer-on : (o : Option (List ℕ)) (q : Act) → ((vs : List ℕ) → Loaded E (stores (defsAt x) vs g))
+              → ((vs : List ℕ) → Ahead y (stores (defsAt x) vs g))
+              → R (answered (E .outside) (E .address) (code E rs P) o q (defsAt x) c g h)
+              (answered (E .outside) (E .address) (code E rs′ P′) o q (defsAt x) c′ g′ h)
           answer-on none q k b = over _ _
           answer-on (some vs) q k b = rest y _ _ _ (b vs) (k vs) (agree-stores x c′ g g′ vs a)
 

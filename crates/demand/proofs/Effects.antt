@@ -89,7 +89,8 @@ module _ (address : Address) where
   inner : (x : Inst) (b : Bool) → isFixed (fixedOf x) ≡ b → terminatorOf x ≡ false → viewOf x ≡ e.Other → Inner x b
   inner x b p q r = record { is-fixed = p; no-end = q; view = r }
 
-  outer : (x : Inst) → defsOf x ≡ [] → listOf x ≡ noList → isFixed (fixedOf x) ≡ false → dupable x ≡ false → length (usesOf x) ≤ 1 → terminatorOf x ≡ true → Outer x
+  outer : (x : Inst) → defsOf x ≡ [] → listOf x ≡ noList → isFixed (fixedOf x) ≡ false → dupable x ≡ false → length (usesOf x) ≤ 1
+      → terminatorOf x ≡ true → Outer x
   outer x p q r s t u = record { none = p; unlisted = q; varies = r; no-copy = s; few = t; ends-block = u }
 
   pub shape : (x : Inst) → Shape x

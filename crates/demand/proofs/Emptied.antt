@@ -71,7 +71,8 @@ module _ (F : Code → Type 0) where
   rescues-each f marks [] p = tt
   rescues-each f [] (c ∷ P) p = tt
   rescues-each f (m ∷ ms) (c ∷ P) p =
-      each-append (λ x. F x × (isRescued f x ≡ true)) (cond (stays m P c) [] (rescuedOf f c)) (rescues f ms P) (by (stays m P c)) (rescues-each f ms P (λ b. p (suc b)))
+      each-append (λ x. F x × (isRescued f x ≡ true)) (cond (stays m P c) [] (rescuedOf f c)) (rescues f ms P) (by (stays m P c))
+      (rescues-each f ms P (λ b. p (suc b)))
     where
       by : (t : Bool) → Each (λ x. F x × (isRescued f x ≡ true)) (cond t [] (rescuedOf f c))
       by true = tt
@@ -161,4 +162,5 @@ module _ (E : Setting) where
       same s s′ (over h e) = refl
 
       pub unreached : (b : ℕ) → S b → (g : Regs) (h : List Act) → Shorter m m′ (at (getD P b []) g h) (at (getD P′ b []) g h)
-      unreached b s g h = subst (λ d. Shorter m m′ (at (getD P b []) g h) (at d g h)) (sym (kept b s)) (simulates m m′ R same go-on _ _ (ran (getD P b []) g h (closed b s)))
+      unreached b s g h = subst (λ d. Shorter m m′ (at (getD P b []) g h) (at d g h)) (sym (kept b s))
+          (simulates m m′ R same go-on _ _ (ran (getD P b []) g h (closed b s)))

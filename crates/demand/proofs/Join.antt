@@ -22,7 +22,8 @@ use Rattle.machine.specs.Machine.{Regs, at}
 use Rattle.demand.specs.Setting.{In, Each, Setting, readsAt, Written, Read, Exposed, Hidden, Fine, Loaded}
 use Rattle.demand.proofs.Basics.{clash, clash-some, eqb-true, and-both}
 use Rattle.demand.proofs.Stretches.{ahead}
-use Rattle.demand.proofs.Codes.{each-append, each-left, front-each, each-front, exposed-left, exposed-split, read-split, Ended, ends-in, in-range, front-append}
+use Rattle.demand.proofs.Codes.{each-append, each-left, front-each, each-front, exposed-left}
+use Rattle.demand.proofs.Codes.{exposed-split, read-split, Ended, ends-in, in-range, front-append}
 use Rattle.demand.proofs.Edit.{Meet, Live, meet, Tail, edited}
 use Rattle.demand.proofs.Branches.{br-does, Low, NoEnd, Good, set-good, part-blocks}
 use Rattle.demand.proofs.Jumps.{goes-is}
@@ -150,7 +151,8 @@ module _ (E : Setting) where
             good = join-good;
             shortens = λ κ rs rs′ b g h ld.
                 edited E κ rs rs′ P P′ (λ g. Unit {0})
-                (part-blocks E m P good a range κ rs rs′ (λ g. Unit {0}) pre (end .last ∷ []) copy (end .is) pre-fine join-hidden (λ g l. always E pre g) (tail κ rs rs′))
+                (part-blocks E m P good a range κ rs rs′ (λ g. Unit {0}) pre (end .last ∷ []) copy (end .is) pre-fine join-hidden
+                (λ g l. always E pre g) (tail κ rs rs′))
                 b g g h ld (λ r z. refl);
           }
 

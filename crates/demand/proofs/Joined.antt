@@ -26,7 +26,8 @@ use Rattle.demand.proofs.Codes.{exposed-read}
 use Rattle.demand.proofs.Edit.{Meet, Live, step-is, Same, entering, both, weigh}
 use Rattle.demand.proofs.Branches.{Low}
 use Rattle.demand.proofs.Jumps.{St}
-use Rattle.demand.proofs.Copied.{Leaves, Silent, Last, Small, renamed-defs, renamed-does, all-own, Way, way-out, way-new, way-kept, way-last, way-silent}
+use Rattle.demand.proofs.Copied.{Leaves, Silent, Last, Small, renamed-defs, renamed-does}
+use Rattle.demand.proofs.Copied.{all-own, Way, way-out, way-new, way-kept, way-last, way-silent}
 
 -- a register has a new number
 abbrev pub counted : Option ℕ → ℕ
@@ -77,7 +78,8 @@ module _ (E : Setting) (f : Facts) (same-one : (r : ℕ) → (ltb r (length (f .
     pub low : Each (Low E n₀) c
     pub from : n₀ ≤ m
     -- a register that gets a new number is written once, or isn't read
-    pub once : (r : ℕ) → E .one r ≡ true → E .local r ≡ true → all-own E f same-one own r ≡ true → (writesIn c r + renumberings r local ≤ 1) ⊎ (¬ (Read (E .operands) c r))
+    pub once : (r : ℕ) → E .one r ≡ true → E .local r ≡ true → all-own E f same-one own r ≡ true → (writesIn c r + renumberings r local ≤ 1)
+        ⊎ (¬ (Read (E .operands) c r))
 
   module _ (κ : ℕ) (rs rs′ : List ℕ) (P P′ : List (List Code)) (h : List Act) where
     abbrev Sim : List Code → List Code → Regs → Regs → Type 0
@@ -131,7 +133,8 @@ module _ (E : Setting) (f : Facts) (same-one : (r : ℕ) → (ltb r (length (f .
             ∙ rw (copy-does τ, s .does-write g, renamed-defs E (readThrough local) τ x (s .unlisted), s .one)
 
         loaded-next : Loaded E (upd d v g)
-        loaded-next = subst (λ w. Passes w (d ∷ []) (Loaded E) g) (s .does-write g) (subst (λ ds. Passes (does E x g) ds (Loaded E) g) (s .one) (keeps E x g (y .fine .0) (y .loaded)))
+        loaded-next = subst (λ w. Passes w (d ∷ []) (Loaded E) g) (s .does-write g)
+            (subst (λ ds. Passes (does E x g) ds (Loaded E) g) (s .one) (keeps E x g (y .fine .0) (y .loaded)))
 
         -- live behind x, and another register
         live-before : (r : ℕ) → ¬ (r ≡ d) → Live E c r → Live E (x ∷ c) r
@@ -239,13 +242,15 @@ module _ (E : Setting) (f : Facts) (same-one : (r : ℕ) → (ltb r (length (f .
               → (E .one r ≡ true) × (E .local r ≡ true) × (all-own E f same-one own r ≡ true) × (n₀ ≤ k) × (k < suc m)
           entries-new r k q = by (ℕ-discrete r d) (found r local) refl
             where
-              was : (j : ℕ) → found r local ≡ some j → j ≡ k → (E .one r ≡ true) × (E .local r ≡ true) × (all-own E f same-one own r ≡ true) × (n₀ ≤ k) × (k < suc m)
+              was : (j : ℕ) → found r local ≡ some j → j ≡ k → (E .one r ≡ true) × (E .local r ≡ true) × (all-own E f same-one own r ≡ true)
+                  × (n₀ ≤ k) × (k < suc m)
               was j z w = let t = y .entries r j z in (t .0, t .1, t .2, omega (arith, t .3), omega (arith, t .4))
 
               by : Dec (r ≡ d) → (o : Option ℕ) → found r local ≡ o
                   → (E .one r ≡ true) × (E .local r ≡ true) × (all-own E f same-one own r ≡ true) × (n₀ ≤ k) × (k < suc m)
               by (yes w) none z =
-                  let t : found r local′ ≡ some m = subst (λ u. found u local′ ≡ some m) (sym w) (found-new d m local (subst (λ u. found u local ≡ none) w z)) in
+                  let t : found r local′ ≡ some m = subst (λ u. found u local′ ≡ some m) (sym w)
+                  (found-new d m local (subst (λ u. found u local ≡ none) w z)) in
                   let e : m ≡ k = cc in
                   let u = y .from in
                   (ap (E .one) w ∙ one-d, ap (E .local) w ∙ local-d, ap (all-own E f same-one own) w ∙ own-d, omega arith, omega arith)
@@ -346,7 +351,8 @@ module _ (E : Setting) (f : Facts) (same-one : (r : ℕ) → (ltb r (length (f .
             local-d : E .local d ≡ true
             local-d = E .one-local d one-d (y .fine .0 d (rw (s .one) (inl refl)) one-d ∙ k)
         pass w (way-kept k) ih =
-            abreast _ _ _ _ (at c (upd d v g) h) _ (at (copyFrom f own c local m) (upd d v g′) h) old-step (new-step (λ r. r) (copyFrom f own c local m)) refl refl
+            abreast _ _ _ _ (at c (upd d v g) h) _ (at (copyFrom f own c local m) (upd d v g′) h) old-step
+            (new-step (λ r. r) (copyFrom f own c local m)) refl refl
             (weigh E κ rs rs′ P P′ x (renamed local (λ r. r) x) c (copyFrom f own c local m) g g′ h h (sym (copy-does (λ r. r))))
             (ih local m (upd d v g) (upd d v g′) (ready-kept (k d (rw (s .one) (inl refl)))))
 
@@ -365,7 +371,8 @@ module _ (E : Setting) (f : Facts) (same-one : (r : ℕ) → (ltb r (length (f .
       finish l w (way-kept k) =
           together _ _ _ _ _ (weigh E κ rs rs′ P P′ x (renamed local (λ r. r) x) [] [] g g′ h h (sym same))
           (subst₂ (Same E κ rs rs′ P P′) (sym (step-is E rs P x [] g h))
-          (sym (step-is E rs′ P′ (renamed local (λ r. r) x) [] g′ h ∙ ap (λ e. after (E .outside) (E .address) (code E rs′ P′) e (defsAt (renamed local (λ r. r) x)) [] g′ h) same))
+          (sym (step-is E rs′ P′ (renamed local (λ r. r) x) [] g′ h
+          ∙ ap (λ e. after (E .outside) (E .address) (code E rs′ P′) e (defsAt (renamed local (λ r. r) x)) [] g′ h) same))
           (left (does E x g) (l .leaves g) _ _))
         where
           same : does E (renamed local (λ r. r) x) g′ ≡ does E x g

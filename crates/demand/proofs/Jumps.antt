@@ -77,7 +77,8 @@ module _ (E : Setting) (κ : ℕ) (rs rs′ : List ℕ) (P P′ : List (List Cod
             on true z q =
                 let t = lone-is (getD P b []) (e.CondBr d m n) s (λ z. let w : _≡_ {A = ℕ} 0 1 = cc in omega arith) in
                 let u = cond-does E (t .0) d m n (t .2) in
-                let same : choose (g (d .0)) (m .0) (n .0) ≡ cond truth (m .0) (n .0) = ap (λ w. choose (g w) (m .0) (n .0)) (eqb-eq (d .0) r z) ∙ known (m .0) (n .0) in
+                let same : choose (g (d .0)) (m .0) (n .0) ≡ cond truth (m .0) (n .0) = ap (λ w. choose (g w) (m .0) (n .0)) (eqb-eq (d .0) r z)
+                ∙ known (m .0) (n .0) in
                 one-more x c b (t .0) [] p (t .1) (both-go (t .0) [] (cond truth (m .0) (n .0)) (u .goes-to g ∙ ap goes same) q)
             on false z q = both-go x c b p q
         by (e.Case n) s q = both-go x c b p q

@@ -18,7 +18,8 @@ use Rattle.procedure.specs.Lists.{found, orElse, valueOr}
 use Rattle.word.specs.Word.{tests}
 use Rattle.ends.specs.Forms.{Form, const, constF, addrOf, move, bool, bin, jump, other, formOf}
 use Rattle.steps.specs.Facts.{Facts}
-use Rattle.steps.specs.Note.{Known, nothing, valuesWithout, copiesWithout, forget, forgetAll, withCopy, withValueIf, sourceOf, valueOf, alike, noteMove, boolOf, learnt, learn, note, notes}
+use Rattle.steps.specs.Note.{Known, nothing, valuesWithout, copiesWithout, forget, forgetAll, withCopy, withValueIf}
+use Rattle.steps.specs.Note.{sourceOf, valueOf, alike, noteMove, boolOf, learnt, learn, note, notes}
 use Rattle.machine.specs.Machine.{Address, Regs, writes, effect, stores, upd}
 use Rattle.demand.specs.Setting.{In, Each, Setting, does, defsAt, readsAt, Read, Fine, Loaded, Passes, Behind}
 use Rattle.demand.proofs.Basics.{clash, clash-some, eqb-eq, eqb-true, upd-same, upd-other, or-none}
@@ -34,7 +35,8 @@ module _ (address : Address) where
   Says x (constF d) = Unit {0}
   Says x (addrOf d up) = Unit {0}
   Says x (move d s) = (defsOf x ≡ d .0 ∷ []) × Always x (λ vs. getD vs 0 0) × ((ops : List ℕ) → readsOf ops x ≡ s .0 ∷ [])
-  Says x (bool op d y z) = (defsOf x ≡ d .0 ∷ []) × Always x (λ vs. tests op (getD vs 0 0) (getD vs 1 0)) × ((ops : List ℕ) → readsOf ops x ≡ boolUses op (y .0) (z .0))
+  Says x (bool op d y z) = (defsOf x ≡ d .0 ∷ []) × Always x (λ vs. tests op (getD vs 0 0) (getD vs 1 0))
+      × ((ops : List ℕ) → readsOf ops x ≡ boolUses op (y .0) (z .0))
   Says x (bin ranged op) = Unit {0}
   Says x (jump e) = Unit {0}
   Says x other = Unit {0}

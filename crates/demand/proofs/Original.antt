@@ -202,7 +202,8 @@ module _ (outside : Outside) (address : Address) (p : Procedure) (whole : Whole 
           let w = singly-one cs r t in
           each-map _ _ (λ x f k. single-in r t ∙ f k) cs (first-is address cs r (omega arith))
 
-      gather : (c : List Code) → ((r : ℕ) → one r ≡ true → Each (λ x. In r (defsAt x) → single address p r ≡ constantOf address (x .inst)) c) → Each (Fine E) c
+      gather : (c : List Code) → ((r : ℕ) → one r ≡ true → Each (λ x. In r (defsAt x) → single address p r ≡ constantOf address (x .inst)) c)
+          → Each (Fine E) c
       gather [] q = tt
       gather (x ∷ c) q = (λ r k o. (q r o) .0 k, gather c (λ r o. (q r o) .1))
 

@@ -10,7 +10,8 @@ use lib.ListN.{length, getD}
 use Rattle.inst.specs.declared.Code.{Code}
 use Rattle.steps.specs.Emit.{ontoFront}
 use Rattle.machine.specs.Act.{Act}
-use Rattle.machine.specs.Machine.{Regs, End, Effect, writes, goes, ends, asks, State, at, done, stores, upd, shown, ranOut, start, answered, after, step, run, entry, entryOf, intoZero}
+use Rattle.machine.specs.Machine.{Regs, End, Effect, writes, goes, ends, asks, State, at, done, stores}
+use Rattle.machine.specs.Machine.{upd, shown, ranOut, start, answered, after, step, run, entry, entryOf, intoZero}
 use Rattle.machine.specs.Single.{constantOf}
 use Rattle.machine.specs.Demand.{shows}
 use Rattle.machine.proofs.Shorter.{Mach, Shorter, Stretch, simulates, together, mach, steps, seen, steps-run, spent-is, at-once}
@@ -42,7 +43,8 @@ module _ (E : Setting) where
 
     idle : (x : Code) → Constant x → (c : List Code) (g : Regs) (h : List Act) → Loaded E g → next (at (x ∷ c) g h) ≡ at c g h
     idle x k c g h l =
-        step-is E qs Q x c g h ∙ rw (constant-does E x (k .v) g (k .writes-v), k .one) (ap (λ g. at c g h) (upd-idle (k .d) (k .v) g (l (k .d) (k .v) (k .single))))
+        step-is E qs Q x c g h ∙ rw (constant-does E x (k .v) g (k .writes-v), k .one)
+        (ap (λ g. at c g h) (upd-idle (k .d) (k .v) g (l (k .d) (k .v) (k .single))))
 
     idle-run : (k : List Code) → Each Constant k → (c : List Code) (g : Regs) (h : List Act) → Loaded E g
         → run (E .outside) (E .address) (code E qs Q) (length k) (at (k ++ c) g h) ≡ at c g h
@@ -100,7 +102,8 @@ module _ (E : Setting) where
           (sym (step-is E rs′ P′ x c g h ∙ ap (λ d. after (E .outside) (E .address) (code E rs′ P′) d (defsAt x) c g h) q)) r)
 
       answer-on : (o : Option (List ℕ)) (a : Act) → ((vs : List ℕ) → Loaded E (stores (defsAt x) vs g))
-          → R (answered (E .outside) (E .address) (code E rs P) o a (defsAt x) c g h) (answered (E .outside) (E .address) (code E rs′ P′) o a (defsAt x) c g h)
+          → R (answered (E .outside) (E .address) (code E rs P) o a (defsAt x) c g h)
+          (answered (E .outside) (E .address) (code E rs′ P′) o a (defsAt x) c g h)
       answer-on none a n = over _ _
       answer-on (some vs) a n = ran c _ _ f (n vs)
 
@@ -126,7 +129,8 @@ module _ (E : Setting) where
           enter = step-is E rs′ P′ x c g h ∙ ap (λ d. after (E .outside) (E .address) (code E rs′ P′) d (defsAt x) c g h) q ∙ ap (λ d. at d g h) at-front
 
           right : steps m′ (suc (length k)) s₀ ≡ at (getD P 0 []) g h
-          right = ap (steps m′ (length k)) enter ∙ steps-run (E .outside) (E .address) (code E rs′ P′) 0 (length k) _ ∙ idle-run rs′ P′ k constants (getD P 0 []) g h l
+          right = ap (steps m′ (length k)) enter ∙ steps-run (E .outside) (E .address) (code E rs′ P′) 0 (length k) _
+              ∙ idle-run rs′ P′ k constants (getD P 0 []) g h l
 
           quiet : (j : ℕ) → j ≤ length k → seen m′ j s₀ ≡ shown s₀
           quiet zero n = refl

@@ -45,7 +45,8 @@ module _ (E : Setting) where
   abbrev pub Shortens : List (List Code) → List (List Code) → Type 0
   Shortens P P′ =
       (κ : ℕ) (rs rs′ : List ℕ) (b : ℕ) (g : Regs) (h : List Act) → Loaded E g
-      → Shorter (mach (E .outside) (E .address) κ (code E rs P)) (mach (E .outside) (E .address) κ (code E rs′ P′)) (at (getD P b []) g h) (at (getD P′ b []) g h)
+      → Shorter (mach (E .outside) (E .address) κ (code E rs P)) (mach (E .outside) (E .address) κ (code E rs′ P′)) (at (getD P b []) g h)
+      (at (getD P′ b []) g h)
 
   -- one edit: m and m′ are the next new numbers before and after it
   pub record Edited (m m′ : ℕ) (P P′ : List (List Code)) : Type 0 where
@@ -58,7 +59,8 @@ module _ (E : Setting) where
 
   -- local registers may hold anything
   pub settle : (m : ℕ) (P : List (List Code)) → Good E m P → (κ : ℕ) (rs rs′ : List ℕ) (b : ℕ) (g g′ : Regs) (h : List Act) → Loaded E g → Meet E g g′
-      → Shorter (mach (E .outside) (E .address) κ (code E rs P)) (mach (E .outside) (E .address) κ (code E rs′ P)) (at (getD P b []) g h) (at (getD P b []) g′ h)
+      → Shorter (mach (E .outside) (E .address) κ (code E rs P)) (mach (E .outside) (E .address) κ (code E rs′ P)) (at (getD P b []) g h)
+      (at (getD P b []) g′ h)
   settle m P good κ rs rs′ b g g′ h l a =
       edited E κ rs rs′ P P (λ g. Unit {0}) (λ b. whole (getD P b []) (good .fine b) (good .hidden b)) b g g′ h l a
 
@@ -108,7 +110,8 @@ module _ (E : Setting) where
             good = end-good E m P good a range end x writes-none old-reads;
             shortens = λ κ rs rs′ b g h l.
                 rw (end .rewritten x)
-                (edited E κ rs rs′ P (ended-by x) Q (end-blocks E m P good a range end x writes-none old-reads κ rs rs′ Q q (k κ rs rs′)) b g g h l (λ r z. refl));
+                (edited E κ rs rs′ P (ended-by x) Q (end-blocks E m P good a range end x writes-none old-reads κ rs rs′ Q q (k κ rs rs′)) b g g h l
+                (λ r z. refl));
           }
 
       -- of a register that one field writes
@@ -128,7 +131,8 @@ module _ (E : Setting) where
 
         tail : (κ : ℕ) (rs rs′ : List ℕ) → Tail E κ rs rs′ P (ended-by x) (λ g. Unit {0}) (end .last ∷ []) (withInst x (end .last) ∷ [])
         tail κ rs rs′ g g′ h l k z =
-            chase E κ rs rs′ P (ended-by x) (withInst x (end .last)) [] g g′ h l (meet E (withInst x (end .last) ∷ []) g g′ z) 4 (choose (g (c .0)) (t .0) (u .0)) (end .last) []
+            chase E κ rs rs′ P (ended-by x) (withInst x (end .last)) [] g g′ h l (meet E (withInst x (end .last) ∷ []) g g′ z) 4
+            (choose (g (c .0)) (t .0) (u .0)) (end .last) []
             (tests .goes-to g) (br-new E _ (end .last) g′ ∙ ap goes (reach (g (c .0))))
 
     module _ (f : Facts) (known : (r v : ℕ) → f .const r ≡ some v → E .single r ≡ some v) where
@@ -152,7 +156,8 @@ module _ (E : Setting) where
           tail : (κ : ℕ) (rs rs′ : List ℕ) → Tail E κ rs rs′ P (ended-by x) (Holds K) (end .last ∷ []) (withInst x (end .last) ∷ [])
           tail κ rs rs′ g g′ h l k z =
               let v : g (c .0) ≡ n = source-holds E f known K g k (c .0) ∙ value-holds E f known K g l k source n q in
-              both-go E κ rs rs′ P (ended-by x) (withInst x (end .last)) [] g g′ h l (meet E (withInst x (end .last) ∷ []) g g′ z) (end .last) [] (choose n (t .0) (u .0))
+              both-go E κ rs rs′ P (ended-by x) (withInst x (end .last)) [] g g′ h l (meet E (withInst x (end .last) ∷ []) g g′ z) (end .last) []
+              (choose n (t .0) (u .0))
               (tests .goes-to g ∙ ap (λ w. goes (choose w (t .0) (u .0))) v) (br-new E _ (end .last) g′)
 
       pub folds-sparse : (n d : ℕ) → Sparse E f P d → Sparse E f (set P a (withEnd (i.Br (blockOf (choose n (t .0) (u .0)))) (getD P a []))) d
@@ -172,7 +177,8 @@ module _ (E : Setting) where
 
       -- "c becomes its copy's source"; "an arm whose target is a lone CondBr on the same c .. takes that block's matching arm"
       pub turns-to : (w : Work) → w .blocks ≡ P
-          → Edited m m P (set P a (withEnd (i.CondBr (regOf source) (blockOf (armOf f w a source true (t .0))) (blockOf (armOf f w a source false (u .0)))) (getD P a [])))
+          → Edited m m P (set P a (withEnd (i.CondBr (regOf source) (blockOf (armOf f w a source true (t .0)))
+          (blockOf (armOf f w a source false (u .0)))) (getD P a [])))
       unfolding armOf
       turns-to w same = rewritten x refl (turn-reads (arm true (t .0)) (arm false (u .0))) (Holds K) holding tail
         where
@@ -194,7 +200,8 @@ module _ (E : Setting) where
               v′ : g source ≡ g′ source
               v′ = z source (inr (inl (inl refl)))
 
-              along : (truth : Bool) (b : ℕ) → ((s t : ℕ) → choose (g source) s t ≡ cond truth s t) → does E (end .last) g ≡ goes b → does E y g′ ≡ goes (arm truth b)
+              along : (truth : Bool) (b : ℕ) → ((s t : ℕ) → choose (g source) s t ≡ cond truth s t) → does E (end .last) g ≡ goes b
+                  → does E y g′ ≡ goes (arm truth b)
                   → St E κ rs rs′ P (ended-by x) (at (end .last ∷ []) g h) (at (y ∷ []) g′ h)
               along truth b p q q′ = on (eqb b a || holds (f .body) b) q′
                 where

@@ -72,7 +72,11 @@ module _ (E : Setting) (f : Facts) where
       same = ap front (t .rewritten x) ∙ front-of pre (withInst x (t .last))
 
       by : Quiet d c → Quiet d (withEnd x c)
-      by k = record { unread = λ z. k .unread (subst (λ y. Read ops y d) same z); ends = λ z. on z (read-split ops pre _ d (subst (λ y. Read ops y d) (t .rewritten x) z)) }
+      by k = record {
+        unread = λ z. k .unread (subst (λ y. Read ops y d) same z);
+        ends = λ z. on z
+            (read-split ops pre _ d (subst (λ y. Read ops y d) (t .rewritten x) z));
+      }
         where
           from : Read ops pre d ⊎ In d (readsAt ops (t .last)) → (writesIn c d ≤ 1) × (f .uses d ≡ 1)
           from (inl z) = absurd (k .unread z)

@@ -27,7 +27,8 @@ use Rattle.demand.proofs.Basics.{clash, clash-some, and-both}
 use Rattle.demand.proofs.Effects.{Shape, constant, computed, acting, going, testing, casing, ending, shape}
 use Rattle.demand.proofs.Codes.{read-exposed, read-split, dec-read, dec-written, Ended, ended}
 use Rattle.demand.proofs.Branches.{Low, Good}
-use Rattle.demand.proofs.Counted.{times-some, times-most, written-once, unwritten, front-writes, front-read, front-exposed, readersIn, hidden-reader, unread, uses-append}
+use Rattle.demand.proofs.Counted.{times-some, times-most, written-once, unwritten, front-writes}
+use Rattle.demand.proofs.Counted.{front-read, front-exposed, readersIn, hidden-reader, unread, uses-append}
 use Rattle.demand.proofs.Sparse.{Sparse, busy, quiet}
 use Rattle.demand.proofs.Join.{AllSparse}
 use Rattle.demand.proofs.Rewrites.{Edited}

@@ -165,7 +165,8 @@ module _ (p : Procedure) (whole : Whole p) (inside : Inside p) where
         (shorter-trans (to-good outside address g g′ s (nextNumber f w) (w .blocks) shortens-w good-w κ [] b)
         (shorter-trans
         (unreached F (Marked (p .tables) (w .blocks)) κ [] [] (w .blocks) others
-        (λ b m. block-leads F (Marked (p .tables) (w .blocks)) (getD (w .blocks) b []) (good-w .formed b) (λ t i. reached-closed (p .tables) (w .blocks) b t m i))
+        (λ b m. block-leads F (Marked (p .tables) (w .blocks)) (getD (w .blocks) b []) (good-w .formed b)
+        (λ t i. reached-closed (p .tables) (w .blocks) b t m i))
         (λ b m. kept-block 0 marks (w .blocks) b m) b m g′ [])
         (rescued-runs F [] (q .registers) others moved constants fine-others some b g′ [] (s .loaded′)))))
       where
@@ -205,7 +206,8 @@ module _ (p : Procedure) (whole : Whole p) (inside : Inside p) where
         some : (0 < length others) ⊎ (moved ≡ [])
         some = some-or-none f marks (w .blocks)
 
-        by : (a : ℕ) → Marked (p .tables) (w .blocks) a → In t (leads (p .tables) (endOf (getD (q .blocks) a []))) → In t (leads (p .tables) (endOf (getD (w .blocks) a [])))
+        by : (a : ℕ) → Marked (p .tables) (w .blocks) a → In t (leads (p .tables) (endOf (getD (q .blocks) a [])))
+            → In t (leads (p .tables) (endOf (getD (w .blocks) a [])))
         by zero m i =
             front-leads (getD (w .blocks) 0 []) t
             (subst (λ c. In t (leads (p .tables) (endOf c)))
@@ -214,9 +216,11 @@ module _ (p : Procedure) (whole : Whole p) (inside : Inside p) where
             subst (λ c. In t (leads (p .tables) (endOf c)))
             (elsewhere F [] (q .registers) others moved constants fine-others some a ∙ kept-block 0 marks (w .blocks) (suc a) m) i
 
-    path-marked : (ss : List ℕ) (a b : ℕ) → Marked (p .tables) (w .blocks) a → Path (edgesOf (q .tables) (q .blocks)) b a ss → Marked (p .tables) (w .blocks) b
+    path-marked : (ss : List ℕ) (a b : ℕ) → Marked (p .tables) (w .blocks) a → Path (edgesOf (q .tables) (q .blocks)) b a ss
+        → Marked (p .tables) (w .blocks) b
     path-marked [] a b m z = subst (Marked (p .tables) (w .blocks)) z m
-    path-marked (s ∷ ss) a b m z = path-marked ss s b (lead-on a s m (subst (In s) (edges-at (p .tables) (q .blocks) a) (isIn-in s (getD (edgesOf (p .tables) (q .blocks)) a []) (z .0)))) (z .1)
+    path-marked (s ∷ ss) a b m z = path-marked ss s b
+        (lead-on a s m (subst (In s) (edges-at (p .tables) (q .blocks) a) (isIn-in s (getD (edgesOf (p .tables) (q .blocks)) a []) (z .0)))) (z .1)
 
   emit-kept : Kept p (emit f (armsJoined p .procedure) w)
   unfolding emit

@@ -22,7 +22,8 @@ use Rattle.steps.proofs.Edits.{Edit, Edits, joins, folds, turns, nil, then, thr
 use Rattle.demand.specs.Setting.{Setting}
 use Rattle.demand.proofs.Basics.{or-none, and-both, not-false, eqb-eq}
 use Rattle.demand.proofs.Branches.{Good}
-use Rattle.demand.proofs.Rewrites.{Shortens, Edited, edited-none, edited-then, shortens-then, joins-arms, folds-known, folds-sparse, turns-to, turns-sparse}
+use Rattle.demand.proofs.Rewrites.{Shortens, Edited, edited-none, edited-then, shortens-then}
+use Rattle.demand.proofs.Rewrites.{joins-arms, folds-known, folds-sparse, turns-to, turns-sparse}
 use Rattle.demand.proofs.Join.{AllSparse, joins-code, joins-sparse}
 
 module _ (E : Setting) where
@@ -72,7 +73,8 @@ module _ (E : Setting) where
     next-more : (w : Work) (ks : List ℕ) → nextNumber f w + length ks ≡ length (f .registers) + length (w .kinds ++ ks)
     next-more w ks = omega (arith, length-append (w .kinds) ks)
 
-    onward : (w : Work) (a : ℕ) (c : List Code) (ks : List ℕ) (n : ℕ) → Edited E (nextNumber f w) (nextNumber f w + length ks) (w .blocks) (set (w .blocks) a c)
+    onward : (w : Work) (a : ℕ) (c : List Code) (ks : List ℕ) (n : ℕ)
+        → Edited E (nextNumber f w) (nextNumber f w + length ks) (w .blocks) (set (w .blocks) a c)
         → AllSparse E f same-one (set (w .blocks) a c) → Onward w (edit w a c ks n)
     onward w a c ks n x s =
         record { kept = record { good = subst (λ m. Good E m (set (w .blocks) a c)) (next-more w ks) (x .good); sparse = s }; shortens = x .shortens }

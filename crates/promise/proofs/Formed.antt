@@ -115,15 +115,18 @@ module _ (p : Procedure) (w : WellFormed p) where
   block-at (c ∷ P) q (suc b) = block-at P (q .1) b
 
   names-low : (x : Code) → Sound n x → (r : ℕ) → In r (defsAt x) ⊎ In r (readsAt (p .operands) x) → r < length (p .registers)
-  names-low x s r (inl k) = all-in _ (defsOf (x .inst) ++ usesOf (x .inst)) r (regs-exist n (x .inst) (named n x (s .names))) (in-left r (defsOf (x .inst)) (usesOf (x .inst)) k)
+  names-low x s r (inl k) = all-in _ (defsOf (x .inst) ++ usesOf (x .inst)) r (regs-exist n (x .inst) (named n x (s .names)))
+      (in-left r (defsOf (x .inst)) (usesOf (x .inst)) k)
   names-low x s r (inr k) = by (in-split r (usesOf (x .inst)) (operandsOf (p .operands) (listOf (x .inst))) k)
     where
       l : List ℕ
       l = p .operands
 
       by : In r (usesOf (x .inst)) ⊎ In r (operandsOf l (listOf (x .inst))) → r < length (p .registers)
-      by (inl z) = all-in _ (defsOf (x .inst) ++ usesOf (x .inst)) r (regs-exist n (x .inst) (named n x (s .names))) (in-right r (defsOf (x .inst)) (usesOf (x .inst)) z)
-      by (inr z) = all-in (λ r. r < length (p .registers)) l r (w .each-operand) (in-drop r (listOf (x .inst) .start) l (in-take r (listOf (x .inst) .len) _ z))
+      by (inl z) = all-in _ (defsOf (x .inst) ++ usesOf (x .inst)) r (regs-exist n (x .inst) (named n x (s .names)))
+          (in-right r (defsOf (x .inst)) (usesOf (x .inst)) z)
+      by (inr z) = all-in (λ r. r < length (p .registers)) l r (w .each-operand)
+          (in-drop r (listOf (x .inst) .start) l (in-take r (listOf (x .inst) .len) _ z))
 
   each-low : (c : List Code) → All (Sound n) c → Each (λ x. (r : ℕ) → In r (defsAt x) ⊎ In r (readsAt (p .operands) x) → r < length (p .registers)) c
   each-low [] q = tt

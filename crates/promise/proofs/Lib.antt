@@ -2,3 +2,4 @@ pub mod Tidied
 pub mod Formed
 pub mod Promised
 pub mod Needed
+pub mod Wrong

@@ -74,7 +74,10 @@ unfolding placedIn placedFrom written reads writers offends regsOf endOf viewOf 
 elsewhere-offends = refl
 
 elsewhere-given : run elsewhere ≡ record { procedure = elsewhere′; moved = true; grown = 3; fresh = 1; rescued = 0 }
-unfolding anyOf times found formOf viewOf endOf front withEnd copyable small stepBy stepBlock latch readsKonst writesIn useCount fixedOf constIn constOf konstOf factsOf valuesWithout copiesWithout forgetAll learn notes follow joinArms joinFrom backEdgeFrom copied mayThreadFrom exchanged howOf ownUses copyFrom kindsGiven armOf hopCondBr stops hopBr hop hops threadFrom total walk reachedFrom reached stays emptyFrom rescuedOf rescues emit run
+unfolding anyOf times found formOf viewOf endOf front withEnd copyable small stepBy stepBlock latch readsKonst writesIn useCount fixedOf constIn
+    constOf konstOf factsOf valuesWithout copiesWithout forgetAll learn notes follow joinArms joinFrom backEdgeFrom copied mayThreadFrom exchanged
+    howOf ownUses copyFrom kindsGiven armOf hopCondBr stops hopBr hop hops threadFrom total walk reachedFrom reached stays emptyFrom rescuedOf rescues
+    emit run
 elsewhere-given = refl
 
 elsewhere-fails : Demand3 elsewhere elsewhere′ 0 → ⊥
@@ -106,7 +109,10 @@ unfolding placedIn placedFrom written reads writers offends regsOf endOf viewOf 
 earlier-offends = refl
 
 earlier-given : run earlier ≡ record { procedure = earlier′; moved = true; grown = 6; fresh = 4; rescued = 0 }
-unfolding anyOf times found formOf viewOf endOf front withEnd copyable small stepBy stepBlock latch readsKonst writesIn useCount fixedOf constIn constOf konstOf factsOf valuesWithout copiesWithout forgetAll learn notes follow joinArms joinFrom backEdgeFrom copied mayThreadFrom exchanged howOf ownUses copyFrom kindsGiven armOf hopCondBr stops hopBr hop hops threadFrom total walk reachedFrom reached stays emptyFrom rescuedOf rescues emit run
+unfolding anyOf times found formOf viewOf endOf front withEnd copyable small stepBy stepBlock latch readsKonst writesIn useCount fixedOf constIn
+    constOf konstOf factsOf valuesWithout copiesWithout forgetAll learn notes follow joinArms joinFrom backEdgeFrom copied mayThreadFrom exchanged
+    howOf ownUses copyFrom kindsGiven armOf hopCondBr stops hopBr hop hops threadFrom total walk reachedFrom reached stays emptyFrom rescuedOf rescues
+    emit run
 earlier-given = refl
 
 earlier-fails : Demand3 earlier earlier′ 0 → ⊥
@@ -138,7 +144,10 @@ unfolding placedIn placedFrom written reads writers offends regsOf endOf viewOf 
 itself-offends = refl
 
 itself-given : run itself ≡ record { procedure = itself′; moved = true; grown = 4; fresh = 2; rescued = 0 }
-unfolding anyOf times found formOf viewOf endOf front withEnd copyable small stepBy stepBlock latch readsKonst writesIn useCount fixedOf constIn constOf konstOf factsOf valuesWithout copiesWithout forgetAll learn notes follow joinArms joinFrom backEdgeFrom copied mayThreadFrom exchanged howOf ownUses copyFrom kindsGiven armOf hopCondBr stops hopBr hop hops threadFrom total walk reachedFrom reached stays emptyFrom rescuedOf rescues emit run
+unfolding anyOf times found formOf viewOf endOf front withEnd copyable small stepBy stepBlock latch readsKonst writesIn useCount fixedOf constIn
+    constOf konstOf factsOf valuesWithout copiesWithout forgetAll learn notes follow joinArms joinFrom backEdgeFrom copied mayThreadFrom exchanged
+    howOf ownUses copyFrom kindsGiven armOf hopCondBr stops hopBr hop hops threadFrom total walk reachedFrom reached stays emptyFrom rescuedOf rescues
+    emit run
 itself-given = refl
 
 itself-fails : Demand3 itself itself′ 0 → ⊥
@@ -170,7 +179,10 @@ unfolding placedIn placedFrom written reads writers offends regsOf endOf viewOf 
 constant-tidy = refl
 
 constant-given : run constant ≡ record { procedure = constant′; moved = true; grown = 2; fresh = 1; rescued = 0 }
-unfolding anyOf times found formOf viewOf endOf front withEnd copyable small stepBy stepBlock latch readsKonst writesIn useCount fixedOf constIn constOf konstOf factsOf valuesWithout copiesWithout forgetAll learn notes follow joinArms joinFrom backEdgeFrom copied mayThreadFrom exchanged howOf ownUses copyFrom kindsGiven armOf hopCondBr stops hopBr hop hops threadFrom total walk reachedFrom reached stays emptyFrom rescuedOf rescues emit run
+unfolding anyOf times found formOf viewOf endOf front withEnd copyable small stepBy stepBlock latch readsKonst writesIn useCount fixedOf constIn
+    constOf konstOf factsOf valuesWithout copiesWithout forgetAll learn notes follow joinArms joinFrom backEdgeFrom copied mayThreadFrom exchanged
+    howOf ownUses copyFrom kindsGiven armOf hopCondBr stops hopBr hop hops threadFrom total walk reachedFrom reached stays emptyFrom rescuedOf rescues
+    emit run
 constant-given = refl
 
 -- demand 3 of any registers, the same in both
@@ -183,7 +195,8 @@ constant-fails : Unloaded constant constant′ 0 → ⊥
 unfolding effect opOf compares
 constant-fails d =
     let a = (d willing nowhere (all 0) (all 0) (λ r l. refl)) .there 6 in
-    none-of (λ M. weight (shows willing nowhere constant′ 0 (all 0) M)) (weight (shows willing nowhere constant 0 (all 0) 6)) _ tt (a .0) (a .1) (ap weight (a .2))
+    none-of (λ M. weight (shows willing nowhere constant′ 0 (all 0) M)) (weight (shows willing nowhere constant 0 (all 0) 6)) _ tt (a .0) (a .1)
+    (ap weight (a .2))
 
 pub not-loaded : Unloaded constant (run constant .procedure) (run constant .rescued) → ⊥
 not-loaded d = constant-fails (rw constant-given at d)

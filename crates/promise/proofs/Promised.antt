@@ -51,4 +51,5 @@ module _ (b out : List ℕ) (h : Bytes b) where
       by (short w i q) = absurd (let z = ap (λ o. o .answer .number) q in omega arith)
       by (done w i q) =
           subst (λ p. Demand3 (held b) p (shorten b out .answer .rescued)) (sym (written w q))
-          (subst (λ n. Demand3 (held b) (run (held b) .procedure) n) (sym (ap (λ o. o .answer .rescued) q)) (demand3 (held b) (read-well-formed b h (w .accepted)) t))
+          (subst (λ n. Demand3 (held b) (run (held b) .procedure) n) (sym (ap (λ o. o .answer .rescued) q))
+          (demand3 (held b) (read-well-formed b h (w .accepted)) t))

@@ -16,7 +16,8 @@ use Rattle.procedure.specs.Procedure.{Procedure}
 use Rattle.procedure.specs.Lists.{joined, times}
 use Rattle.procedure.specs.Counts.{writesIn}
 use Rattle.ends.specs.Forms.{formOf, fixedOf, isFixed}
-use Rattle.tidy.specs.Tidy.{Placed, Field, placedIn, placedFrom, placed, fieldsAt, written, reads, writers, leads, tooEarly, later, wrong, wrongFor, onlyOne, offends, regsOf, Tidy}
+use Rattle.tidy.specs.Tidy.{Placed, Field, placedIn, placedFrom, placed, fieldsAt, written, reads, writers}
+use Rattle.tidy.specs.Tidy.{leads, tooEarly, later, wrong, wrongFor, onlyOne, offends, regsOf, Tidy}
 use Rattle.demand.specs.Setting.{In, Each, defsAt, readsAt, Exposed}
 use Rattle.demand.specs.Whole.{Inside}
 use Rattle.demand.proofs.Basics.{clash, eqb-eq, eqb-true, eqb-false, and-both, not-false}
@@ -96,7 +97,8 @@ unfolding regsOf
 no-offender q [] e = tt
 no-offender q (f ∷ fs) e = by (q f) refl e (no-offender q fs)
   where
-    by : (b : Bool) → q f ≡ b → cond b (f .reg ∷ regsOf q fs) (regsOf q fs) ≡ [] → (regsOf q fs ≡ [] → All (λ f. q f ≡ false) fs) → All (λ f. q f ≡ false) (f ∷ fs)
+    by : (b : Bool) → q f ≡ b → cond b (f .reg ∷ regsOf q fs) (regsOf q fs) ≡ [] → (regsOf q fs ≡ [] → All (λ f. q f ≡ false) fs)
+        → All (λ f. q f ≡ false) (f ∷ fs)
     by true z e ih = let w : _≡_ {A = ℕ} 0 1 = cc in absurd (omega arith)
     by false z e ih = (z, ih e)
 
@@ -169,7 +171,8 @@ module _ (r : ℕ) where
       by true ih = omega arith
       by false ih = omega arith
 
-  count-in : (b n : ℕ) (c : List Code) (ys : List Placed) → length (writers r (written (placedIn b n c ++ ys))) ≡ writesIn c r + length (writers r (written ys))
+  count-in : (b n : ℕ) (c : List Code) (ys : List Placed)
+      → length (writers r (written (placedIn b n c ++ ys))) ≡ writesIn c r + length (writers r (written ys))
   unfolding written placedIn writesIn
   count-in b n [] ys = omega arith
   count-in b n (x ∷ c) ys =
@@ -233,7 +236,8 @@ module _ (r : ℕ) where
     stands-from n (c ∷ Q) at v =
         all-append _ (placedIn n 0 c) (placedFrom (suc n) Q)
         (stands-in n 0 c (λ k m. here k m) (each-left Varying c (joined Q) v))
-        (stands-from (suc n) Q (λ b. let e : n + suc b ≡ suc n + b = omega arith in subst (λ z. getD P z [] ≡ getD Q b []) e (at (suc b))) (each-right Varying c (joined Q) v))
+        (stands-from (suc n) Q (λ b. let e : n + suc b ≡ suc n + b = omega arith in subst (λ z. getD P z [] ≡ getD Q b []) e (at (suc b)))
+        (each-right Varying c (joined Q) v))
       where
         here : (k : ℕ) → WrittenAt r c k → WrittenAt r (getD P n []) (0 + k)
         here k m =
@@ -274,9 +278,11 @@ tidy-inside p tidy r low once varying b z = by (writers r (written (placed p))) 
     read : (x : Inst) × (offends p (record { reg = r; at = record { block = 0 + b; place = at .0; inst = x } }) ≡ false)
     read = read-from ops (λ f. offends p f ≡ false) r 0 (p .blocks) none b (at .0) (at .1)
 
-    offends-by : (ws : List Placed) → writers r (written (placed p)) ≡ ws → onlyOne (λ w. wrongFor (leads p) w (record { block = 0 + b; place = at .0; inst = read .0 })) ws ≡ false
+    offends-by : (ws : List Placed) → writers r (written (placed p)) ≡ ws
+        → onlyOne (λ w. wrongFor (leads p) w (record { block = 0 + b; place = at .0; inst = read .0 })) ws ≡ false
     offends-by ws q = subst (λ ws. onlyOne (λ w. wrongFor (leads p) w (record { block = 0 + b; place = at .0; inst = read .0 })) ws ≡ false) q
-        (subst (λ t. (t && onlyOne (λ w. wrongFor (leads p) w (record { block = 0 + b; place = at .0; inst = read .0 })) (writers r (written (placed p)))) ≡ false)
+        (subst (λ t. (t && onlyOne (λ w. wrongFor (leads p) w (record { block = 0 + b; place = at .0; inst = read .0 }))
+        (writers r (written (placed p)))) ≡ false)
         (lt-yes r (length (p .registers)) low) (read .1))
 
     by : (ws : List Placed) → writers r (written (placed p)) ≡ ws → length (writers r (written (placed p))) ≡ writesIn (joined (p .blocks)) r
@@ -284,7 +290,8 @@ tidy-inside p tidy r low once varying b z = by (writers r (written (placed p))) 
     by [] q n s = omega (arith, singly-one (joined (p .blocks)) r once, ap length q)
     by (w ∷ []) q n s =
         let t = (subst (All (Stands r (p .blocks))) q s) .0 in
-        let u = not-wrong (leads p) (kindOf (w .inst)) (w .block) (w .place) (0 + b) (at .0) (sym (fixed-kind (w .inst)) ∙ t .varies) (offends-by (w ∷ []) q) in
+        let u = not-wrong (leads p) (kindOf (w .inst)) (w .block) (w .place) (0 + b) (at .0) (sym (fixed-kind (w .inst)) ∙ t .varies)
+        (offends-by (w ∷ []) q) in
         let e : w .block ≡ b = omega (arith, u .0) in
         at .2 (w .place) (u .1) (subst (λ c. WrittenAt r (getD (p .blocks) c []) (w .place)) e (t .inside))
     by (w ∷ v ∷ ws) q n s = omega (arith, singly-one (joined (p .blocks)) r once, ap length q)
