@@ -284,7 +284,10 @@ module _ (kinds ops : List ℕ) (c : List Code) (n : ℕ) where
         (ap (λ (m : ℕ). eqb m 1) counted-defs)
         none
         false
-        (record { class = untouched 3 (omega arith) (λ q. omega arith) (λ q. omega arith); word = untouched 4 (omega arith) (λ q. omega arith) (λ q. omega arith) })
+        (record {
+          class = untouched 3 (omega arith) (λ q. omega arith) (λ q. omega arith);
+          word = untouched 4 (omega arith) (λ q. omega arith) (λ q. omega arith);
+        })
 
   pub filled : over classCode (over (countCode ops) (rows n (bare kinds)) c) c ≡ rows n (rowOf kinds ops c)
   filled =

@@ -105,7 +105,8 @@ module _ (i : Inst) {q : Roles} (e : q ≡ rolesOf i) (ops t : List ℕ) {t₁ t
       ∙ ap (λ (s : List ℕ). over (counted 2 cap) s (operandsOf ops (q .list))) m
       ∙ sym (over-append (counted 2 cap) t₁ (drop (q .defs) (take (q .n) (q .reg))) (operandsOf ops (q .list)))
       ∙ ap (over (counted 2 cap) t₁) (ap (λ (p : Roles). drop (p .defs) (take (p .n) (p .reg)) ++ operandsOf ops (p .list)) e ∙ reads-all ops i)
-      ∙ ap (λ (s : List ℕ). over (counted 2 cap) s (readsOf ops i)) (h ∙ ap (over (counted 1 255) t) (ap (λ (p : Roles). take (p .defs) (p .reg)) e ∙ defs-first i))
+      ∙ ap (λ (s : List ℕ). over (counted 2 cap) s (readsOf ops i))
+      (h ∙ ap (over (counted 1 255) t) (ap (λ (p : Roles). take (p .defs) (p .reg)) e ∙ defs-first i))
 
 pub few-defs : {q : Roles} (i : Inst) → q ≡ rolesOf i → q .defs ≤ 5
 few-defs i g = rw g (defs-few i)

@@ -20,7 +20,9 @@ fn least(a: usize, b: usize) -> usize
 // A row for each register of the table.
 fn fill(code: &[u8], operands: &[u8], registers: &[u8], table: &mut [u64])
     requires { ⌜ (length (now table) ≡ 5 * (length (now table) / 5)) × (length (now table) / 5 ≤ length (now registers) / 32) ⌝ }
-    ensures { λ u. ⌜ now (table .exit) ≡ rows (length (now (table .entry)) / 5) (rowOf (kindsOf (now (registers .entry))) (operandsIn (now (operands .entry))) (codesOf (now (code .entry)))) ⌝ }
+    ensures { λ u. ⌜ now (table .exit)
+        ≡ rows (length (now (table .entry)) / 5)
+        (rowOf (kindsOf (now (registers .entry))) (operandsIn (now (operands .entry))) (codesOf (now (code .entry)))) ⌝ }
 {
     start::start(registers, table);
     count::count(code, operands, table);
@@ -30,7 +32,8 @@ fn fill(code: &[u8], operands: &[u8], registers: &[u8], table: &mut [u64])
 // The facts of a file, from its code, operand and register records: five words for each register that the table
 // has room for. What stands behind them is left.
 pub fn facts(code: &[u8], operands: &[u8], registers: &[u8], table: &mut [u64])
-    ensures { λ u. ⌜ now (table .exit) ≡ tableOf (now (table .entry)) (kindsOf (now (registers .entry))) (operandsIn (now (operands .entry))) (codesOf (now (code .entry))) ⌝ }
+    ensures { λ u. ⌜ now (table .exit)
+        ≡ tableOf (now (table .entry)) (kindsOf (now (registers .entry))) (operandsIn (now (operands .entry))) (codesOf (now (code .entry))) ⌝ }
 {
     let n = least(registers.len() / 32, table.len() / 5);
     fill(code, operands, registers, &mut table[..5 * n]);

@@ -3,6 +3,7 @@ use Prim.Native.Nat.{ℕ, suc, _+_, _/_, _≤_, _<_}
 use native.Mathlib.Numerals.{add-one}
 use mathlib.Core.Path.{_≡_, refl, sym, ap, _∙_}
 use mathlib.Core.List.{List, [], _∷_}
+use mathlib.Core.Option.{Option, none}
 use lib.ListN.{length, getD, drop, drop-of-length-le, List·getD-map}
 use lib.Seq.{drop-cons}
 use Rattle.format.specs.declared.Record.{Record}
@@ -13,7 +14,9 @@ use Rattle.inst.specs.declared.Code.{Code}
 use Rattle.codec.specs.Codec.{instOf, codeOf}
 use Rattle.procedure.specs.Procedure.{codesOf}
 use Rattle.roles.specs.Roles.{defsOf}
+use Rattle.ends.specs.Forms.{formOf}
 use Rattle.steps.specs.Facts.{Facts}
+use Rattle.facts.specs.Storage.{factsIn}
 use Rattle.steps.specs.Note.{Known, forgetAll, sourceOf, learn, note, notes}
 
 pub inst-at : (b : List ℕ) (k : ℕ) {r : Record} {x : Inst} → r ≡ recordAt b k → x ≡ instOf r → x ≡ getD (codesOf b) k (codeOf blank) .inst
@@ -35,7 +38,7 @@ module _ (f : Facts) (l : List Code) (k : ℕ) (s : Known) {w : Known} where
 -- facts with the same kinds and constants give the same
 module _ (f g : Facts) (same : f .registers ≡ g .registers) (told : (r : ℕ) → f .const r ≡ g .const r) where
   learn-same : (k : Known) (x : Inst) → learn f k x ≡ learn g k x
-  unfolding learn
+  unfolding learn formOf
   learn-same k (i.Const d v) = refl
   learn-same k (i.Move d s) = rw (same, told (sourceOf k (s .0)))
   learn-same k (i.Bool op d x y) = rw (told (x .0), told (y .0))
@@ -68,3 +71,7 @@ module _ (f g : Facts) (same : f .registers ≡ g .registers) (told : (r : ℕ) 
   unfolding notes
   notes-same k [] = refl
   notes-same k (x ∷ c) = ap (λ (s : Known). notes f s c) (note-same k (x .inst)) ∙ notes-same (note g k (x .inst)) c
+
+-- so the body and the budget don't matter
+pub notes-any : (t : List ℕ) (body : Option ℕ) (budget : ℕ) (k : Known) (c : List Code) → notes (factsIn t none 0) k c ≡ notes (factsIn t body budget) k c
+notes-any t body budget k c = notes-same (factsIn t none 0) (factsIn t body budget) refl (λ r. refl) k c

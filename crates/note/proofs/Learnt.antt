@@ -13,8 +13,9 @@ use Rattle.inst.specs.declared.Inst.the-variants as i
 use Rattle.inst.specs.Inst.{kindOf}
 use Rattle.steps.specs.Facts.{Facts}
 use Rattle.steps.specs.Note.{Known, withCopy, withValueIf, sourceOf, valueOf, alike, noteMove, boolOf, learn}
-use Rattle.note.specs.Storage.{newEntry, moved}
-use Rattle.note.proofs.Laws.{held-eq}
+use Rattle.ends.specs.Forms.{formOf}
+use Rattle.entries.proofs.Laws.{held-eq}
+use Rattle.note.specs.Noted.{newEntry, moved}
 
 value-if : (d : ℕ) (o : Option ℕ) (k : Known) → withValueIf d o k ≡ record { values = k .values ++ newEntry d o; copies = k .copies }
 value-if d none k = held-eq (sym (append-nil (k .values))) refl
@@ -29,7 +30,8 @@ abbrev pub quiet : ℕ → Bool
 quiet n = not (eqb n 0 || (eqb n 2 || eqb n 6))
 
 module _ (f : Facts) (k : Known) where
-  move-eq : (d s : ℕ) → noteMove f d s k ≡ record { values = k .values ++ newEntry d (valueOf f k s); copies = k .copies ++ cond (alike f d s) ((d, s) ∷ []) [] }
+  move-eq : (d s : ℕ) → noteMove f d s k
+      ≡ record { values = k .values ++ newEntry d (valueOf f k s); copies = k .copies ++ cond (alike f d s) ((d, s) ∷ []) [] }
   move-eq d s =
       ap (λ (x : Known). cond (alike f d s) (withCopy d s x) x) (value-if d (valueOf f k s) k)
       ∙ copy-if d s (alike f d s) (record { values = k .values ++ newEntry d (valueOf f k s); copies = k .copies })
@@ -37,30 +39,36 @@ module _ (f : Facts) (k : Known) where
   pub moved-same : (d s : ℕ) → d ≡ s → k ≡ moved f d s k
   moved-same d s e = rw (eq-eqb d s e)
 
-  pub moved-other : (d s : ℕ) {from : ℕ} {v c : List (ℕ × ℕ)} → (d ≡ s → ⊥) → from ≡ sourceOf k s → v ≡ k .values ++ newEntry d (valueOf f k from) → c ≡ k .copies ++ cond (alike f d from) ((d, from) ∷ []) [] → _≡_ {A = Known} (record { values = v; copies = c }) (moved f d s k)
+  pub moved-other : (d s : ℕ) {from : ℕ} {v c : List (ℕ × ℕ)} → (d ≡ s → ⊥) → from ≡ sourceOf k s →
+      v ≡ k .values ++ newEntry d (valueOf f k from) →
+      c ≡ k .copies ++ cond (alike f d from) ((d, from) ∷ []) [] →
+      _≡_ {A = Known} (record { values = v; copies = c }) (moved f d s k)
   moved-other d s {from} h e p q =
       held-eq p q
       ∙ sym (move-eq d from)
       ∙ ap (λ (x : ℕ). noteMove f d x k) e
       ∙ sym (ap (λ (b : Bool). cond b k (noteMove f d (sourceOf k s) k)) (ne-eqb d s h))
 
-  pub learn-const : {x : Inst} {d : Reg} {v n : ℕ} {l : List (ℕ × ℕ)} → x ≡ i.Const d v → n ≡ d .0 → l ≡ k .values ++ ((n, v) ∷ []) → _≡_ {A = Known} (record { values = l; copies = k .copies }) (learn f k x)
-  unfolding learn
-  learn-const {v = v} e g h = held-eq (h ∙ ap (λ (m : ℕ). k .values ++ ((m, v) ∷ [])) g) refl ∙ sym (ap (learn f k) e)
+  pub learn-const : {x : Inst} {d : Reg} {v : ℕ} {l : List (ℕ × ℕ)} → x ≡ i.Const d v → l ≡ k .values ++ ((d .0, v) ∷ []) →
+      _≡_ {A = Known} (record { values = l; copies = k .copies }) (learn f k x)
+  unfolding learn formOf
+  learn-const e h = held-eq h refl ∙ sym (ap (learn f k) e)
 
   pub learn-move : {x : Inst} {d s : Reg} {z : Known} → x ≡ i.Move d s → z ≡ moved f (d .0) (s .0) k → z ≡ learn f k x
-  unfolding learn
+  unfolding learn formOf
   learn-move e p = p ∙ sym (ap (learn f k) e)
 
-  pub learn-bool : {x : Inst} {op : BoolOp} {d p q : Reg} {l : List (ℕ × ℕ)} → x ≡ i.Bool op d p q → l ≡ k .values ++ newEntry (d .0) (boolOf op (valueOf f k (p .0)) (valueOf f k (q .0))) → _≡_ {A = Known} (record { values = l; copies = k .copies }) (learn f k x)
-  unfolding learn
+  pub learn-bool : {x : Inst} {op : BoolOp} {d p q : Reg} {l : List (ℕ × ℕ)} → x ≡ i.Bool op d p q →
+      l ≡ k .values ++ newEntry (d .0) (boolOf op (valueOf f k (p .0)) (valueOf f k (q .0))) →
+      _≡_ {A = Known} (record { values = l; copies = k .copies }) (learn f k x)
+  unfolding learn formOf
   learn-bool {op = op} {d = d} {p = p} {q = q} e h =
       held-eq h refl
       ∙ sym (value-if (d .0) (boolOf op (valueOf f k (p .0)) (valueOf f k (q .0))) k)
       ∙ sym (ap (learn f k) e)
 
   quiet-learn : (x : Inst) → cond (quiet (kindOf x)) k (learn f k x) ≡ learn f k x
-  unfolding learn
+  unfolding learn formOf
   quiet-learn (i.Const d v) = refl
   quiet-learn (i.ConstF d v) = refl
   quiet-learn (i.Move d s) = refl

@@ -1,8 +1,10 @@
 ghost use mathlib.Core.Path.{_≡_};
-ghost use mathlib.Core.Option.{none, some};
-ghost use Rattle.steps.specs.Note.{bit as bitOf, boolOf};
-ghost use Rattle.note.specs.Storage.{wordIn};
-use crate::Word;
+ghost use mathlib.Core.Option.{some};
+ghost use Rattle.word.specs.Word.{bit as bitOf, tests};
+ghost use Rattle.steps.specs.Note.{boolOfOne, boolOf};
+ghost use Rattle.facts.specs.Storage.{wordIn};
+ghost use Rattle.note.specs.Noted.{testOf};
+use facts::Word;
 use inst::BoolOp;
 
 fn bit(b: bool) -> u64
@@ -11,42 +13,33 @@ fn bit(b: bool) -> u64
     if b { 1 } else { 0 }
 }
 
+fn test(op: BoolOp, x: bool, y: bool) -> bool
+    ensures { λ z. ⌜ z ≡ testOf op x y ⌝ }
+{
+    match op {
+        BoolOp::And => if x { y } else { false },
+        BoolOp::Or => if x { true } else { y },
+        BoolOp::Xor => if x { !y } else { y },
+        BoolOp::Not => !x,
+    }
+}
+
+// Of two known words, tested against 0.
+fn both_of(op: BoolOp, v: u64, w: u64) -> u64
+    ensures { λ z. ⌜ z ≡ tests op v w ⌝ }
+{
+    bit(test(op, v != 0, w != 0))
+}
+
 // Not, of the one word that is known.
 fn one_of(op: BoolOp, v: u64) -> Word
-    ensures { λ z. ⌜ wordIn z ≡ boolOf op (some v) none ⌝ }
+    ensures { λ z. ⌜ wordIn z ≡ boolOfOne op v ⌝ }
 {
     match op {
         BoolOp::And => Word::None,
         BoolOp::Or => Word::None,
         BoolOp::Xor => Word::None,
         BoolOp::Not => Word::Some(bit(v == 0)),
-    }
-}
-
-// Of two known words.
-fn both_of(op: BoolOp, v: u64, w: u64) -> u64
-    ensures { λ z. ⌜ some z ≡ boolOf op (some v) (some w) ⌝ }
-{
-    match op {
-        BoolOp::And => {
-            if v == 0 {
-                return 0;
-            }
-            bit(w != 0)
-        }
-        BoolOp::Or => {
-            if v == 0 {
-                return bit(w != 0);
-            }
-            1
-        }
-        BoolOp::Xor => {
-            if v == 0 {
-                return bit(w != 0);
-            }
-            bit(w == 0)
-        }
-        BoolOp::Not => bit(v == 0),
     }
 }
 

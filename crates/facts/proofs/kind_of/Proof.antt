@@ -12,10 +12,16 @@ cast-result : tie.Need-cast-result
 cast-result c = search needs
 
 returns : tie.Need-returns
-returns c = let e = kinds-at (now (c .before .before .before .args .table)) (c .before .before .before .args .r .0) in let f = c .before .cell-of .ensures in omega arith
+returns c =
+    let e = kinds-at (now (c .before .before .before .args .table)) (c .before .before .before .args .r .0) in
+    let f = c .before .cell-of .ensures in
+    omega arith
 
 returns-2 : tie.Need-returns-2
-returns-2 c = let e = kinds-at (now (c .before .before .before .args .table)) (c .before .before .before .args .r .0) in let f = c .before .cell-of .ensures in omega arith
+returns-2 c =
+    let e = kinds-at (now (c .before .before .before .args .table)) (c .before .before .before .args .r .0) in
+    let f = c .before .cell-of .ensures in
+    omega arith
 
 pub kind-of-spec : {M : Type 1} → statement M
 kind-of-spec = tie.close (tie.spec cell-of-requires cast-result returns returns-2)

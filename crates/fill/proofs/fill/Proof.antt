@@ -24,11 +24,14 @@ same-length c = search needs
 
 returns : tie.Need-returns
 returns c =
-    let a = c .before .before .before .before .before .before .before .before .before .before .before .before .before .before .before .before .args in
+    let c5 = c .before .before .before .before .before in
+    let c10 = c5 .before .before .before .before .before in
+    let c15 = c10 .before .before .before .before .before in
+    let a = c15 .before .args in
     let ops = operandsIn (now (a .operands)) in
     let codes = codesOf (now (a .code)) in
     c .before .before .class .ensures
-    ∙ ap (λ t. over classCode t codes) (c .before .before .before .before .before .before .count .ensures ∙ ap (λ t. over (countCode ops) t codes) (c .before .before .before .before .before .before .before .before .before .before .start .ensures))
+    ∙ ap (λ t. over classCode t codes) (c5 .before .count .ensures ∙ ap (λ t. over (countCode ops) t codes) (c10 .start .ensures))
     ∙ filled (kindsOf (now (a .registers))) ops codes (length (now (a .table)) / 5)
 
 pub fill-spec : {M : Type 1} → statement M

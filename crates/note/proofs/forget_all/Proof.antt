@@ -1,10 +1,12 @@
 use denote.Ref.{now}
-use mathlib.Core.Path.{sym, ap, _∙_}
+use native.Mathlib.Omega.{arith}
 use native.Mathlib.Nat.{le-trans}
-use Rattle.counts.specs.Tables.{tabled}
+use mathlib.Core.Path.{sym, ap, _∙_}
+use lib.ListN.{getD}
 use Rattle.steps.specs.Note.{forget}
-use Rattle.note.specs.Storage.{heldIn}
-use Rattle.note.proofs.Laws.{writes-none, writes-one, writes-two, writes-many, forget-eq}
+use Rattle.entries.specs.Storage.{heldIn}
+use Rattle.entries.proofs.Laws.{held-eq, entries-zero}
+use Rattle.note.proofs.Laws.{writes-none, writes-one, writes-two, writes-many}
 use borrow.Author.Needs.{needs}
 use Rattle.note.proofs.forget_all.Statement.{statement}
 use Rattle.note.proofs.forget_all.Tie as tie
@@ -14,20 +16,21 @@ roles-of-requires c κs = search needs
 
 returns : tie.Need-returns
 returns c =
-    let a = c .before .before .before .before .before .before .before .args in
-    (sym (writes-none (a .i) (c .before .before .roles-of .ensures) (heldIn (a .h) (now (a .kr)) (now (a .kv)) (now (a .cr)) (now (a .cs))) (c .if1 .taken)), search needs)
+    let a = c .before .before .before .before .before .args in
+    let k = heldIn (a .h) (now (a .known)) (now (a .copy)) in
+    (sym (writes-none (a .i) (c .before .before .roles-of .ensures) k (c .if1 .taken)), record { known-le = omega arith; copy-le = omega arith })
 
 returns-2 : tie.Need-returns-2
-unfolding tabled
 returns-2 c =
-    let a = c .before .before .before .before .before .before .before .before .args in
-    (sym (writes-many (a .i) (c .before .before .before .roles-of .ensures) (heldIn (a .h) (now (a .kr)) (now (a .kv)) (now (a .cr)) (now (a .cs))) (c .if2 .taken)), search needs)
+    let c5 = c .before .before .before .before .before in
+    let a = c5 .before .args in
+    let k = heldIn (a .h) (now (a .known)) (now (a .copy)) in
+    let none = held-eq (entries-zero (now (a .known))) (entries-zero (now (a .copy))) in
+    let many = writes-many (a .i) (c .before .before .before .roles-of .ensures) k (c .if2 .taken) in
+    (none ∙ sym many, record { known-le = omega arith; copy-le = omega arith })
 
-array-read-wide : tie.Need-array-read-wide
-array-read-wide c = search needs
-
-wide-requires : tie.Need-wide-requires
-wide-requires c κs = search needs
+array-read-t16 : tie.Need-array-read-t16
+array-read-t16 c = search needs
 
 forget-requires : tie.Need-forget-requires
 forget-requires c κs = search needs
@@ -38,47 +41,40 @@ same-length c = search needs
 same-length-2 : tie.Need-same-length-2
 same-length-2 c = search needs
 
+returns-3 : tie.Need-returns-3
+returns-3 c =
+    let c5 = c .before .before .before .before .before in
+    let c10 = c5 .before .before .before .before .before in
+    let a = c10 .before .before .before .before .args in
+    let k = heldIn (a .h) (now (a .known)) (now (a .copy)) in
+    let f = c5 .forget .ensures in
+    (f .0 ∙ sym (writes-one (a .i) (c10 .before .roles-of .ensures) k (c .if3 .taken)), f .1)
+
+array-read-t16-2 : tie.Need-array-read-t16-2
+array-read-t16-2 c = search needs
+
+forget-requires-2 : tie.Need-forget-requires-2
+forget-requires-2 c κs = search needs
+
 same-length-3 : tie.Need-same-length-3
 same-length-3 c = search needs
 
 same-length-4 : tie.Need-same-length-4
 same-length-4 c = search needs
 
-returns-3 : tie.Need-returns-3
-returns-3 c =
-    let a = c .before .before .before .before .before .before .before .before .before .before .before .before .before .before .before .before .before .before .before .before .before .before .before .args in
-    let k = heldIn (a .h) (now (a .kr)) (now (a .kv)) (now (a .cr)) (now (a .cs)) in
-    let f = c .before .before .before .before .before .before .before .before .before .forget .ensures in
-    (f .0 ∙ ap (λ d. forget d k) (c .before .before .before .before .before .before .before .before .before .before .wide .ensures) ∙ sym (writes-one (a .i) (c .before .before .before .before .before .before .before .before .before .before .before .before .before .before .before .before .before .before .roles-of .ensures) k (c .if3 .taken)), f .1)
-
-array-read-wide-2 : tie.Need-array-read-wide-2
-array-read-wide-2 c = search needs
-
-wide-requires-2 : tie.Need-wide-requires-2
-wide-requires-2 c κs = search needs
-
-forget-requires-2 : tie.Need-forget-requires-2
-forget-requires-2 c κs = search needs
-
-same-length-5 : tie.Need-same-length-5
-same-length-5 c = search needs
-
-same-length-6 : tie.Need-same-length-6
-same-length-6 c = search needs
-
-same-length-7 : tie.Need-same-length-7
-same-length-7 c = search needs
-
-same-length-8 : tie.Need-same-length-8
-same-length-8 c = search needs
-
 returns-4 : tie.Need-returns-4
 returns-4 c =
-    let a = c .before .before .before .before .before .before .before .before .before .before .before .before .before .before .before .before .before .before .before .before .before .before .before .before .before .before .before .before .before .before .before .before .before .before .before .before .before .args in
-    let k = heldIn (a .h) (now (a .kr)) (now (a .kv)) (now (a .cr)) (now (a .cs)) in
-    let f = c .before .before .before .before .before .before .before .before .before .before .before .before .before .before .before .before .before .before .before .before .before .before .before .forget .ensures in
-    let g = c .before .before .before .before .before .before .before .before .forget2 .ensures in (
-      g .0 ∙ ap (λ x. forget (c .before .before .before .before .before .before .before .before .before .wide2 .result) x) (f .0) ∙ forget-eq (c .before .before .before .before .before .before .before .before .before .before .before .before .before .before .before .before .before .before .before .before .before .before .before .before .wide .ensures) (c .before .before .before .before .before .before .before .before .before .wide2 .ensures) k ∙ sym (writes-two (a .i) (c .before .before .before .before .before .before .before .before .before .before .before .before .before .before .before .before .before .before .before .before .before .before .before .before .before .before .before .before .before .before .before .before .roles-of .ensures) k (c .before .before .before .before .before .before .before .before .before .before .before .before .before .before .before .before .before .before .before .before .before .before .before .before .before .before .before .before .before .before .if1 .left) (c .before .before .before .before .before .before .before .before .before .before .before .before .before .before .before .before .before .before .before .before .before .before .before .before .before .before .before .before .before .if2 .left) (c .before .before .before .before .before .before .before .before .before .before .before .before .before .before .if3 .left)),
+    let c5 = c .before .before .before .before .before in
+    let c10 = c5 .before .before .before .before .before in
+    let c15 = c10 .before .before .before .before .before in
+    let c20 = c15 .before .before .before .before .before in
+    let a = c20 .before .args in
+    let k = heldIn (a .h) (now (a .known)) (now (a .copy)) in
+    let q = c15 .before .before .before .roles-of in
+    let f = c10 .before .before .forget .ensures in
+    let g = c .before .before .before .before .forget2 .ensures in
+    let two = writes-two (a .i) (q .ensures) k (c15 .before .if1 .left) (c15 .if2 .left) (c5 .before .before .if3 .left) in (
+      g .0 ∙ ap (forget (getD (q .result .reg) 1 0)) (f .0) ∙ sym two,
       record { known-le = le-trans (g .1 .known-le) (f .1 .known-le); copy-le = le-trans (g .1 .copy-le) (f .1 .copy-le) },
     )
 
@@ -89,19 +85,13 @@ forget-all-spec =
     roles-of-requires
     returns
     returns-2
-    array-read-wide
-    wide-requires
+    array-read-t16
     forget-requires
     same-length
     same-length-2
+    returns-3
+    array-read-t16-2
+    forget-requires-2
     same-length-3
     same-length-4
-    returns-3
-    array-read-wide-2
-    wide-requires-2
-    forget-requires-2
-    same-length-5
-    same-length-6
-    same-length-7
-    same-length-8
     returns-4)

@@ -1,32 +1,36 @@
-use borrow.Author.Needs.{needs}
-use native.Mathlib.Omega.{arith}
 use denote.Ref.{now}
-use Prim.Native.Nat.{_-_, _/_, _≤_}
+use native.Mathlib.Omega.{arith}
+use Prim.Native.Nat.{_-_, _/_, _≤_, _<_}
 use mathlib.Core.Path.{_≡_, refl, ap, _∙_}
+use mathlib.Core.Option.{none}
 use lib.ListN.{length, drop}
 use Rattle.format.specs.Record.{blank}
 use Rattle.codec.specs.Codec.{codeOf}
 use Rattle.procedure.specs.Procedure.{codesOf}
-use Rattle.counts.specs.Tables.{tabled}
-use Rattle.counts.proofs.Laws.{codes-length}
-use Rattle.steps.specs.Note.{nothing, note, notes}
-use Rattle.note.specs.Storage.{heldIn, factsIn}
+use Rattle.ends.proofs.Laws.{length-codes}
+use Rattle.steps.specs.Note.{note, notes, nothing}
+use Rattle.facts.specs.Storage.{factsIn}
+use Rattle.entries.specs.Storage.{heldIn}
+use Rattle.entries.proofs.Laws.{held-eq, entries-zero}
 use Rattle.note.proofs.Gathered.{inst-at, notes-again, notes-done}
+use borrow.Author.Needs.{needs}
 use Rattle.note.proofs.gather.Statement.{statement}
 use Rattle.note.proofs.gather.Tie as tie
 
 abbrev Inv-loop : tie.InvT-loop
-Inv-loop code kr₀ kv₀ cr₀ cs₀ tys flags words h₀ k₀ kr kv cr cs h k =
-    let f = factsIn tys flags words in
-    (notes f (heldIn h kr kv cr cs) (drop k (codesOf code)) ≡ notes f nothing (codesOf code))
-    × ((h .known ≤ k) × ((h .copy ≤ k) × ((length kr ≡ length kr₀) × ((length kv ≡ length kv₀) × ((length cr ≡ length cr₀) × (length cs ≡ length cs₀))))))
+Inv-loop code known₀ copy₀ facts h₀ k₀ known copy h k =
+    let f = factsIn facts none 0 in
+    (notes f (heldIn h known copy) (drop k (codesOf code)) ≡ notes f nothing (codesOf code))
+    × ((h .known ≤ k) × ((h .copy ≤ k) × ((length known ≡ length known₀) × (length copy ≡ length copy₀))))
 
 abbrev μ-loop : tie.MeasureT-loop
-μ-loop code kr₀ kv₀ cr₀ cs₀ tys flags words h₀ k₀ kr kv cr cs h k = length code / 32 - k
+μ-loop code known₀ copy₀ facts h₀ k₀ known copy h k = length code / 32 - k
 
 loop-holds : tie.Need-loop-holds Inv-loop μ-loop
-unfolding tabled
-loop-holds c = (refl, (omega arith, (omega arith, (refl, (refl, (refl, refl))))))
+loop-holds c =
+    let a = c .before .before .before .before .args in
+    let none-yet = held-eq (entries-zero (now (a .known))) (entries-zero (now (a .copy))) in
+    (ap (λ k. notes (factsIn (now (a .facts)) none 0) k (codesOf (now (a .code)))) none-yet, (omega arith, (omega arith, (refl, refl))))
 
 record-at-requires : tie.Need-record-at-requires Inv-loop μ-loop
 record-at-requires c κs = search needs
@@ -34,26 +38,33 @@ record-at-requires c κs = search needs
 inst-of-requires : tie.Need-inst-of-requires Inv-loop μ-loop
 inst-of-requires c κs = search needs
 
-step-requires : tie.Need-step-requires Inv-loop μ-loop
-step-requires c κs = search needs
+note-requires : tie.Need-note-requires Inv-loop μ-loop
+note-requires c κs = search needs
 
 add-k : tie.Need-add-k Inv-loop μ-loop
-add-k c = omega (arith, c .before .before .before .before .before .before .before .before .before .before .before .before .before .before .before .loop-test .taken, c .before .before .before .before .before .before .before .before .before .before .before .before .before .before .before .before .before .before .before .before .before .before .before .before .before .good .0 .0)
+add-k c =
+    let c5 = c .before .before .before .before .before in
+    let c10 = c5 .before .before .before .before .before in
+    let c15 = c10 .before .before .before .before .before in
+    omega (arith, c5 .before .before .before .before .loop-test .taken, c15 .good .0 .0)
 
 loop-less : tie.Need-loop-less Inv-loop μ-loop
-loop-less c = omega (arith, c .before .before .before .before .before .before .before .before .before .before .before .before .before .before .before .loop-test .taken)
+loop-less c = omega (arith, c .before .before .before .before .before .before .before .before .before .loop-test .taken)
 
 loop-again : tie.Need-loop-again Inv-loop μ-loop
 loop-again c =
-    let l = c .before .before .before .before .before .before .before .before .before .before .before .before .before .before .before .before in
-    let a = l .before .before .before .before .before .before .before .before .before .args in
+    let c5 = c .before .before .before .before .before in
+    let c10 = c5 .before .before .before .before .before in
+    let l = c10 in
+    let a = l .before .before .before .before .before .args in
     let b = now (a .code) in
-    let f = factsIn (now (a .tys)) (now (a .flags)) (now (a .words)) in
-    let s = c .before .before .before .before .before .before .before .before .step .ensures in
-    let held = heldIn (l .loop .h) (l .loop .kr) (l .loop .kv) (l .loop .cr) (l .loop .cs) in
-    let at = inst-at b (l .loop .k) (c .before .before .before .before .before .before .before .before .before .before .before .before .before .before .record-at .ensures) (c .before .before .before .before .before .before .before .before .before .before .before .before .before .inst-of .ensures) in (
-      notes-again f (codesOf b) (l .loop .k) held (codeOf blank) (rw (codes-length b) (c .before .before .before .before .before .before .before .before .before .before .before .before .before .before .before .loop-test .taken)) (s .0 ∙ ap (note f held) at) (l .loop .inv .0),
-      (omega (arith, s .1 .known-le), (omega (arith, s .1 .copy-le), (search needs, (search needs, (search needs, search needs))))),
+    let f = factsIn (now (a .facts)) none 0 in
+    let s = c .before .before .before .before .note .ensures in
+    let held = heldIn (l .loop .h) (l .loop .known) (l .loop .copy) in
+    let at = inst-at b (l .loop .k) (c5 .before .before .before .record-at .ensures) (c5 .before .before .inst-of .ensures) in
+    let more : l .loop .k < length (codesOf b) = rw (length-codes b) (c5 .before .before .before .before .loop-test .taken) in (
+      notes-again f (codesOf b) (l .loop .k) held (codeOf blank) more (s .0 ∙ ap (note f held) at) (l .loop .inv .0),
+      (omega (arith, s .1 .known-le), (omega (arith, s .1 .copy-le), (search needs, search needs))),
     )
 
 same-length : tie.Need-same-length Inv-loop μ-loop
@@ -62,18 +73,13 @@ same-length c = search needs
 same-length-2 : tie.Need-same-length-2 Inv-loop μ-loop
 same-length-2 c = search needs
 
-same-length-3 : tie.Need-same-length-3 Inv-loop μ-loop
-same-length-3 c = search needs
-
-same-length-4 : tie.Need-same-length-4 Inv-loop μ-loop
-same-length-4 c = search needs
-
 returns : tie.Need-returns Inv-loop μ-loop
 returns c =
     let l = c .before in
-    let a = l .before .before .before .before .before .before .before .before .before .args in
+    let a = l .before .before .before .before .before .args in
     let b = now (a .code) in
-    notes-done (factsIn (now (a .tys)) (now (a .flags)) (now (a .words))) (codesOf b) (l .loop .k) (heldIn (l .loop .h) (l .loop .kr) (l .loop .kv) (l .loop .cr) (l .loop .cs)) (rw (codes-length b) (c .loop-test .left)) (l .loop .inv .0)
+    let held = heldIn (l .loop .h) (l .loop .known) (l .loop .copy) in
+    notes-done (factsIn (now (a .facts)) none 0) (codesOf b) (l .loop .k) held (rw (length-codes b) (c .loop-test .left)) (l .loop .inv .0)
 
 pub gather-spec : {M : Type 1} → statement M
 gather-spec =
@@ -84,12 +90,10 @@ gather-spec =
     loop-holds
     record-at-requires
     inst-of-requires
-    step-requires
+    note-requires
     add-k
     loop-less
     loop-again
     same-length
     same-length-2
-    same-length-3
-    same-length-4
     returns)

@@ -1,26 +1,18 @@
 use denote.Ref.{now}
-use mathlib.Core.Path.{ap}
-use mathlib.Core.Option.{some}
-use borrow.Author.Tests.{lt-ltb, le-ltb}
-use lib.ListN.{length}
+use native.Mathlib.Omega.{arith}
+use mathlib.Core.Path.{ap, _∙_}
+use mathlib.Core.Option.{none}
+use Rattle.steps.specs.Note.{learn}
+use Rattle.facts.specs.Storage.{factsIn}
 use borrow.Author.Needs.{needs}
 use Rattle.note.proofs.note.Statement.{statement}
 use Rattle.note.proofs.note.Tie as tie
 
-returns : tie.Need-returns
-returns c = let a = c .before .before .before .before .before .before .before .before .args in rw (le-ltb (a .h .known) (length (now (a .kr))) (c .if1 .taken))
+forget-all-requires : tie.Need-forget-all-requires
+forget-all-requires c κs = search needs
 
-returns-2 : tie.Need-returns-2
-returns-2 c = let a = c .before .before .before .before .before .before .before .before .before .args in rw (lt-ltb (a .h .known) (length (now (a .kr))) (c .before .if1 .left), le-ltb (a .h .known) (length (now (a .kv))) (c .if2 .taken))
-
-returns-3 : tie.Need-returns-3
-returns-3 c = let a = c .before .before .before .before .before .before .before .before .before .before .args in rw (lt-ltb (a .h .known) (length (now (a .kr))) (c .before .before .if1 .left), lt-ltb (a .h .known) (length (now (a .kv))) (c .before .if2 .left), le-ltb (a .h .copy) (length (now (a .cr))) (c .if3 .taken))
-
-returns-4 : tie.Need-returns-4
-returns-4 c = let a = c .before .before .before .before .before .before .before .before .before .before .before .args in rw (lt-ltb (a .h .known) (length (now (a .kr))) (c .before .before .before .if1 .left), lt-ltb (a .h .known) (length (now (a .kv))) (c .before .before .if2 .left), lt-ltb (a .h .copy) (length (now (a .cr))) (c .before .if3 .left), le-ltb (a .h .copy) (length (now (a .cs))) (c .if4 .taken))
-
-step-requires : tie.Need-step-requires
-step-requires c κs = search needs
+learn-requires : tie.Need-learn-requires
+learn-requires c κs = search needs
 
 same-length : tie.Need-same-length
 same-length c = search needs
@@ -28,28 +20,21 @@ same-length c = search needs
 same-length-2 : tie.Need-same-length-2
 same-length-2 c = search needs
 
-same-length-3 : tie.Need-same-length-3
-same-length-3 c = search needs
-
-same-length-4 : tie.Need-same-length-4
-same-length-4 c = search needs
-
-returns-5 : tie.Need-returns-5
-returns-5 c =
-    let a = c .before .before .before .before .before .before .before .before .before .before .before .before .before .before .before .before .before .before .before .before .before .before .before .before .args in
-    rw (lt-ltb (a .h .known) (length (now (a .kr))) (c .before .before .before .before .before .before .before .before .before .before .before .before .before .before .before .before .if1 .left), lt-ltb (a .h .known) (length (now (a .kv))) (c .before .before .before .before .before .before .before .before .before .before .before .before .before .before .before .if2 .left), lt-ltb (a .h .copy) (length (now (a .cr))) (c .before .before .before .before .before .before .before .before .before .before .before .before .before .before .if3 .left), lt-ltb (a .h .copy) (length (now (a .cs))) (c .before .before .before .before .before .before .before .before .before .before .before .before .before .if4 .left)) (ap some (c .before .before .before .before .before .before .before .before .step .ensures .0))
+returns : tie.Need-returns
+returns c =
+    let a = c .before .before .before .before .before .before .before .before .before .before .before .before .before .before .before .before .before .args in
+    let f = c .before .before .before .before .before .before .before .before .before .before .before .forget-all .ensures in
+    let l = c .before .before .before .before .learn .ensures in (
+      l .0 ∙ ap (λ k. learn (factsIn (now (a .facts)) none 0) k (a .i)) (f .0),
+      record { known-le = omega (arith, l .1 .known-le, f .1 .known-le); copy-le = omega (arith, l .1 .copy-le, f .1 .copy-le) },
+    )
 
 pub note-spec : {M : Type 1} → statement M
 note-spec =
     tie.close
     (tie.spec
-    returns
-    returns-2
-    returns-3
-    returns-4
-    step-requires
+    forget-all-requires
+    learn-requires
     same-length
     same-length-2
-    same-length-3
-    same-length-4
-    returns-5)
+    returns)

@@ -19,7 +19,8 @@ same-length c = search needs
 
 returns-2 : tie.Need-returns-2
 returns-2 c =
-    let up : isUp (c .before .before .before .before .before .before .before .args .space) ≡ false = sym (c .before .before .before .before .before .is-up .ensures) ∙ c .before .before .before .before .if1 .left in
+    let c5 = c .before .before .before .before .before in
+    let up : isUp (c5 .before .before .args .space) ≡ false = sym (c5 .is-up .ensures) ∙ c .before .before .before .before .if1 .left in
     rw up (c .before .before .put-konst .ensures)
 
 pub put-address-spec : {M : Type 1} → statement M

@@ -34,21 +34,27 @@ same-length c = search needs
 
 returns : tie.Need-returns
 unfolding classStep formOf
-returns c = c .before .before .put-word .ensures ∙ sym (ap (classStep (now (c .before .before .before .before .before .before .before .before .args .table))) (c .before .before .before .before .before .i .given .1))
+returns c =
+    let c5 = c .before .before .before .before .before in
+    c .before .before .put-word .ensures ∙ sym (ap (classStep (now (c5 .before .before .before .args .table))) (c5 .i .given .1))
 
 same-length-2 : tie.Need-same-length-2
 same-length-2 c = search needs
 
 returns-2 : tie.Need-returns-2
 unfolding classStep formOf
-returns-2 c = c .before .before .put-konst .ensures ∙ sym (ap (classStep (now (c .before .before .before .before .before .before .before .before .args .table))) (c .before .before .before .before .before .i2 .given .1))
+returns-2 c =
+    let c5 = c .before .before .before .before .before in
+    c .before .before .put-konst .ensures ∙ sym (ap (classStep (now (c5 .before .before .before .args .table))) (c5 .i2 .given .1))
 
 same-length-3 : tie.Need-same-length-3
 same-length-3 c = search needs
 
 returns-3 : tie.Need-returns-3
 unfolding classStep formOf
-returns-3 c = c .before .before .put-address .ensures ∙ sym (ap (classStep (now (c .before .before .before .before .before .before .before .before .args .table))) (c .before .before .before .before .before .i3 .given .1))
+returns-3 c =
+    let c5 = c .before .before .before .before .before in
+    c .before .before .put-address .ensures ∙ sym (ap (classStep (now (c5 .before .before .before .args .table))) (c5 .i3 .given .1))
 
 returns-4 : tie.Need-returns-4
 returns-4 c =

@@ -39,7 +39,10 @@ slice-read-if3 : tie.Need-slice-read-if3
 slice-read-if3 c = search needs
 
 returns-3 : tie.Need-returns-3
-returns-3 c = let a = c .before .before .before .before .before .before .args in word-old (now (a .table)) (a .d .0) (omega arith) (c .before .before .if2 .left) (a .v) (c .if3 .taken)
+returns-3 c =
+    let c5 = c .before .before .before .before .before in
+    let a = c5 .before .args in
+    word-old (now (a .table)) (a .d .0) (omega arith) (c .before .before .if2 .left) (a .v) (c .if3 .taken)
 
 add-table : tie.Need-add-table
 add-table c = search needs
@@ -63,7 +66,10 @@ same-length : tie.Need-same-length
 same-length c = search needs
 
 returns-4 : tie.Need-returns-4
-returns-4 c = let a = c .before .before .before .before .before .before .args in word-new (now (a .table)) (a .d .0) (omega arith) (c .before .before .if2 .left) (a .v) (c .if3 .left)
+returns-4 c =
+    let c5 = c .before .before .before .before .before in
+    let a = c5 .before .args in
+    word-new (now (a .table)) (a .d .0) (omega arith) (c .before .before .if2 .left) (a .v) (c .if3 .left)
 
 pub put-word-spec : {M : Type 1} → statement M
 put-word-spec =

@@ -13,7 +13,9 @@ bump-regs-requires : tie.Need-bump-regs-requires
 bump-regs-requires c κs = (few-defs (c .before .before .before .before .before .args .i) (c .before .before .roles-of .ensures), omega arith)
 
 bump-regs-requires-2 : tie.Need-bump-regs-requires-2
-bump-regs-requires-2 c κs = (few-all (c .before .before .before .before .before .before .before .before .before .args .i) (c .before .before .before .before .before .before .roles-of .ensures), omega arith)
+bump-regs-requires-2 c κs =
+    let c5 = c .before .before .before .before .before in
+    (few-all (c5 .before .before .before .before .args .i) (c5 .before .roles-of .ensures), omega arith)
 
 bump-list-requires : tie.Need-bump-list-requires
 bump-list-requires c κs = search needs

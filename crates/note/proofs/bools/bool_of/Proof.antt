@@ -1,6 +1,5 @@
-use mathlib.Core.Path.{sym}
-use Rattle.note.specs.Storage.{wordIn}
-use Rattle.note.proofs.Laws.{bool-none}
+use mathlib.Core.Path.{ap}
+use mathlib.Core.Option.{some}
 use borrow.Author.Needs.{needs}
 use Rattle.note.proofs.bools.bool_of.Statement.{statement}
 use Rattle.note.proofs.bools.bool_of.Tie as tie
@@ -24,13 +23,13 @@ enum-told-2 : tie.Need-enum-told-2
 enum-told-2 c = search needs
 
 returns : tie.Need-returns
-returns c = rw (c .before .before .before .before .before .x .given .1, c .before .before .y .given .1) (c .both-of .ensures)
+returns c = rw (c .before .before .before .before .before .x .given .1, c .before .before .y .given .1) (ap some (c .both-of .ensures))
 
 returns-2 : tie.Need-returns-2
 returns-2 c = rw (c .before .before .before .before .x .given .1, c .before .enum-told .given .1) (c .one-of .ensures)
 
 returns-3 : tie.Need-returns-3
-returns-3 c = let a = c .before .before .args in rw (c .enum-told2 .given .1) (sym (bool-none (a .op) (wordIn (a .y))))
+returns-3 c = search needs
 
 pub bool-of-spec : {M : Type 1} → statement M
 bool-of-spec =

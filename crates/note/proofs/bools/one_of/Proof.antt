@@ -1,7 +1,6 @@
-use mathlib.Core.Path.{ap}
+use mathlib.Core.Path.{ap, _∙_}
 use mathlib.Core.Option.{some}
-use lib.Dec.{eqb}
-use Rattle.note.proofs.Laws.{not-not}
+use Rattle.note.proofs.Laws.{test-not}
 use borrow.Author.Needs.{needs}
 use Rattle.note.proofs.bools.one_of.Statement.{statement}
 use Rattle.note.proofs.bools.one_of.Tie as tie
@@ -31,7 +30,7 @@ returns-3 : tie.Need-returns-3
 returns-3 c = search needs
 
 returns-4 : tie.Need-returns-4
-returns-4 c = let a = c .before .before .before .args in rw (c .before .enum-told4 .given .1, not-not (eqb (a .v) 0)) (ap some (c .bit .ensures))
+returns-4 c = let a = c .before .before .before .args in rw (c .before .enum-told4 .given .1) (ap some (c .bit .ensures ∙ test-not (a .v)))
 
 pub one-of-spec : {M : Type 1} → statement M
 one-of-spec =

@@ -1,0 +1,56 @@
+use denote.Ref.{now}
+use native.Mathlib.Omega.{arith}
+use mathlib.Core.Path.{sym, ap, _∙_}
+use Rattle.procedure.specs.Lists.{found, orElse}
+use Rattle.facts.specs.Storage.{constAt, wordIn}
+use Rattle.entries.proofs.Laws.{entries-of}
+use borrow.Author.Needs.{needs}
+use Rattle.entries.proofs.value_of.Statement.{statement}
+use Rattle.entries.proofs.value_of.Tie as tie
+
+least-requires : tie.Need-least-requires
+least-requires c κs = search needs
+
+cast-find : tie.Need-cast-find
+cast-find c = search needs
+
+find-requires : tie.Need-find-requires
+find-requires c κs = let e = c .before .least .ensures in omega arith
+
+enum-known-f : tie.Need-enum-known-f
+enum-known-f c = search needs
+
+enum-told : tie.Need-enum-told
+enum-told c = search needs
+
+const-of-requires : tie.Need-const-of-requires
+const-of-requires c κs = search needs
+
+returns : tie.Need-returns
+returns c =
+    let c5 = c .before .before .before .before .before in
+    let a = c5 .before .before .before .args in
+    let t = entries-of (c5 .least .result) (a .h .known) (now (a .known)) (c5 .least .ensures) in
+    let f = sym (c .before .before .before .find .ensures ∙ ap (found (a .r .0)) t) ∙ ap wordIn (c .before .f .given .1) in
+    sym (ap (λ o. orElse o (constAt (now (a .facts)) (a .r .0))) f)
+
+returns-2 : tie.Need-returns-2
+returns-2 c =
+    let c5 = c .before .before .before .before .before in
+    let a = c5 .before .before .before .args in
+    let t = entries-of (c5 .least .result) (a .h .known) (now (a .known)) (c5 .least .ensures) in
+    let f = sym (c .before .before .before .find .ensures ∙ ap (found (a .r .0)) t) ∙ ap wordIn (c .before .enum-told .given .1) in
+    c .const-of .ensures ∙ sym (ap (λ o. orElse o (constAt (now (a .facts)) (a .r .0))) f)
+
+pub value-of-spec : {M : Type 1} → statement M
+value-of-spec =
+    tie.close
+    (tie.spec
+    least-requires
+    cast-find
+    find-requires
+    enum-known-f
+    enum-told
+    const-of-requires
+    returns
+    returns-2)

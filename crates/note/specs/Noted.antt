@@ -1,0 +1,56 @@
+-- Storage, not the paper's: what the functions of `note` leave in their slices.
+use Prim.Native.Nat.{ℕ, _+_, _/_, _≤_, _<_}
+use mathlib.Core.List.{List, [], _∷_}
+use mathlib.Core.Option.{Option, none, some}
+use mathlib.Core.Bool.{Bool, _&&_, _||_, cond, not}
+use lib.Dec.{eqb, leb}
+use lib.ListN.{length}
+use Rattle.inst.specs.declared.BoolOp.{BoolOp}
+use Rattle.inst.specs.declared.BoolOp.the-variants as b
+use Rattle.steps.specs.Facts.{Facts}
+use Rattle.steps.specs.Note.{Known, sourceOf, valueOf, noteMove, boolOf}
+use Rattle.facts.specs.Storage.{factsIn}
+use Rattle.entries.specs.declared.Held.{Held}
+use Rattle.entries.specs.Storage.{heldIn}
+use Rattle.note.specs.declared.Noted.{Noted}
+use Rattle.note.specs.declared.Noted.the-variants as t
+
+-- Bool, of two tests
+abbrev pub testOf : BoolOp → Bool → Bool → Bool
+testOf b.And x y = x && y
+testOf b.Or x y = x || y
+testOf b.Xor x y = cond x (not y) y
+testOf b.Not x y = not x
+
+-- Bool, of what a table and some entries say of its operands
+abbrev pub boolIn : List ℕ → Held → List ℕ → BoolOp → ℕ → ℕ → Option ℕ
+boolIn facts h known op x y =
+    let value = valueOf (factsIn facts none 0) (heldIn h known []) in
+    boolOf op (value x) (value y)
+
+-- the entry that a known value makes
+abbrev pub newEntry : ℕ → Option ℕ → List (ℕ × ℕ)
+newEntry d none = []
+newEntry d (some v) = (d, v) ∷ []
+
+-- Move, of a source as it is written
+abbrev pub moved : Facts → ℕ → ℕ → Known → Known
+moved f d s k = cond (eqb d s) k (noteMove f d (sourceOf k s) k)
+
+-- room for one entry more of each, and one entry more of each at most
+pub record Roomy (h : Held) (known copy : List ℕ) : Type 0 where
+  pub known-fit : h .known < length known / 2
+  pub copy-fit : h .copy < length copy / 2
+
+pub record OneMore (z h : Held) : Type 0 where
+  pub known-le : z .known ≤ h .known + 1
+  pub copy-le : z .copy ≤ h .copy + 1
+
+-- two words of each slice for each of n instructions
+abbrev pub enough : ℕ → List ℕ → List ℕ → Bool
+enough n known copy = leb n (length known / 2) && leb n (length copy / 2)
+
+-- what is known, or none where there was no room
+abbrev pub notedIn : Noted → List ℕ → List ℕ → Option Known
+notedIn (t.At h) known copy = some (heldIn h known copy)
+notedIn t.Full known copy = none
