@@ -5,7 +5,7 @@ use mathlib.Core.Bool.{Bool, true, false, cond}
 use mathlib.Core.List.{List, [], _∷_, _++_, map}
 use mathlib.Core.Option.{Option}
 use lib.Dec.{eqb}
-use lib.ListN.{take, getD}
+use lib.ListN.{length, take, getD}
 use Rattle.inst.specs.declared.Code.{Code}
 use Rattle.roles.specs.Roles.{numbersOf}
 use Rattle.roles.specs.Exchange.{firstPairs}
@@ -58,6 +58,30 @@ taking s.leftOut = 0
 taking (s.renumbered d) = 1
 taking s.kept = 0
 
+-- the lengths of its arrays
+pub record Four (z : Copied) : Type 0 where
+  pub code : length (z .code) ≡ 4
+  pub old : length (z .old) ≡ 4
+  pub new : length (z .new) ≡ 4
+
+-- one instruction more at the end
+pub record Pushed (a : Copied) (x : Code) (z : Copied) : Type 0 where
+  pub code : codesIn z ≡ codesIn a ++ (x ∷ [])
+  pub local : localIn z ≡ localIn a
+  pub olds : oldsIn z ≡ oldsIn a
+  pub n-is : z .n ≡ a .n + 1
+  pub fresh-is : z .fresh ≡ a .fresh
+  pub four : Four z
+
+-- one register more with a new number
+pub record Given (a : Copied) (d m : ℕ) (z : Copied) : Type 0 where
+  pub code : codesIn z ≡ codesIn a
+  pub local : localIn z ≡ localIn a ++ ((d, m) ∷ [])
+  pub olds : oldsIn z ≡ oldsIn a ++ (d ∷ [])
+  pub n-is : z .n ≡ a .n
+  pub fresh-is : z .fresh ≡ a .fresh + 1
+  pub four : Four z
+
 -- one instruction more, whatever comes behind it
 pub record Placed (a : Copied) (how : s.How) (x : Code) (m : ℕ) (z : Copied) : Type 0 where
   pub code : (rest : List (ℕ × ℕ) → ℕ → List Code)
@@ -65,6 +89,8 @@ pub record Placed (a : Copied) (how : s.How) (x : Code) (m : ℕ) (z : Copied) :
   pub olds : oldsIn z ≡ withOld how (oldsIn a)
   pub n-le : z .n ≤ a .n + 1
   pub fresh-is : z .fresh ≡ a .fresh + taking how
+  pub fresh-le : a .fresh ≤ a .n → z .fresh ≤ z .n
+  pub four : Four z
 
 -- the copy of some code, with the kinds of its new numbers
 pub record CopyOf (facts : List ℕ) (c : List Code) (m : ℕ) (z : Copied) : Type 0 where
@@ -73,3 +99,4 @@ pub record CopyOf (facts : List ℕ) (c : List Code) (m : ℕ) (z : Copied) : Ty
       → map (λ d. getD (factsIn facts body budget .registers) d 0) (oldsIn z) ≡ s.kindsOf (factsIn facts body budget) c
   pub n-le : z .n ≤ 4
   pub fresh-le : z .fresh ≤ z .n
+  pub four : Four z

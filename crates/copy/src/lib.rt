@@ -1,7 +1,6 @@
 ghost use mathlib.Core.Path.{_≡_};
-ghost use mathlib.Core.List.{List, _∷_, [], _++_};
 ghost use mathlib.Core.Option.{Option};
-ghost use Prim.Native.Nat.{ℕ, _+_, _≤_, _<_};
+ghost use Prim.Native.Nat.{ℕ, _≤_, _<_};
 ghost use lib.ListN.{take, drop};
 ghost use Rattle.roles.specs.Roles.{usesOf, numbersOf};
 ghost use Rattle.procedure.specs.Procedure.{codesOf};
@@ -9,7 +8,7 @@ ghost use Rattle.procedure.specs.Lists.{times};
 ghost use Rattle.ends.specs.Forms.{fixedOf};
 ghost use Rattle.steps.specs.Copy as steps;
 ghost use Rattle.facts.specs.Storage.{factsIn, usesIn};
-ghost use Rattle.copy.specs.Storage.{howIn, isConst, howOne, codesIn, localIn, oldsIn, Placed, firstFour, CopyOf};
+ghost use Rattle.copy.specs.Storage.{howIn, isConst, howOne, localIn, Four, Pushed, Given, Placed, firstFour, CopyOf};
 use inst::Code;
 use inst::Inst;
 use inst::Reg;
@@ -40,7 +39,7 @@ fn reads_in(reg: [Reg; 5], a: usize, e: usize, r: Reg) -> u64
     let mut k = a;
     while k < e {
         let x = reg[k];
-        if x.0 == r.0 {
+        if r.0 == x.0 {
             n += 1;
         }
         k += 1;
@@ -65,7 +64,8 @@ fn own_uses(code: [Code; 4], n: usize, r: Reg) -> u64
     let mut k = 0;
     while k < n {
         let x = code[k];
-        z += reads_of(x.inst, r);
+        let i = x.inst;
+        z += reads_of(i, r);
         k += 1;
     }
     z
@@ -98,7 +98,8 @@ fn how_single(i: Inst, d: Reg, code: [Code; 4], n: usize, facts: &[u64]) -> How
 // What becomes of an instruction of a target, whose first n instructions are given.
 fn how_of(i: Inst, code: [Code; 4], n: usize, facts: &[u64]) -> How
     requires { ⌜ n ≤ 4 ⌝ }
-    ensures { λ z. ⌜ ((body : Option ℕ) (budget : ℕ) → howIn z ≡ steps.howOf (factsIn (now (facts .entry)) body budget) (steps.ownUses (take n code)) i) ⌝ }
+    ensures { λ z. ⌜ ((body : Option ℕ) (budget : ℕ)
+        → howIn z ≡ steps.howOf (factsIn (now (facts .entry)) body budget) (steps.ownUses (take n code)) i) ⌝ }
 {
     let q = roles::roles_of(i);
     if q.defs == 0 {
@@ -109,16 +110,16 @@ fn how_of(i: Inst, code: [Code; 4], n: usize, facts: &[u64]) -> How
     if facts::registers(facts) <= d.0 as usize {
         return How::Kept;
     }
-    if !facts::is_single(facts, d) {
-        return How::Kept;
+    if facts::is_single(facts, d) {
+        return how_single(i, d, code, n, facts);
     }
-    how_single(i, d, code, n, facts)
+    How::Kept
 }
 
 // One instruction more at the end of the copy.
 fn pushed(s: Copied, x: Code) -> Copied
-    requires { ⌜ s .n < 4 ⌝ }
-    ensures { λ z. ⌜ (codesIn z ≡ codesIn s ++ (x ∷ [])) × (localIn z ≡ localIn s) × (z .n ≡ s .n + 1) × (z .fresh ≡ s .fresh) × (oldsIn z ≡ oldsIn s) ⌝ }
+    requires { ⌜ (s .n < 4) × Four s ⌝ }
+    ensures { λ z. ⌜ Pushed s x z ⌝ }
 {
     let mut code = s.code;
     let n = s.n;
@@ -136,8 +137,8 @@ fn pushed(s: Copied, x: Code) -> Copied
 
 // One register more with a new number.
 fn given(s: Copied, d: Reg, m: Reg) -> Copied
-    requires { ⌜ s .fresh < 4 ⌝ }
-    ensures { λ z. ⌜ (codesIn z ≡ codesIn s) × (localIn z ≡ localIn s ++ ((d .0, m .0) ∷ [])) × (z .n ≡ s .n) × (z .fresh ≡ s .fresh + 1) × (oldsIn z ≡ oldsIn s ++ (d .0 ∷ [])) ⌝ }
+    requires { ⌜ (s .fresh < 4) × Four s ⌝ }
+    ensures { λ z. ⌜ Given s (d .0) (m .0) z ⌝ }
 {
     let mut old = s.old;
     let mut new = s.new;
@@ -158,11 +159,13 @@ fn given(s: Copied, d: Reg, m: Reg) -> Copied
 fn kept(s: Copied, x: Code) -> Code
     ensures { λ z. ⌜ z ≡ steps.renamed (localIn s) (λ (r : ℕ). r) x ⌝ }
 {
+    let i = x.inst;
+    let stmt = x.stmt;
     let old = s.old;
     let new = s.new;
     Code {
-        inst: exchange::renamed(x.inst, old, new, s.fresh),
-        stmt: x.stmt,
+        inst: exchange::renamed(i, old, new, s.fresh),
+        stmt,
     }
 }
 
@@ -170,17 +173,19 @@ fn kept(s: Copied, x: Code) -> Code
 fn renumbered(s: Copied, x: Code, d: Reg, m: Reg) -> Code
     ensures { λ z. ⌜ z ≡ steps.renamed (localIn s) (steps.written (d .0) (m .0)) x ⌝ }
 {
+    let i = x.inst;
+    let stmt = x.stmt;
     let old = s.old;
     let new = s.new;
     Code {
-        inst: exchange::exchange(x.inst, old, new, s.fresh, d, m),
-        stmt: x.stmt,
+        inst: exchange::exchange(i, old, new, s.fresh, d, m),
+        stmt,
     }
 }
 
 // One instruction of the target more, where m is the next new number.
 fn placed(s: Copied, how: How, x: Code, m: Reg) -> Copied
-    requires { ⌜ (s .n < 4) × (s .fresh < 4) ⌝ }
+    requires { ⌜ (s .n < 4) × (s .fresh < 4) × Four s ⌝ }
     ensures { λ z. ⌜ Placed s (howIn how) x (m .0) z ⌝ }
 {
     match how {
@@ -191,7 +196,7 @@ fn placed(s: Copied, how: How, x: Code, m: Reg) -> Copied
 }
 
 fn nothing() -> Copied
-    ensures { λ z. ⌜ (codesIn z ≡ []) × (localIn z ≡ []) × (oldsIn z ≡ []) × (z .n ≡ 0) × (z .fresh ≡ 0) ⌝ }
+    ensures { λ z. ⌜ (z .n ≡ 0) × (z .fresh ≡ 0) × Four z ⌝ }
 {
     let blank = Code {
         inst: Inst::Stmt,
@@ -227,7 +232,8 @@ fn copy_all(code: [Code; 4], n: usize, facts: &[u64], m: u16) -> Copied
     let mut k = 0;
     while k < n {
         let x = code[k];
-        let how = how_of(x.inst, code, n, facts);
+        let i = x.inst;
+        let how = how_of(i, code, n, facts);
         s = placed(s, how, x, Reg(m as u32 + s.fresh as u32));
         k += 1;
     }
