@@ -86,7 +86,7 @@ fn check_high(kind: CheckKind, r: Reg, from: [Reg; 4], to: [Reg; 4], n: usize) -
 }
 
 // The registers that an instruction reads by the first n pairs, and old for new among those that it writes.
-fn exchange(i: Inst, from: [Reg; 4], to: [Reg; 4], n: usize, old: Reg, new: Reg) -> Inst
+pub fn exchange(i: Inst, from: [Reg; 4], to: [Reg; 4], n: usize, old: Reg, new: Reg) -> Inst
     ensures { λ z. ⌜ z ≡ exchanged (through (firstPairs n from to)) (written (old .0) (new .0)) i ⌝ }
 {
     match i {
