@@ -2,10 +2,10 @@
 use Prim.Native.Nat.{ℕ, _≤_, _<_}
 use native.Mathlib.Omega.{arith}
 use mathlib.Core.Path.{_≡_, refl, sym, ap, _∙_}
-use mathlib.Core.Bool.{Bool, true, false, cond, _&&_}
+use mathlib.Core.Bool.{Bool, true, false, _&&_}
 use mathlib.Core.List.{List, [], _∷_}
 use borrow.Author.Tests.{eq-eqb, ne-eqb, lt-ltb, le-ltb}
-use lib.Dec.{eqb, ltb}
+use lib.Dec.{ltb}
 use lib.ListN.{length, getD, take}
 use lib.Seq.{getD-take}
 use Rattle.inst.specs.declared.Inst.{Inst}
@@ -16,7 +16,7 @@ use Rattle.roles.specs.Roles.{rolesOf, defsOf, numbersOf, regOf}
 use Rattle.roles.proofs.Laws.{defs-first, number-at}
 use Rattle.ends.specs.Forms.{Fixed, word, real, address, varying, formOf, fixedOf}
 use Rattle.steps.specs.Facts.{Facts}
-use Rattle.steps.specs.Copy.{How, leftOut, renumbered, kept, howFixed, howSingle, howWritten, howOf}
+use Rattle.steps.specs.Copy.{leftOut, renumbered, kept, howFixed, howSingle, howWritten, howOf}
 use Rattle.copy.specs.Storage.{isConst, howOne}
 
 -- Const and ConstF are the first two kinds

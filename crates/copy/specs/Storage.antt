@@ -11,7 +11,6 @@ use Rattle.roles.specs.Roles.{numbersOf}
 use Rattle.roles.specs.Exchange.{firstPairs}
 use Rattle.ends.specs.Forms.{Fixed, word, real, address, varying}
 use Rattle.ends.specs.Ends.{codeAt}
-use Rattle.steps.specs.Facts.{Facts}
 use Rattle.steps.specs.Copy as s
 use Rattle.facts.specs.Storage.{factsIn}
 use Rattle.copy.specs.declared.Copied.{Copied}

@@ -229,11 +229,3 @@ pub fn renamed(i: Inst, from: [Reg; 4], to: [Reg; 4], n: usize) -> Inst
 {
     exchange(i, from, to, n, Reg(0), Reg(0))
 }
-
-// visit_mut of what is written: new in place of old.
-pub fn rewritten_def(i: Inst, old: Reg, new: Reg) -> Inst
-    ensures { λ z. ⌜ z ≡ exchanged (λ (r : ℕ). r) (written (old .0) (new .0)) i ⌝ }
-{
-    let none = [Reg(0), Reg(0), Reg(0), Reg(0)];
-    exchange(i, none, none, 0, old, new)
-}
