@@ -15,7 +15,7 @@ use inst::Reg;
 use inst::StmtId;
 
 // What becomes of an instruction in the copy: nothing, the same with a new number for what it writes, or the same.
-pub enum How {
+enum How {
     LeftOut,
     Renumbered(Reg),
     Kept,
