@@ -99,7 +99,7 @@ unfolding unmarked
 sized-clear h e = record { few = h; marks = refl; slots = e; room = omega arith }
 
 -- places past some marks that are clear
-clear-past : (xs : List Bool) (k x : ℕ) → length xs ≤ x → getD (xs ++ replicate k false) x false ≡ false
+pub clear-past : (xs : List Bool) (k x : ℕ) → length xs ≤ x → getD (xs ++ replicate k false) x false ≡ false
 clear-past [] zero x h = refl
 clear-past [] (suc k) zero h = refl
 clear-past [] (suc k) (suc x) h = clear-past [] k x (omega arith)
