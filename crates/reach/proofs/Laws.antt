@@ -3,12 +3,12 @@ use Prim.Native.Nat.{ℕ, zero, suc, _+_, _-_, _/_, _≤_, _<_}
 use native.Mathlib.Nat.{add-zero}
 use native.Mathlib.Omega.{arith}
 use mathlib.Core.Path.{_≡_, refl, sym, ap, subst, _∙_}
-use mathlib.Core.Bool.{Bool, true, false, cond, true≢false, false≢true}
-use mathlib.Core.List.{List, [], _∷_, _++_, map, append-assoc}
+use mathlib.Core.Bool.{Bool, true, false, cond, false≢true}
+use mathlib.Core.List.{List, [], _∷_, _++_, map}
 use mathlib.Core.Logic.{_⊎_, inl, inr, ⊎-elim}
 use borrow.Author.Tests.{eqb-true, eq-eqb, ne-eqb}
 use lib.Dec.{eqb}
-use lib.ListN.{length, getD, take, replicate, length-map, List·getD-append, List·getD-eq-default}
+use lib.ListN.{length, getD, replicate, length-map, List·getD-append, List·getD-eq-default}
 use lib.Seq.{take-all}
 use Rattle.general.proofs.Booleans.{cases, and-first, and-second}
 use Rattle.general.proofs.Numbers.{order}
@@ -134,6 +134,9 @@ told k seen (r ∷ rs) j h = by j (cases (isDefault r)) (λ i. told (suc k) [] r
     more : List Table
     more = tablesFrom (seen ++ (armOf r ∷ [])) rs
 
+    left : isDefault r ≡ false → 0 < length more
+    left d = subst (λ (b : Bool). 0 < length (cond b (closing ∷ tablesFrom [] rs) more)) d (some-table k seen r rs h)
+
     by :
         (j : ℕ)
         → (isDefault r ≡ true) ⊎ (isDefault r ≡ false)
@@ -148,7 +151,7 @@ told k seen (r ∷ rs) j h = by j (cases (isDefault r)) (λ i. told (suc k) [] r
         ⊎-elim (λ i. inl (rw (other j, d) (e ∙ sym (ap (λ (l : List ℕ). l ++ targetsIn (suc k + j) rs) (before-none j)) ∙ i)))
         (λ i. inr (rw d (omega (arith, i .0)), rw (other j) (e ∙ i .1), rw d (i .2))) (g j n)
     by zero (inr d) g f = ⊎-elim (λ i. inl (rw (mine, d) (sym (map-more seen (armOf r) (targetsIn (k + 0) rs)) ∙ i)))
-        (λ i. absurd (let z = some-table k seen r rs h in omega (arith, subst (λ (b : Bool). 0 < length (cond b (closing ∷ tablesFrom [] rs) more)) d z, i .0)))
+        (λ i. absurd (omega (arith, left d, i .0)))
         (f 0 (next-table k r rs h k (rw d (add-zero k))))
     by (suc j) (inr d) g f = ⊎-elim (λ i. inl (rw (other j, d) i)) (λ i. inr (rw d (i .0), rw (other j) (i .1), rw d (i .2)))
         (f (suc j) (next-table k r rs h k (rw d (add-zero k))))
