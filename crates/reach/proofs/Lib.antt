@@ -1,3 +1,4 @@
 pub mod Search
 pub mod Arms
 pub mod Edges
+pub mod Laws

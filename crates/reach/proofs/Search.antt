@@ -2,20 +2,19 @@
 use Prim.Native.Nat.{ℕ, zero, suc, _+_, _-_, _*_, _≤_, _<_}
 use native.Mathlib.Omega.{arith}
 use mathlib.Core.Path.{_≡_, refl, sym, ap, subst, _∙_}
-use mathlib.Core.Bool.{Bool, true, false, cond}
+use mathlib.Core.Bool.{Bool, true, false}
 use mathlib.Core.List.{List, [], _∷_, _++_}
 use mathlib.Core.Logic.{_⊎_, inl, inr, ⊎-elim}
-use borrow.Author.Tests.{ltb-true, ltb-false, lt-ltb, le-ltb}
-use lib.Dec.{ltb}
-use lib.ListN.{length, getD, set, take, replicate, length-set, length-append, length-replicate, length-take, getD-replicate, List·getD-append}
+use borrow.Author.Tests.{lt-ltb, le-ltb}
+use lib.ListN.{length, getD, set, take, replicate, length-set, length-append, length-replicate, length-take, List·getD-append}
 use lib.Seq.{getD-set-same, take-suc, ext-getD}
 use Rattle.general.proofs.Booleans.{cases}
 use Rattle.general.proofs.Numbers.{order}
 use Rattle.paths.specs.Paths.{isIn, Leads, reachedFrom}
-use Rattle.paths.proofs.Paths.{false-true, in-cons, in-here, in-left, in-right, in-append, marked-inside, set-keeps, set-marked}
+use Rattle.paths.proofs.Paths.{false-true, in-cons, in-here, in-left, in-right, in-append, set-keeps, set-marked}
 use Rattle.paths.proofs.Paths.{leads-on, closed-leads, length-reached, reached-is}
 use Rattle.tidy.specs.Work.Marks.{clear, unmarked}
-use Rattle.tidy.proofs.Search.{clear-length, clear-at, clear-none, unmarked-set}
+use Rattle.tidy.proofs.Search.{clear-length, clear-none, unmarked-set}
 use Rattle.reach.specs.Reached.{marksOf}
 use Rattle.reach.specs.Search.{Search, searchOf, pushed, pushedAll, Sized}
 
@@ -99,7 +98,7 @@ unfolding unmarked
 sized-clear h e = record { few = h; marks = refl; slots = e; room = omega arith }
 
 -- places past some marks that are clear
-clear-past : (xs : List Bool) (k x : ℕ) → length xs ≤ x → getD (xs ++ replicate k false) x false ≡ false
+pub clear-past : (xs : List Bool) (k x : ℕ) → length xs ≤ x → getD (xs ++ replicate k false) x false ≡ false
 clear-past [] zero x h = refl
 clear-past [] (suc k) zero h = refl
 clear-past [] (suc k) (suc x) h = clear-past [] k x (omega arith)

@@ -34,7 +34,8 @@ fn push_arms(
 ) -> usize
     requires { ⌜ Sized nb (now seen) (now stack) top ⌝ }
     ensures { λ r. ⌜ Sized nb (now (seen .exit)) (now (stack .exit)) r ⌝ }
-    ensures { λ r. ⌜ searchOf (now (seen .exit)) (now (stack .exit)) r ≡ pushedAll nb (searchOf (now (seen .entry)) (now (stack .entry)) top) (targetsIn n (recordsOf (now (arms .entry)))) ⌝ }
+    ensures { λ r. ⌜ searchOf (now (seen .exit)) (now (stack .exit)) r
+        ≡ pushedAll nb (searchOf (now (seen .entry)) (now (stack .entry)) top) (targetsIn n (recordsOf (now (arms .entry)))) ⌝ }
 {
     let count = arms.len() / 32;
     let mut at = top;
@@ -63,7 +64,8 @@ fn push_targets(
 ) -> usize
     requires { ⌜ Sized nb (now seen) (now stack) top ⌝ }
     ensures { λ r. ⌜ Sized nb (now (seen .exit)) (now (stack .exit)) r ⌝ }
-    ensures { λ r. ⌜ searchOf (now (seen .exit)) (now (stack .exit)) r ≡ pushedAll nb (searchOf (now (seen .entry)) (now (stack .entry)) top) (leadsIn (recordsOf (now (arms .entry))) e) ⌝ }
+    ensures { λ r. ⌜ searchOf (now (seen .exit)) (now (stack .exit)) r
+        ≡ pushedAll nb (searchOf (now (seen .entry)) (now (stack .entry)) top) (leadsIn (recordsOf (now (arms .entry))) e) ⌝ }
 {
     match e {
         End::Br(to) => push(seen, stack, top, nb, to),

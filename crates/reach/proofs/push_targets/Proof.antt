@@ -1,5 +1,4 @@
-use Prim.Native.Nat.{ℕ}
-use mathlib.Core.Path.{_≡_, refl, sym, ap, _∙_}
+use mathlib.Core.Path.{sym, ap, _∙_}
 use denote.Ref.{now}
 use Rattle.format.specs.Record.{recordsOf}
 use Rattle.ends.specs.declared.End.{End}
