@@ -7,8 +7,9 @@ use mathlib.Core.List.{List, [], _∷_, _++_, map}
 use mathlib.Core.Logic.{_⊎_, inl, inr}
 use borrow.Author.Tests.{leb-true, le-leb, lt-ltb, eq-eqb}
 use lib.ListN.{length, getD, take, drop, set, length-drop, length-map, List·getD-map}
-use lib.Seq.{take-take, take-suc-set, drop-set-add, length-take-le}
+use lib.Seq.{take-take, take-suc-set, drop-set-add, length-take-le, set-set, getD-set-same}
 use Rattle.general.proofs.Numbers.{order}
+use Rattle.general.proofs.Lists.{map-take, map-set}
 use Rattle.format.specs.declared.Record.{Record}
 use Rattle.format.specs.Record.{recordsOf, recordAt}
 use Rattle.format.proofs.Laws.{length-records}
@@ -21,8 +22,8 @@ use Rattle.codec.proofs.Laws.{written-fits, read-back}
 use Rattle.ends.specs.Ends.{front}
 use Rattle.blocks.specs.Blocks.{blockRecordsIn, blocksOf, Canonical}
 use Rattle.blocks.specs.Rewrite.{Holds, Apart}
-use Rattle.blocks.proofs.Parts.{records-at, codes-at}
-use Rattle.blocks.proofs.Rewrites.{front-take, map-take, map-set}
+use Rattle.blocks.proofs.Parts.{records-at, codes-at, length-blocks}
+use Rattle.blocks.proofs.Rewrites.{front-take}
 use Rattle.blocks.proofs.Bytes.{put-bytes}
 use Rattle.blocks.proofs.Apart.{outside}
 use Rattle.arena.specs.Arena.{Arena, arena, Topped, topped, pointed, room, popped, pop, grows, push}
@@ -50,6 +51,25 @@ pub record Grown (s t : Arena) (k : ℕ) (v : List Record) (b : List Code) : Typ
   pub codes : blocksOf (t .work) (t .table) ≡ set (blocksOf (s .work) (s .table)) k b
   pub sound : Sound t
   pub last : Last (recordAt (t .table) k) (t .top)
+
+-- one after the other
+pub grown-then : {s t u : Arena} {k : ℕ} {v v′ : List Record} {b b′ : List Code} → Grown s t k v b → Grown t u k v′ b′ → Grown s u k v′ b′
+grown-then {s} {t} {u} {k} {v} {v′} {b} {b′} f g = record {
+  records =
+      g .records
+      ∙ ap (λ (R : List (List Record)). set R k v′) (f .records)
+      ∙ set-set (blockRecordsIn (s .work) (s .table)) k v v′;
+  codes = g .codes ∙ ap (λ (B : List (List Code)). set B k b′) (f .codes) ∙ set-set (blocksOf (s .work) (s .table)) k b b′;
+  sound = g .sound;
+  last = g .last;
+}
+
+-- block k of t
+pub grown-block : {s t : Arena} {k : ℕ} {v : List Record} {b : List Code} → Grown s t k v b → k < length (s .table) / 32
+    → getD (blocksOf (t .work) (t .table)) k [] ≡ b
+grown-block {s} {t} {k} {v} {b} g h =
+    ap (λ (B : List (List Code)). getD B k []) (g .codes)
+    ∙ getD-set-same (blocksOf (s .work) (s .table)) k b [] (rw (length-blocks (s .work) (s .table)) h)
 
 codes-with : (s t : Arena) (k : ℕ) (v : List Record) (b : List Code)
     → blockRecordsIn (t .work) (t .table) ≡ set (blockRecordsIn (s .work) (s .table)) k v
@@ -173,6 +193,19 @@ module _ (s : Arena) (w : Sound s) (k : ℕ) (h : k < length (s .table) / 32) (l
         let r = recordAt (s .table) k in
         let t : true ≡ grows (s .work) r (s .top) = sym (rw (le-leb (r .p1) (r .p2) (l .ordered), eq-eqb (r .p2) (s .top) (l .end)) free) in
         by-grows k c s refl t
+
+    pub pushed-top : push k c s .top ≡ s .top + 1
+    pushed-top = ap (λ (t : Arena). t .top) (sym pushes)
+
+    pub pushed-work : length (push k c s .work) ≡ length (s .work)
+    unfolding work-pushed
+    pushed-work = ap (λ (t : Arena). length (t .work)) (sym pushes) ∙ put-length (s .work) (s .top) (recordOf c)
+
+    pub pushed-table : length (push k c s .table) ≡ length (s .table)
+    unfolding table-pushed
+    pushed-table =
+        ap (λ (t : Arena). length (t .table)) (sym pushes)
+        ∙ put-length (s .table) k (blockAt (recordAt (s .table) k .p1) (s .top + 1))
 
     push-there : recordAt table-pushed k ≡ blockAt (recordAt (s .table) k .p1) (s .top + 1)
     unfolding table-pushed

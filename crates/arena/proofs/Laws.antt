@@ -1,5 +1,5 @@
 -- Laws of the arena's tests and of its copies.
-use Prim.Native.Nat.{ℕ, _+_, _-_, _/_, _≤_, _<_, min}
+use Prim.Native.Nat.{ℕ, suc, _+_, _-_, _/_, _≤_, _<_, min}
 use native.Mathlib.Omega.{arith}
 use native.Mathlib.Numerals.{add-one}
 use mathlib.Core.Path.{_≡_, refl, sym, ap, _∙_}
@@ -7,13 +7,13 @@ use mathlib.Core.Bool.{Bool, true, false, _&&_, not}
 use mathlib.Core.List.{List, _++_}
 use borrow.Author.Tests.{ltb-true, eqb-true, leb-true, leb-false, le-leb, lt-leb}
 use lib.Dec.{ltb, leb}
-use lib.ListN.{length, getD, take, drop, set, length-append, length-drop, List·getD-append}
-use lib.Seq.{paste, paste-suc, length-take-le, getD-take, getD-drop}
+use lib.ListN.{length, length-take, drop-of-length-le, getD, take, drop, set, length-append, length-drop, List·getD-append}
+use lib.Seq.{drop-cons, paste, paste-suc, length-take-le, getD-take, getD-drop}
 use Rattle.general.proofs.Booleans.{and-first, and-second}
 use Rattle.format.specs.declared.Record.{Record}
 use Rattle.format.specs.Record.{recordAt}
 use Rattle.inst.specs.declared.Code.{Code}
-use Rattle.arena.specs.Arena.{Arena, Topped, sizeOf, isLast, room, moves, moveIf, toEnd, popped, popIf, pop, grows, pushIf, push}
+use Rattle.arena.specs.Arena.{Arena, Topped, sizeOf, isLast, room, moves, moveIf, toEnd, popped, popIf, pop, grows, pushIf, push, pushAll}
 
 -- a place for n more within l
 pub room-split : (top n l : ℕ) → top ≤ l → leb n (l - top) ≡ leb (top + n) l
@@ -105,3 +105,17 @@ pub by-grows : (k : ℕ) (c : Code) (s : Arena) {r : Record} {b : Bool} → r �
     → pushIf b k r c s ≡ push k c s
 unfolding push
 by-grows k c s {r} e f = ap (λ (b : Bool). pushIf b k r c s) f ∙ ap (λ (q : Record). pushIf (grows (s .work) q (s .top)) k q c s) e
+
+-- one instruction more of some
+pub push-step : (k : ℕ) (cs : List Code) (n i : ℕ) (d : Code) (s : Arena) → i < n → i < length cs
+    → pushAll k (drop i (take n cs)) s ≡ pushAll k (drop (i + 1) (take n cs)) (push k (getD cs i d) s)
+unfolding pushAll
+push-step k cs n i d s h l =
+    let m : i < length (take n cs) = rw (length-take n cs) (omega arith) in
+    ap (λ (c : List Code). pushAll k c s) (drop-cons (take n cs) i d m)
+    ∙ ap (λ (c : Code). pushAll k (drop (suc i) (take n cs)) (push k c s)) (getD-take n cs i d h)
+    ∙ ap (λ (j : ℕ). pushAll k (drop j (take n cs)) (push k (getD cs i d) s)) (sym (add-one i))
+
+pub push-end : (k : ℕ) (cs : List Code) (n i : ℕ) (s : Arena) → min n (length cs) ≤ i → s ≡ pushAll k (drop i (take n cs)) s
+unfolding pushAll
+push-end k cs n i s h = sym (ap (λ (c : List Code). pushAll k c s) (drop-of-length-le (take n cs) {i = i} (rw (length-take n cs) h)))

@@ -1,15 +1,16 @@
 -- A block table with one block pointed elsewhere: the other blocks stay where they were.
-use Prim.Native.Nat.{ℕ, zero, suc, _-_, _/_, _≤_, _<_, _^_}
+use Prim.Native.Nat.{ℕ, zero, _-_, _/_, _≤_, _<_, _^_}
 use native.Mathlib.Omega.{arith}
 use mathlib.Core.Path.{_≡_, refl, sym, ap, subst, _∙_}
 use mathlib.Core.Bool.{Bool, true, false}
-use mathlib.Core.List.{List, [], _∷_}
+use mathlib.Core.List.{List}
 use mathlib.Core.Logic.{_⊎_, inl, inr}
 use borrow.Author.Tests.{eqb-true, eqb-false}
 use lib.Dec.{eqb, lit<}
 use lib.ListN.{length, take, drop, set}
-use lib.Seq.{take-take, take-nil}
+use lib.Seq.{take-take}
 use Rattle.general.proofs.Numbers.{order}
+use Rattle.general.proofs.Lists.{drop-take}
 use Rattle.format.specs.declared.Record.{Record}
 use Rattle.format.specs.Record.{recordsOf, recordAt}
 use Rattle.format.proofs.Laws.{length-records}
@@ -97,14 +98,6 @@ module _
     apart-with = record { within = within′; alone = alone′ }
 
 -- a part below a place where two lists agree
-part-first : {A : Type 0} (s e : ℕ) (l : List A) → s ≤ e → take (e - s) (drop s l) ≡ drop s (take e l)
-part-first zero e l h = let z : e - 0 ≡ e = omega arith in ap (λ (n : ℕ). take n l) z
-part-first (suc s) zero l h = absurd (omega arith)
-part-first (suc s) (suc e) [] h = take-nil (suc e - suc s)
-part-first (suc s) (suc e) (x ∷ l) h =
-    let z : suc e - suc s ≡ e - s = omega arith in
-    ap (λ (n : ℕ). take n (drop s l)) z ∙ part-first s e l (omega arith)
-
 pub part-below : {A : Type 0} (n s e : ℕ) (l m : List A) → take n l ≡ take n m → (s < e → e ≤ n) → take (e - s) (drop s l) ≡ take (e - s) (drop s m)
 part-below n s e l m q h = go (order s e)
   where
@@ -112,6 +105,6 @@ part-below n s e l m q h = go (order s e)
     go (inr i) = let z : e - s ≡ 0 = omega arith in rw z
     go (inl i) =
         let t = h i in
-        part-first s e l (omega arith)
+        sym (drop-take s e l)
         ∙ ap (drop s) (sym (take-take e n l t) ∙ ap (take e) q ∙ take-take e n m t)
-        ∙ sym (part-first s e m (omega arith))
+        ∙ drop-take s e m

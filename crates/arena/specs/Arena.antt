@@ -1,7 +1,7 @@
 -- The work storage of the branch steps: a code whose blocks lie anywhere below its top, and of which one block grows at the top.
 use Prim.Native.Nat.{ℕ, _+_, _*_, _-_, _/_, min}
 use mathlib.Core.Bool.{Bool, true, false, _&&_, not}
-use mathlib.Core.List.{List}
+use mathlib.Core.List.{List, [], _∷_}
 use lib.Dec.{eqb, ltb, leb}
 use lib.ListN.{length, drop}
 use lib.Seq.{paste}
@@ -90,3 +90,8 @@ unfoldable pub push : ℕ → Code → Arena → Arena
 push k c s =
     let r = recordAt (s .table) k in
     pushIf (grows (s .work) r (s .top)) k r c s
+
+-- with some instructions more, one after the other
+unfoldable pub pushAll : ℕ → List Code → Arena → Arena
+pushAll k [] s = s
+pushAll k (c ∷ cs) s = pushAll k cs (push k c s)

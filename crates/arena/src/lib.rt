@@ -1,8 +1,9 @@
 ghost use mathlib.Core.Path.{_≡_};
 ghost use Prim.Native.Nat.{ℕ, _+_, _≤_};
-ghost use lib.ListN.{length, drop};
+ghost use lib.ListN.{length, take, drop};
 ghost use lib.Seq.{paste};
 ghost use Rattle.arena.specs.Arena as spec;
+ghost use Rattle.arena.specs.Arena.{arena, topped};
 use format::Record;
 use inst::Block;
 use inst::Code;
@@ -62,7 +63,7 @@ fn point(table: &mut [u8], k: usize, start: u32, end: u32)
 
 // Block k is moved to the top, where it isn't there and has room; returns the new top.
 pub fn to_end(work: &mut [u8], table: &mut [u8], k: usize, top: usize) -> usize
-    ensures { λ r. ⌜ spec.arena (now (work .exit)) (now (table .exit)) r ≡ spec.toEnd k (spec.arena (now (work .entry)) (now (table .entry)) top) ⌝ }
+    ensures { λ r. ⌜ arena (now (work .exit)) (now (table .exit)) r ≡ spec.toEnd k (arena (now (work .entry)) (now (table .entry)) top) ⌝ }
 {
     let r = format::record_at(table, k);
     if !moves(work, r, top) {
@@ -82,7 +83,7 @@ fn can_pop(r: Record, top: usize) -> bool
 
 // Block k, where it ends at the top, loses its last record; returns the new top.
 pub fn pop(table: &mut [u8], k: usize, top: usize) -> usize
-    ensures { λ r. ⌜ spec.topped (now (table .exit)) r ≡ spec.pop k (spec.topped (now (table .entry)) top) ⌝ }
+    ensures { λ r. ⌜ topped (now (table .exit)) r ≡ spec.pop k (topped (now (table .entry)) top) ⌝ }
 {
     let r = format::record_at(table, k);
     if !can_pop(r, top) {
@@ -100,7 +101,7 @@ fn grows(work: &[u8], r: Record, top: usize) -> bool
 
 // Block k, where it ends at the top and there is room, gets one instruction more; returns the new top.
 pub fn push(work: &mut [u8], table: &mut [u8], k: usize, top: usize, c: Code) -> usize
-    ensures { λ r. ⌜ spec.arena (now (work .exit)) (now (table .exit)) r ≡ spec.push k c (spec.arena (now (work .entry)) (now (table .entry)) top) ⌝ }
+    ensures { λ r. ⌜ arena (now (work .exit)) (now (table .exit)) r ≡ spec.push k c (arena (now (work .entry)) (now (table .entry)) top) ⌝ }
 {
     let r = format::record_at(table, k);
     if !grows(work, r, top) {
@@ -109,4 +110,25 @@ pub fn push(work: &mut [u8], table: &mut [u8], k: usize, top: usize, c: Code) ->
     store::put_record(work, top, codec::record_of(c));
     point(table, k, r.p1, (top + 1) as u32);
     top + 1
+}
+
+// Block k gets the first n of some instructions more; returns the new top.
+pub fn append(
+    work: &mut [u8],
+    table: &mut [u8],
+    k: usize,
+    top: usize,
+    code: [Code; 4],
+    n: usize,
+) -> usize
+    ensures { λ r. ⌜ arena (now (work .exit)) (now (table .exit)) r ≡ spec.pushAll k (take n code) (arena (now (work .entry)) (now (table .entry)) top) ⌝ }
+{
+    let end = blocks::least(n, 4);
+    let mut at = top;
+    let mut i = 0;
+    while i < end {
+        at = push(work, table, k, at, code[i]);
+        i += 1;
+    }
+    at
 }

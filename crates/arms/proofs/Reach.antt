@@ -10,7 +10,7 @@ use Rattle.inst.specs.declared.Code.{Code}
 use Rattle.inst.specs.declared.Inst.{Inst}
 use Rattle.inst.specs.declared.Inst.the-variants as i
 use Rattle.codec.specs.Codec.{inRange, InRange}
-use Rattle.codec.proofs.Read.{first, second}
+use Rattle.general.proofs.Booleans.{and-first, and-second}
 use Rattle.ends.specs.declared.End.{End}
 use Rattle.ends.specs.declared.End.the-variants as e
 use Rattle.ends.specs.Forms.{formOf}
@@ -25,7 +25,7 @@ Named (e.Case n) = Unit {0}
 Named e.Other = Unit {0}
 
 word : (x : ℕ) (b : Bool) → (ltb x (2 ^ 32) && b) ≡ true → x < 2 ^ 32
-word x b h = ltb-true x (2 ^ 32) (first (ltb x (2 ^ 32)) b h)
+word x b h = ltb-true x (2 ^ 32) (and-first (ltb x (2 ^ 32)) b h)
 
 view-named : (x : Inst) → inRange x ≡ true → Named (viewOf x)
 unfolding viewOf formOf inRange
@@ -49,8 +49,8 @@ view-named (i.TakeBounds l r k) h = tt
 view-named (i.CallNative n a d) h = tt
 view-named (i.Br t) h = word (t .0) true h
 view-named (i.CondBr c t f) h =
-    let g = second (ltb (c .0) (2 ^ 32)) _ h in
-    (word (t .0) _ g, word (f .0) true (second (ltb (t .0) (2 ^ 32)) _ g))
+    let g = and-second (ltb (c .0) (2 ^ 32)) _ h in
+    (word (t .0) _ g, word (f .0) true (and-second (ltb (t .0) (2 ^ 32)) _ g))
 view-named (i.Case v t) h = tt
 view-named (i.Ret v) h = tt
 view-named (i.Unreachable w) h = tt

@@ -11,6 +11,7 @@ use lib.ListN.{length, getD, take, drop, set, length-drop, List·getD-map}
 use lib.Seq.{drop-set-lt, drop-set-add, take-set-le, take-set-lt, getD-take, getD-drop, length-take-le, set-getD}
 use Rattle.general.proofs.Booleans.{and-first, and-second}
 use Rattle.general.proofs.Numbers.{order}
+use Rattle.general.proofs.Lists.{map-set}
 use Rattle.format.specs.declared.Record.{Record}
 use Rattle.format.specs.Record.{recordsOf, recordAt, blank}
 use Rattle.format.proofs.Laws.{length-records}
@@ -20,14 +21,14 @@ use Rattle.store.specs.Store.{Bytes}
 use Rattle.store.proofs.Laws.{put-records, fits-at}
 use Rattle.read.specs.Structure.{State, tiles, nextBlock, codeOf as recordsOfBlock}
 use Rattle.inst.specs.declared.Inst.{Inst}
-use Rattle.codec.specs.Codec.{codeOf, recordOf, inRange}
+use Rattle.codec.specs.Codec.{codeOf, recordOf, inRange, rewrittenRecord}
 use Rattle.codec.proofs.Laws.{written-fits}
 use Rattle.ends.specs.Ends.{withEnd}
 use Rattle.codec.specs.Codec.{withInst}
 use Rattle.blocks.specs.Blocks.{blockRecordsIn, blocksOf, Canonical}
-use Rattle.blocks.specs.Rewrite.{rewritten, endRewritten, lastBy, Holds, Apart, Tiled}
+use Rattle.blocks.specs.Rewrite.{endRewritten, lastBy, Holds, Apart, Tiled}
 use Rattle.blocks.proofs.Parts.{records-at, codes-at}
-use Rattle.blocks.proofs.Rewrites.{end-rewritten, end-kept, last-set, last-codes, last-records, map-set}
+use Rattle.blocks.proofs.Rewrites.{end-rewritten, end-kept, last-set, last-codes, last-records}
 
 -- one element after the other, each block starts at or after the end of the one before, holds code, and ends within n
 abbrev Row : ℕ → ℕ → List Record → Type 0
@@ -157,22 +158,22 @@ module _
   where
     written : recordAt table k .p1 < recordAt table k .p2
         → recordsOf (endRewritten code (recordAt table k) i)
-        ≡ set (recordsOf code) (recordAt table k .p2 - 1) (rewritten (recordAt code (recordAt table k .p2 - 1)) i)
+        ≡ set (recordsOf code) (recordAt table k .p2 - 1) (rewrittenRecord (recordAt code (recordAt table k .p2 - 1)) i)
     written g =
         let r = recordAt table k in
         let old = recordAt code (r .p2 - 1) in
         let w = a .within k (r .p2 - 1) (last-place r g) in
         let f = written-fits (withInst i (codeOf old)) (record { inst = h; stmt = fits-at code (r .p2 - 1) bytes .stmt }) in
-        ap recordsOf (sym (end-rewritten code r i g)) ∙ put-records code (r .p2 - 1) (rewritten old i) (omega arith) f
+        ap recordsOf (sym (end-rewritten code r i g)) ∙ put-records code (r .p2 - 1) (rewrittenRecord old i) (omega arith) f
 
     pub end-records : blockRecordsIn (endRewritten code (recordAt table k) i) table
-        ≡ set (blockRecordsIn code table) k (lastBy (λ r. rewritten r i) (getD (blockRecordsIn code table) k []))
+        ≡ set (blockRecordsIn code table) k (lastBy (λ r. rewrittenRecord r i) (getD (blockRecordsIn code table) k []))
     unfolding lastBy
     end-records = go (order (recordAt table k .p1) (recordAt table k .p2))
       where
         go : (recordAt table k .p1 < recordAt table k .p2) ⊎ (recordAt table k .p2 ≤ recordAt table k .p1)
             → blockRecordsIn (endRewritten code (recordAt table k) i) table
-            ≡ set (blockRecordsIn code table) k (lastBy (λ r. rewritten r i) (getD (blockRecordsIn code table) k []))
+            ≡ set (blockRecordsIn code table) k (lastBy (λ r. rewrittenRecord r i) (getD (blockRecordsIn code table) k []))
         go (inr g) =
             let r = recordAt table k in
             let P = blockRecordsIn code table in
@@ -180,14 +181,14 @@ module _
             let e : getD P k [] ≡ [] = records-at code table k ∙ ap (λ (m : ℕ). take m (drop (r .p1) (recordsOf code))) z in
             ap (λ (b : List ℕ). blockRecordsIn b table) (sym (end-kept code r i g))
             ∙ sym (set-getD P k [])
-            ∙ ap (set P k) (e ∙ sym (ap (lastBy (λ (q : Record). rewritten q i)) e))
+            ∙ ap (set P k) (e ∙ sym (ap (lastBy (λ (q : Record). rewrittenRecord q i)) e))
         go (inl g) =
             let r = recordAt table k in
             let c = recordsOf code in
             let x = r .p2 - 1 in
-            let v = rewritten (recordAt code x) i in
+            let v = rewrittenRecord (recordAt code x) i in
             let rs = recordsOf table in
-            let f : Record → Record = λ q. rewritten q i in
+            let f : Record → Record = λ q. rewrittenRecord q i in
             let mine = last-place r g in
             let w = a .within k x mine in
             let m = length-records code in
@@ -200,7 +201,7 @@ module _
     end-codes =
         let P = blockRecordsIn code table in
         ap (map (map codeOf)) end-records
-        ∙ map-set (map codeOf) P k (lastBy (λ (r : Record). rewritten r i) (getD P k []))
+        ∙ map-set (map codeOf) P k (lastBy (λ (r : Record). rewrittenRecord r i) (getD P k []))
         ∙ ap (set (blocksOf code table) k) (last-codes i h (getD P k []) ∙ ap (withEnd i) (sym (codes-at code table k)))
 
     -- what was canonical stays so
@@ -208,7 +209,7 @@ module _
     end-canonical c =
         let P = blocksOf code table in
         end-records
-        ∙ ap (λ (R : List (List Record)). set R k (lastBy (λ (r : Record). rewritten r i) (getD R k []))) c
-        ∙ ap (λ (b : List Record). set (map (map recordOf) P) k (lastBy (λ (r : Record). rewritten r i) b)) (List·getD-map (map recordOf) P k [])
+        ∙ ap (λ (R : List (List Record)). set R k (lastBy (λ (r : Record). rewrittenRecord r i) (getD R k []))) c
+        ∙ ap (λ (b : List Record). set (map (map recordOf) P) k (lastBy (λ (r : Record). rewrittenRecord r i) b)) (List·getD-map (map recordOf) P k [])
         ∙ ap (set (map (map recordOf) P) k) (last-records i (getD P k []))
         ∙ sym (ap (map (map recordOf)) end-codes ∙ map-set (map recordOf) P k (withEnd i (getD P k [])))

@@ -13,13 +13,13 @@ use Rattle.store.specs.Store.{wordBytes, tagBytes, recordBytes, putOf, Bytes}
 use Rattle.store.proofs.Laws.{put-length, fits-at}
 use Rattle.inst.specs.declared.Code.{Code}
 use Rattle.inst.specs.declared.Inst.{Inst}
-use Rattle.codec.specs.Codec.{InRange}
+use Rattle.codec.specs.Codec.{InRange, rewrittenRecord}
 use Rattle.codec.proofs.Laws.{read-range}
 use Rattle.procedure.specs.Procedure.{codesOf}
 use Rattle.ends.specs.Ends.{codeAt}
 use Rattle.ends.proofs.Laws.{code-at}
 use Rattle.blocks.specs.Blocks.{blocksOf, endIn, startIn, blockBytes}
-use Rattle.blocks.specs.Rewrite.{endRewritten, rewritten}
+use Rattle.blocks.specs.Rewrite.{endRewritten}
 use Rattle.blocks.proofs.Parts.{block-codes}
 
 -- each element is a byte
@@ -99,17 +99,17 @@ pub end-bytes : (code : List ℕ) (r : Record) (i : Inst) → Bytes code → Byt
 unfolding endRewritten
 end-bytes code r i h = go (ltb (r .p1) (r .p2))
   where
-    go : (t : Bool) → Bytes (cond t (putOf code (r .p2 - 1) (rewritten (recordAt code (r .p2 - 1)) i)) code)
+    go : (t : Bool) → Bytes (cond t (putOf code (r .p2 - 1) (rewrittenRecord (recordAt code (r .p2 - 1)) i)) code)
     go false = h
-    go true = put-bytes code (r .p2 - 1) (rewritten (recordAt code (r .p2 - 1)) i) h
+    go true = put-bytes code (r .p2 - 1) (rewrittenRecord (recordAt code (r .p2 - 1)) i) h
 
 pub end-length : (code : List ℕ) (r : Record) (i : Inst) → length (endRewritten code r i) ≡ length code
 unfolding endRewritten
 end-length code r i = go (ltb (r .p1) (r .p2))
   where
-    go : (t : Bool) → length (cond t (putOf code (r .p2 - 1) (rewritten (recordAt code (r .p2 - 1)) i)) code) ≡ length code
+    go : (t : Bool) → length (cond t (putOf code (r .p2 - 1) (rewrittenRecord (recordAt code (r .p2 - 1)) i)) code) ≡ length code
     go false = refl
-    go true = put-length code (r .p2 - 1) (rewritten (recordAt code (r .p2 - 1)) i)
+    go true = put-length code (r .p2 - 1) (rewrittenRecord (recordAt code (r .p2 - 1)) i)
 
 -- a code of bytes holds instructions in range
 pub codes-range : (code : List ℕ) (k : ℕ) → Bytes code → InRange (codeAt (codesOf code) k)

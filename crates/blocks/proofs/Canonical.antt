@@ -1,10 +1,11 @@
 -- The blocks of a code of right records hold the records that their instructions are written as.
-use Prim.Native.Nat.{ℕ, zero, suc, _-_, _/_, _<_}
+use Prim.Native.Nat.{ℕ, suc, _-_, _/_, _<_}
 use native.Mathlib.Omega.{arith}
 use mathlib.Core.Path.{_≡_, refl, sym, ap, _∙_}
 use mathlib.Core.Bool.{true}
 use mathlib.Core.List.{List, [], _∷_, map}
 use lib.ListN.{length, getD, take, drop}
+use Rattle.general.proofs.Lists.{map-take, map-drop}
 use Rattle.format.specs.declared.Record.{Record}
 use Rattle.format.specs.Record.{recordsOf, recordAt, blank}
 use Rattle.format.specs.Kinds.{right}
@@ -15,7 +16,6 @@ use Rattle.read.specs.Structure.{codeOf as recordsOfBlock}
 use Rattle.codec.specs.Codec.{codeOf, recordOf}
 use Rattle.codec.proofs.Laws.{write-back}
 use Rattle.blocks.specs.Blocks.{Canonical}
-use Rattle.blocks.proofs.Rewrites.{map-take}
 
 again : (rs : List Record) → ((j : ℕ) → j < length rs → recordOf (codeOf (getD rs j blank)) ≡ getD rs j blank)
     → map recordOf (map codeOf rs) ≡ rs
@@ -23,11 +23,6 @@ again [] h = refl
 again (r ∷ rs) h =
     ap (λ (x : Record). x ∷ map recordOf (map codeOf rs)) (h 0 (omega arith))
     ∙ ap (λ (l : List Record). r ∷ l) (again rs (λ j i. h (suc j) (omega arith)))
-
-pub map-drop : {A B : Type 0} (f : A → B) (n : ℕ) (l : List A) → map f (drop n l) ≡ drop n (map f l)
-map-drop f zero l = refl
-map-drop f (suc n) [] = refl
-map-drop f (suc n) (x ∷ l) = map-drop f n l
 
 map-part : {A B : Type 0} (f : A → B) (n s : ℕ) (l : List A) → map f (take n (drop s l)) ≡ take n (drop s (map f l))
 map-part f n s l = map-take f n (drop s l) ∙ ap (take n) (map-drop f s l)

@@ -6,22 +6,22 @@ use mathlib.Core.Bool.{true}
 use mathlib.Core.List.{List, [], _∷_, map}
 use borrow.Author.Tests.{lt-ltb, le-ltb}
 use lib.ListN.{length, getD, take, set}
+use Rattle.general.proofs.Lists.{map-take}
 use Rattle.format.specs.declared.Record.{Record}
 use Rattle.format.specs.Record.{recordsOf, recordAt}
 use Rattle.store.specs.Store.{putOf}
 use Rattle.inst.specs.declared.Code.{Code}
 use Rattle.inst.specs.declared.Inst.{Inst}
-use Rattle.codec.specs.Codec.{codeOf, recordOf, inRange}
-use Rattle.codec.proofs.Read.{inst-back}
+use Rattle.codec.specs.Codec.{codeOf, recordOf, inRange, rewrittenRecord}
+use Rattle.codec.proofs.Laws.{rewritten-code}
 use Rattle.procedure.specs.Procedure.{codesOf}
 use Rattle.ends.specs.Ends.{front, withEnd}
-use Rattle.codec.specs.Codec.{withInst}
 use Rattle.ends.proofs.Laws.{length-codes}
-use Rattle.blocks.specs.Rewrite.{frontBytes, rewritten, endRewritten, lastBy}
+use Rattle.blocks.specs.Rewrite.{frontBytes, endRewritten, lastBy}
 use Rattle.blocks.proofs.Parts.{records-part}
 
 module _ (code : List ℕ) (r : Record) (i : Inst) where
-  pub end-rewritten : r .p1 < r .p2 → putOf code (r .p2 - 1) (rewritten (recordAt code (r .p2 - 1)) i) ≡ endRewritten code r i
+  pub end-rewritten : r .p1 < r .p2 → putOf code (r .p2 - 1) (rewrittenRecord (recordAt code (r .p2 - 1)) i) ≡ endRewritten code r i
   unfolding endRewritten
   end-rewritten h = sym (rw (lt-ltb (r .p1) (r .p2) h))
 
@@ -42,23 +42,12 @@ front-take (x ∷ (y ∷ c)) =
     let e : length (x ∷ y ∷ c) - 1 ≡ suc (length (y ∷ c) - 1) = omega arith in
     ap (λ (n : ℕ). take n (x ∷ y ∷ c)) e ∙ ap (λ (l : List Code). x ∷ l) (front-take (y ∷ c))
 
-pub map-take : {A B : Type 0} (f : A → B) (n : ℕ) (l : List A) → map f (take n l) ≡ take n (map f l)
-map-take f zero l = refl
-map-take f (suc n) [] = refl
-map-take f (suc n) (x ∷ l) = ap (λ (r : List _). f x ∷ r) (map-take f n l)
-
 pub front-codes : (code : List ℕ) → codesOf (frontBytes code) ≡ front (codesOf code)
 front-codes code =
     ap (map codeOf) (front-records code)
     ∙ map-take codeOf (length code / 32 - 1) (recordsOf code)
     ∙ ap (λ (n : ℕ). take (n - 1) (codesOf code)) (sym (length-codes code))
     ∙ front-take (codesOf code)
-
-pub map-set : {A B : Type 0} (f : A → B) (l : List A) (k : ℕ) (x : A) → map f (set l k x) ≡ set (map f l) k (f x)
-map-set f [] zero x = refl
-map-set f [] (suc k) x = refl
-map-set f (y ∷ l) zero x = refl
-map-set f (y ∷ l) (suc k) x = ap (λ (r : List _). f y ∷ r) (map-set f l k x)
 
 -- the last element exchanged is a store at the last place
 pub last-set : {A : Type 0} (f : A → A) (l : List A) (n : ℕ) (d : A) → length l ≡ suc n → lastBy f l ≡ set l n (f (getD l n d))
@@ -70,18 +59,14 @@ last-set f (x ∷ (y ∷ l)) zero d e = absurd (omega arith)
 last-set f (x ∷ (y ∷ l)) (suc n) d e = ap (λ (r : List _). x ∷ r) (last-set f (y ∷ l) n d (omega arith))
 
 module _ (i : Inst) (h : inRange i ≡ true) where
-  -- the instruction of a rewritten record
-  pub rewritten-code : (r : Record) → codeOf (rewritten r i) ≡ withInst i (codeOf r)
-  rewritten-code r = ap (λ (x : Inst). withInst x (codeOf r)) (inst-back i (r .stmt) h)
-
-  pub last-codes : (rs : List Record) → map codeOf (lastBy (λ r. rewritten r i) rs) ≡ withEnd i (map codeOf rs)
+  pub last-codes : (rs : List Record) → map codeOf (lastBy (λ r. rewrittenRecord r i) rs) ≡ withEnd i (map codeOf rs)
   unfolding lastBy withEnd
   last-codes [] = refl
-  last-codes (r ∷ []) = ap (λ (x : Code). x ∷ []) (rewritten-code r)
+  last-codes (r ∷ []) = ap (λ (x : Code). x ∷ []) (rewritten-code r i h)
   last-codes (r ∷ (q ∷ rs)) = ap (λ (l : List Code). codeOf r ∷ l) (last-codes (q ∷ rs))
 
 -- the record of an instruction rewritten is the record of the rewritten instruction
-pub last-records : (i : Inst) (c : List Code) → lastBy (λ r. rewritten r i) (map recordOf c) ≡ map recordOf (withEnd i c)
+pub last-records : (i : Inst) (c : List Code) → lastBy (λ r. rewrittenRecord r i) (map recordOf c) ≡ map recordOf (withEnd i c)
 unfolding lastBy withEnd
 last-records i [] = refl
 last-records i (x ∷ []) = refl

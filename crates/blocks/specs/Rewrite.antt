@@ -10,20 +10,16 @@ use Rattle.format.specs.Record.{recordsOf, recordAt}
 use Rattle.store.specs.Store.{putOf}
 use Rattle.read.specs.Structure.{tiled}
 use Rattle.inst.specs.declared.Inst.{Inst}
-use Rattle.codec.specs.Codec.{instRecord, withStmt}
+use Rattle.codec.specs.Codec.{rewrittenRecord}
 
 -- all whole records but the last
 abbrev pub frontBytes : List ℕ → List ℕ
 frontBytes code = take (32 * (length code / 32 - 1)) code
 
--- a record whose instruction is rewritten: all else is kept
-abbrev pub rewritten : Record → Inst → Record
-rewritten old i = withStmt (instRecord i) (old .stmt)
-
 -- the code with the last record of a block rewritten; nothing is where the block is empty or ends past the code
 unfoldable pub endRewritten : List ℕ → Record → Inst → List ℕ
 endRewritten code r i =
-    cond (ltb (r .p1) (r .p2)) (putOf code (r .p2 - 1) (rewritten (recordAt code (r .p2 - 1)) i)) code
+    cond (ltb (r .p1) (r .p2)) (putOf code (r .p2 - 1) (rewrittenRecord (recordAt code (r .p2 - 1)) i)) code
 
 -- the last element of a list exchanged
 unfoldable pub lastBy : {A : Type 0} → (A → A) → List A → List A

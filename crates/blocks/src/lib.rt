@@ -3,10 +3,7 @@ ghost use Prim.Native.Nat.{ℕ, min};
 ghost use Rattle.format.specs.Record.{recordAt};
 ghost use Rattle.blocks.specs.Blocks.{blockBytes};
 ghost use Rattle.blocks.specs.Rewrite as spec;
-use format::Record;
-use inst::Code;
 use inst::Inst;
-use inst::StmtId;
 
 // The lesser of two numbers.
 pub fn least(a: usize, b: usize) -> usize
@@ -34,17 +31,6 @@ pub fn front<'a>(code: &'a [u8]) -> &'a [u8]
     &code[..32 * (n - last)]
 }
 
-// A record's instruction is rewritten, all else kept.
-pub fn rewritten(old: Record, i: Inst) -> Record
-    ensures { λ r. ⌜ r ≡ spec.rewritten old i ⌝ }
-{
-    let code = Code {
-        inst: i,
-        stmt: StmtId(old.stmt),
-    };
-    codec::record_of(code)
-}
-
 // The last instruction of block k is rewritten; nothing is where block k is empty or ends past the code.
 pub fn rewrite_end(code: &mut [u8], table: &[u8], k: usize, i: Inst)
     ensures { λ u. ⌜ now (code .exit) ≡ spec.endRewritten (now (code .entry)) (recordAt (now (table .entry)) k) i ⌝ }
@@ -53,6 +39,6 @@ pub fn rewrite_end(code: &mut [u8], table: &[u8], k: usize, i: Inst)
     if r.p1 < r.p2 {
         let last = r.p2 as usize - 1;
         let old = format::record_at(code, last);
-        store::put_record(code, last, rewritten(old, i));
+        store::put_record(code, last, codec::rewritten(old, i));
     }
 }

@@ -57,8 +57,3 @@ same false n r h = refl
 -- a register written as itself
 pub defs-kept : (n : ℕ) (σ : ℕ → ℕ) (x : Inst) → exchanged σ (written n n) x ≡ exchanged σ (λ r. r) x
 defs-kept n σ x = ap (λ (τ : ℕ → ℕ). exchanged σ τ x) (fun-ext (λ r. same (eqb r n) n r (eqb→eq r n)))
-
--- registers read by no pair
-pub uses-kept : (τ : ℕ → ℕ) (x : Inst) → exchanged (through []) τ x ≡ exchanged (λ r. r) τ x
-unfolding through
-uses-kept τ x = refl

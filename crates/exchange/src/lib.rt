@@ -86,7 +86,7 @@ fn check_high(kind: CheckKind, r: Reg, from: [Reg; 4], to: [Reg; 4], n: usize) -
 }
 
 // The registers that an instruction reads by the first n pairs, and old for new among those that it writes.
-fn exchange(i: Inst, from: [Reg; 4], to: [Reg; 4], n: usize, old: Reg, new: Reg) -> Inst
+pub fn exchange(i: Inst, from: [Reg; 4], to: [Reg; 4], n: usize, old: Reg, new: Reg) -> Inst
     ensures { λ z. ⌜ z ≡ exchanged (through (firstPairs n from to)) (written (old .0) (new .0)) i ⌝ }
 {
     match i {
@@ -228,12 +228,4 @@ pub fn renamed(i: Inst, from: [Reg; 4], to: [Reg; 4], n: usize) -> Inst
     ensures { λ z. ⌜ z ≡ exchanged (through (firstPairs n from to)) (λ (r : ℕ). r) i ⌝ }
 {
     exchange(i, from, to, n, Reg(0), Reg(0))
-}
-
-// visit_mut of what is written: new in place of old.
-pub fn rewritten_def(i: Inst, old: Reg, new: Reg) -> Inst
-    ensures { λ z. ⌜ z ≡ exchanged (λ (r : ℕ). r) (written (old .0) (new .0)) i ⌝ }
-{
-    let none = [Reg(0), Reg(0), Reg(0), Reg(0)];
-    exchange(i, none, none, 0, old, new)
 }

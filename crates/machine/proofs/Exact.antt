@@ -8,7 +8,8 @@ use native.Mathlib.Omega.{arith}
 use Rattle.inst.specs.declared.Code.{Code}
 use Rattle.procedure.specs.Procedure.{Procedure}
 use Rattle.machine.specs.Act.{Act}
-use Rattle.machine.specs.Machine.{Regs, Address, Outside, End, Effect, writes, goes, ends, asks, State, at, done, Shown, shown, start, effectOf, answered, after, step, run}
+use Rattle.machine.specs.Machine.{Regs, Address, Outside, End, Effect, writes, goes, ends, asks, State}
+use Rattle.machine.specs.Machine.{at, done, Shown, shown, start, effectOf, answered, after, step, run}
 use Rattle.machine.specs.Demand.{Alike, shows}
 use Rattle.machine.proofs.Reading.{Prefix, Reads}
 
@@ -91,7 +92,8 @@ module _ (outside : Outside) (address : Address) (p : Procedure) where
       let w : _≡_ {A = ℕ} 0 1 = cc in
       omega arith
 
-  after-fed : (x : Effect) (rs : List ℕ) (cs : List Code) (g : Regs) (h : List Act) → Fed outside (at cs g h) → Fed outside (after outside address p x rs cs g h)
+  after-fed : (x : Effect) (rs : List ℕ) (cs : List Code) (g : Regs) (h : List Act) → Fed outside (at cs g h)
+      → Fed outside (after outside address p x rs cs g h)
   after-fed (writes vs) rs cs g h f = f
   after-fed (goes b) rs cs g h f = f
   after-fed (ends e) rs cs g h f = λ h₀ b x y z. let w : _≡_ {A = ℕ} 0 1 = cc in omega arith

@@ -27,11 +27,17 @@ abbrev pub Kept : Procedure → Type 0
 Kept p = Demand3 p (run p .procedure) (run p .rescued)
 
 printed-given : run printed ≡ record { procedure = printed′; moved = true; grown = 2; fresh = 0; rescued = 0 }
-unfolding anyOf times found formOf viewOf endOf front withEnd copyable small stepBy stepBlock latch readsKonst writesIn useCount fixedOf constIn constOf konstOf factsOf valuesWithout copiesWithout forgetAll learn notes follow joinArms joinFrom backEdgeFrom copied mayThreadFrom exchanged howOf ownUses copyFrom kindsGiven armOf hopCondBr stops hopBr hop hops threadFrom total walk reachedFrom reached stays emptyFrom rescuedOf rescues emit run
+unfolding anyOf times found formOf viewOf endOf front withEnd copyable small stepBy stepBlock latch readsKonst writesIn useCount fixedOf
+    constIn constOf konstOf factsOf valuesWithout copiesWithout forgetAll learn notes follow joinArms joinFrom backEdgeFrom copied
+    mayThreadFrom exchanged howOf ownUses copyFrom kindsGiven armOf hopCondBr stops hopBr hop hops threadFrom total walk reachedFrom reached
+    stays emptyFrom rescuedOf rescues emit run
 printed-given = refl
 
 pub looping-given : run looping ≡ record { procedure = looping′; moved = true; grown = 1; fresh = 0; rescued = 1 }
-unfolding anyOf times found formOf viewOf endOf front withEnd copyable small stepBy stepBlock latch readsKonst writesIn useCount fixedOf constIn constOf konstOf factsOf valuesWithout copiesWithout forgetAll learn notes follow joinArms joinFrom backEdgeFrom copied mayThreadFrom exchanged howOf ownUses copyFrom kindsGiven armOf hopCondBr stops hopBr hop hops threadFrom total walk reachedFrom reached stays emptyFrom rescuedOf rescues emit run
+unfolding anyOf times found formOf viewOf endOf front withEnd copyable small stepBy stepBlock latch readsKonst writesIn useCount fixedOf
+    constIn constOf konstOf factsOf valuesWithout copiesWithout forgetAll learn notes follow joinArms joinFrom backEdgeFrom copied
+    mayThreadFrom exchanged howOf ownUses copyFrom kindsGiven armOf hopCondBr stops hopBr hop hops threadFrom total walk reachedFrom reached
+    stays emptyFrom rescuedOf rescues emit run
 looping-given = refl
 
 pub printed-kept : Kept printed

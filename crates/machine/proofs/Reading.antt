@@ -8,7 +8,8 @@ use native.Mathlib.Nat.{zero-add, suc-add}
 use Rattle.inst.specs.declared.Code.{Code}
 use Rattle.procedure.specs.Procedure.{Procedure}
 use Rattle.machine.specs.Act.{Act}
-use Rattle.machine.specs.Machine.{Regs, Address, Outside, End, Effect, writes, goes, ends, asks, State, at, done, Shown, shown, start, effectOf, answered, after, step, run}
+use Rattle.machine.specs.Machine.{Regs, Address, Outside, End, Effect, writes, goes, ends, asks, State}
+use Rattle.machine.specs.Machine.{at, done, Shown, shown, start, effectOf, answered, after, step, run}
 use Rattle.machine.specs.Demand.{Alike, shows}
 
 pub record Prefix (xs ys : List Act) : Type 0 where

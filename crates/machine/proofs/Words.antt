@@ -17,7 +17,8 @@ use Rattle.procedure.specs.Procedure.{Procedure, Table}
 use Rattle.ends.specs.Forms.{formOf, fixedOf}
 use Rattle.word.specs.Word.{Word, bit, holds, choose, signed, ordered, compares, tests}
 use Rattle.machine.specs.Act.{Act}
-use Rattle.machine.specs.Machine.{Regs, Address, Outside, Effect, writes, goes, ends, asks, effect, effectOf, upd, stores, State, at, done, answered, after, step, run}
+use Rattle.machine.specs.Machine.{Regs, Address, Outside, Effect, writes, goes, ends, asks, effect, effectOf}
+use Rattle.machine.specs.Machine.{upd, stores, State, at, done, answered, after, step, run}
 use Rattle.machine.specs.Single.{constantOf}
 
 abbrev All : List ℕ → Type 0
@@ -122,7 +123,8 @@ module _ (outside : Outside) (address : Address) (p : Procedure)
   answered-words none a rs cs g h e w = tt
   answered-words (some vs) a rs cs g h e w = (stores-word rs vs g (gives h a vs e) (w .0), w .1)
 
-  after-words : (x : Effect) (rs : List ℕ) (cs : List Code) (g : Regs) (h : List Act) → Fine x → InWords (at cs g h) → InWords (after outside address p x rs cs g h)
+  after-words : (x : Effect) (rs : List ℕ) (cs : List Code) (g : Regs) (h : List Act) → Fine x → InWords (at cs g h)
+      → InWords (after outside address p x rs cs g h)
   after-words (writes vs) rs cs g h f w = (stores-word rs vs g f (w .0), w .1)
   after-words (goes block) rs cs g h f w = (w .0, fits block)
   after-words (ends e) rs cs g h f w = tt

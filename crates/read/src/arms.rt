@@ -32,7 +32,8 @@ fn ends_table(r: Record) -> u32
 // How many of `count` arms stand before the first that is misnumbered or lacks its default.
 pub fn numbered_arms(b: &[u8], first: usize, count: usize) -> Numbering
     requires { ⌜ (first + count ≤ length (recordsOf (now b))) × (count ≤ 128) ⌝ }
-    ensures { λ n. ⌜ (n .passed ≡ numbered (part first count (recordsOf (now (b .entry))))) × (n .tables ≡ tables (take (n .passed) (part first count (recordsOf (now (b .entry)))))) ⌝ }
+    ensures { λ n. ⌜ n .passed ≡ numbered (part first count (recordsOf (now (b .entry)))) ⌝ }
+    ensures { λ n. ⌜ n .tables ≡ tables (take (n .passed) (part first count (recordsOf (now (b .entry))))) ⌝ }
 {
     let mut due = 0;
     let mut k = 0;

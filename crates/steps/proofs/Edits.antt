@@ -18,7 +18,8 @@ use Rattle.ends.specs.Ends.{endOf, front, withEnd}
 use Rattle.steps.specs.Facts.{Facts}
 use Rattle.steps.specs.Note.{Known, nothing, notes, sourceOf, valueOf}
 use Rattle.steps.specs.Copy.{copyOf, kindsOf}
-use Rattle.steps.specs.Thread.{Work, blockAt, edit, Hop, stay, last, next, armOf, rewriteIf, decide, hopCondBr, stops, appended, nextNumber, appendIf, hopBr, hopAt, hop, onward, hops, threadFrom, thread, unthreaded}
+use Rattle.steps.specs.Thread.{Work, blockAt, edit, Hop, stay, last, next, armOf, rewriteIf, decide, hopCondBr, stops}
+use Rattle.steps.specs.Thread.{appended, nextNumber, appendIf, hopBr, hopAt, hop, onward, hops, threadFrom, thread, unthreaded}
 
 module _ (f : Facts) where
   -- what is known before the end of block a

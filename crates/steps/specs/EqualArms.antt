@@ -1,4 +1,5 @@
--- Document 01, "Equal arms": "Blocks ascending, earlier edits seen. Each CondBr arm follows at most 4 lone Brs that don't target themselves; if both reach one block, write Br there."
+-- Document 01, "Equal arms": "Blocks ascending, earlier edits seen. Each CondBr arm follows at most 4 lone Brs that don't target
+-- themselves; if both reach one block, write Br there."
 use Prim.Native.Nat.{ℕ, zero, suc}
 use mathlib.Core.List.{List, []}
 use mathlib.Core.Bool.{Bool, true, false, cond}

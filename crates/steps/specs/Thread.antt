@@ -74,7 +74,8 @@ decideFrom f w a c t e k = decide f w a c t e (sourceOf k c) (valueOf f k (sourc
 unfoldable pub hopCondBr : Facts → Work → ℕ → ℕ → ℕ → ℕ → Hop
 hopCondBr f w a c t e = decideFrom f w a c t e (notes f nothing (front (blockAt w a)))
 
--- "stop if l is this block or the body, a body exists and l names a singly written Const, ConstF or non-Up AddrOf register, grown exceeds n/2 + 32 (rounded down), l isn't `small`, or `latch` holds"
+-- "stop if l is this block or the body, a body exists and l names a singly written Const, ConstF or non-Up AddrOf register,
+-- grown exceeds n/2 + 32 (rounded down), l isn't `small`, or `latch` holds"
 unfoldable pub stops : Facts → Work → ℕ → ℕ → Bool
 stops f w a l =
     eqb l a

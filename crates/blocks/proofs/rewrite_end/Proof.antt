@@ -3,7 +3,8 @@ use mathlib.Core.Path.{ap, _∙_}
 use denote.Ref.{now}
 use Rattle.format.specs.declared.Record.{Record}
 use Rattle.store.specs.Store.{putOf}
-use Rattle.blocks.specs.Rewrite.{rewritten, endRewritten}
+use Rattle.codec.specs.Codec.{rewrittenRecord}
+use Rattle.blocks.specs.Rewrite.{endRewritten}
 use Rattle.blocks.proofs.Rewrites.{end-rewritten, end-kept}
 use borrow.Author.Needs.{needs}
 use Rattle.blocks.proofs.rewrite_end.Statement.{statement}
@@ -35,7 +36,7 @@ returns c =
     let t = c .before .before .before .before .before .before .before .before .before .before in
     let a = t .before .before .before .args in
     let code = now (a .code) in
-    let old = ap (λ (r : Record). rewritten r (a .i)) (c .before .before .before .before .before .record-at2 .ensures) in
+    let old = ap (λ (r : Record). rewrittenRecord r (a .i)) (c .before .before .before .before .before .record-at2 .ensures) in
     c .before .before .put-record .ensures
     ∙ ap (putOf code (t .record-at .result .p2 - 1)) (c .before .before .before .rewritten .ensures ∙ old)
     ∙ end-rewritten code (t .record-at .result) (a .i) (c .before .before .before .before .before .before .before .before .if1 .taken)

@@ -14,7 +14,9 @@ inst-of-requires : tie.Need-inst-of-requires
 inst-of-requires c κs = search needs
 
 returns : tie.Need-returns
-returns c = c .inst-of .ensures ∙ ap instOf (c .before .record-at .ensures) ∙ sym (ap (λ (x : Code). x .inst) (code-at (now (c .before .before .before .args .code)) (c .before .before .before .args .k)))
+returns c =
+    let a = c .before .before .before .args in
+    c .inst-of .ensures ∙ ap instOf (c .before .record-at .ensures) ∙ sym (ap (λ (x : Code). x .inst) (code-at (now (a .code)) (a .k)))
 
 pub inst-at-spec : {M : Type 1} → statement M
 inst-at-spec = tie.close (tie.spec record-at-requires inst-of-requires returns)

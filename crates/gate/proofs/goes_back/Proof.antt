@@ -34,7 +34,9 @@ returns c = sym (or-false _) ∙ sym (ap (back (c .before .before .before .befor
 
 returns-2 : tie.Need-returns-2
 unfolding anyOf
-returns-2 c = rw (le-leb _ _ (c .if1 .taken)) refl ∙ sym (ap (back (c .before .before .before .before .before .args .b)) (c .before .before .before .e2 .given .1))
+returns-2 c =
+    let b = c .before .before .before in
+    rw (le-leb _ _ (c .if1 .taken)) refl ∙ sym (ap (back (b .before .before .args .b)) (b .e2 .given .1))
 
 returns-3 : tie.Need-returns-3
 unfolding anyOf

@@ -42,7 +42,9 @@ returns c =
     let a = x .before .before .before .args in
     let p = blocksOf (now (a .code)) (now (a .table)) in
     let h = mayHop (a .wide) p (a .a) in
-    both refl (ap not (ne-eqb _ _ (c .before .if1 .taken))) (c .copied .ensures) ∙ sym (ap h (c .before .before .before .before .e .given .1)) ∙ ap h (x .end-at .ensures)
+    both refl (ap not (ne-eqb _ _ (c .before .if1 .taken))) (c .copied .ensures)
+    ∙ sym (ap h (c .before .before .before .before .e .given .1))
+    ∙ ap h (x .end-at .ensures)
 
 returns-2 : tie.Need-returns-2
 returns-2 c =
@@ -58,7 +60,10 @@ returns-3 c =
     let a = x .before .before .before .args in
     let p = blocksOf (now (a .code)) (now (a .table)) in
     let h = mayHop (a .wide) p (a .a) in
-    c .if2 .taken ∙ either _ (sym (c .before .lone-cond-br .ensures) ∙ c .if2 .taken) ∙ sym (ap h (c .before .before .before .e2 .given .1)) ∙ ap h (x .end-at .ensures)
+    c .if2 .taken
+    ∙ either _ (sym (c .before .lone-cond-br .ensures) ∙ c .if2 .taken)
+    ∙ sym (ap h (c .before .before .before .e2 .given .1))
+    ∙ ap h (x .end-at .ensures)
 
 returns-4 : tie.Need-returns-4
 returns-4 c =
@@ -66,7 +71,9 @@ returns-4 c =
     let a = x .before .before .before .args in
     let p = blocksOf (now (a .code)) (now (a .table)) in
     let h = mayHop (a .wide) p (a .a) in
-    otherwise (sym (c .before .before .lone-cond-br .ensures) ∙ c .before .if2 .left) (c .lone-cond-br2 .ensures) ∙ sym (ap h (c .before .before .before .before .e2 .given .1)) ∙ ap h (x .end-at .ensures)
+    otherwise (sym (c .before .before .lone-cond-br .ensures) ∙ c .before .if2 .left) (c .lone-cond-br2 .ensures)
+    ∙ sym (ap h (c .before .before .before .before .e2 .given .1))
+    ∙ ap h (x .end-at .ensures)
 
 returns-5 : tie.Need-returns-5
 returns-5 c =

@@ -43,7 +43,8 @@ loop-again c = let l = c .before .before .before in
     let a = l .before .before .before .args in
     let p = blocksOf (now (a .code)) (now (a .table)) in
     let n = length-blocks (now (a .code)) (now (a .table)) in
-    (omega arith, l .loop .inv .1, hop-pass p (l .loop .a) (a .wide) p (rw n (c .before .before .loop-test .taken)) (sym (c .before .may-hop .ensures) ∙ c .if1 .left) ∙ l .loop .inv .2)
+    let e = hop-pass p (l .loop .a) (a .wide) p (rw n (c .before .before .loop-test .taken)) (sym (c .before .may-hop .ensures) ∙ c .if1 .left) in
+    (omega arith, l .loop .inv .1, e ∙ l .loop .inv .2)
 
 returns-2 : tie.Need-returns-2 Inv-loop μ-loop
 returns-2 c = let l = c .before in

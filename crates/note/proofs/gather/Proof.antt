@@ -9,10 +9,11 @@ use Rattle.codec.specs.Codec.{codeOf}
 use Rattle.procedure.specs.Procedure.{codesOf}
 use Rattle.ends.proofs.Laws.{length-codes}
 use Rattle.steps.specs.Note.{note, notes, nothing}
+use Rattle.facts.proofs.Codes.{inst-at}
 use Rattle.facts.specs.Storage.{factsIn}
 use Rattle.entries.specs.Storage.{heldIn}
 use Rattle.entries.proofs.Laws.{held-eq, entries-zero}
-use Rattle.note.proofs.Gathered.{inst-at, notes-again, notes-done}
+use Rattle.note.proofs.Gathered.{notes-again, notes-done}
 use borrow.Author.Needs.{needs}
 use Rattle.note.proofs.gather.Statement.{statement}
 use Rattle.note.proofs.gather.Tie as tie

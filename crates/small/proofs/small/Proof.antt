@@ -45,7 +45,9 @@ returns-3 : tie.Need-returns-3 Inv-loop μ-loop
 returns-3 c = let b = now (c .before .before .before .before .before .before .before .before .args .code) in
     let n = length-codes b in
     let l = c .before .before .before .before in
-    short-code (codesOf b) (rw n (c .before .before .before .before .before .before .if1 .left)) (copyable-stop (codesOf b) (l .loop .k) (rw n (c .before .before .before .loop-test .taken)) (told dupable (c .before .before .inst-at .ensures) (c .before .dupable .ensures) (not-true _ (c .if3 .taken))) ∙ l .loop .inv .2)
+    let t = told dupable (c .before .before .inst-at .ensures) (c .before .dupable .ensures) (not-true _ (c .if3 .taken)) in
+    let e = copyable-stop (codesOf b) (l .loop .k) (rw n (c .before .before .before .loop-test .taken)) t in
+    short-code (codesOf b) (rw n (c .before .before .before .before .before .before .if1 .left)) (e ∙ l .loop .inv .2)
 
 add-k : tie.Need-add-k Inv-loop μ-loop
 add-k c = search needs
@@ -57,7 +59,9 @@ loop-again : tie.Need-loop-again Inv-loop μ-loop
 loop-again c = let b = now (c .before .before .before .before .before .before .before .before .args .code) in
     let n = length-codes b in
     let l = c .before .before .before .before in
-    (omega arith, l .loop .inv .1, copyable-pass (codesOf b) (l .loop .k) (rw n (c .before .before .before .loop-test .taken)) (told dupable (c .before .before .inst-at .ensures) (c .before .dupable .ensures) (not-false _ (c .if3 .left))) ∙ l .loop .inv .2)
+    let t = told dupable (c .before .before .inst-at .ensures) (c .before .dupable .ensures) (not-false _ (c .if3 .left)) in
+    let e = copyable-pass (codesOf b) (l .loop .k) (rw n (c .before .before .before .loop-test .taken)) t in
+    (omega arith, l .loop .inv .1, e ∙ l .loop .inv .2)
 
 inst-at-requires-2 : tie.Need-inst-at-requires-2 Inv-loop μ-loop
 inst-at-requires-2 c κs = search needs
@@ -69,7 +73,9 @@ returns-4 : tie.Need-returns-4 Inv-loop μ-loop
 returns-4 c = let b = now (c .before .before .before .before .before .before .before .args .code) in
     let n = length-codes b in
     let l = c .before .before .before in
-    short-code (codesOf b) (rw n (c .before .before .before .before .before .if1 .left)) (c .small-end .ensures ∙ ap smallEnd (c .before .inst-at2 .ensures) ∙ copyable-last (codesOf b) (l .loop .k) (rw n (omega arith)) ∙ l .loop .inv .2)
+    let e = c .small-end .ensures ∙ ap smallEnd (c .before .inst-at2 .ensures) in
+    short-code (codesOf b) (rw n (c .before .before .before .before .before .if1 .left))
+    (e ∙ copyable-last (codesOf b) (l .loop .k) (rw n (omega arith)) ∙ l .loop .inv .2)
 
 pub small-spec : {M : Type 1} → statement M
 small-spec =

@@ -30,7 +30,9 @@ returns c = c .add-or-sub .ensures ∙ sym (ap (stepBy (c .before .before .befor
 
 returns-2 : tie.Need-returns-2
 unfolding stepBy formOf
-returns-2 c = both refl (c .before .if1 .taken) (c .add-or-sub2 .ensures) ∙ sym (ap (stepBy (c .before .before .before .before .before .args .wide)) (c .before .before .before .i2 .given .1))
+returns-2 c =
+    let b = c .before .before .before in
+    both refl (c .before .if1 .taken) (c .add-or-sub2 .ensures) ∙ sym (ap (stepBy (b .before .before .args .wide)) (b .i2 .given .1))
 
 returns-3 : tie.Need-returns-3
 unfolding stepBy formOf

@@ -6,8 +6,10 @@ use denote.Ref.{now}
 use Rattle.format.specs.Record.{blank}
 use Rattle.codec.specs.Codec.{codeOf}
 use Rattle.procedure.specs.Procedure.{codesOf}
+use Rattle.ends.proofs.Laws.{length-codes}
+use Rattle.facts.proofs.Codes.{inst-at}
 use Rattle.fill.specs.Filling.{over, classStep, classCode}
-use Rattle.fill.proofs.Laws.{over-again, over-done, codes-length, inst-at}
+use Rattle.fill.proofs.Laws.{over-again, over-done}
 use Rattle.fill.proofs.class.class.Statement.{statement}
 use Rattle.fill.proofs.class.class.Tie as tie
 
@@ -42,7 +44,7 @@ loop-again c =
     let b = now (a .code) in
     let at = inst-at b (l .loop .k) (c .before .before .before .before .record-at .ensures) (c .before .before .before .inst-of .ensures) in
     let one = c .before .before .put-inst .ensures ∙ ap (classStep (l .loop .table)) at in
-    let more : l .loop .k < length (codesOf b) = rw (codes-length b) (c .before .before .before .before .before .before .loop-test .taken) in
+    let more : l .loop .k < length (codesOf b) = rw (length-codes b) (c .before .before .before .before .before .before .loop-test .taken) in
     (over-again classCode (codesOf b) (l .loop .k) (codeOf blank) more one (l .loop .inv .0), search needs)
 
 same-length : tie.Need-same-length Inv-loop μ-loop
@@ -52,7 +54,7 @@ returns : tie.Need-returns Inv-loop μ-loop
 returns c =
     let l = c .before in
     let a = l .before .before .before .args in
-    over-done classCode (codesOf (now (a .code))) (l .loop .k) (rw (codes-length (now (a .code))) (c .loop-test .left)) (l .loop .inv .0)
+    over-done classCode (codesOf (now (a .code))) (l .loop .k) (rw (length-codes (now (a .code))) (c .loop-test .left)) (l .loop .inv .0)
 
 pub class-spec : {M : Type 1} → statement M
 class-spec =

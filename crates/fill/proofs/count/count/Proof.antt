@@ -6,8 +6,10 @@ use Rattle.format.specs.Record.{blank}
 use Rattle.codec.specs.Codec.{codeOf}
 use Rattle.procedure.specs.Procedure.{codesOf}
 use Rattle.facts.specs.Storage.{operandsIn}
+use Rattle.ends.proofs.Laws.{length-codes}
+use Rattle.facts.proofs.Codes.{inst-at}
 use Rattle.fill.specs.Filling.{over, countInst, countCode}
-use Rattle.fill.proofs.Laws.{over-again, over-done, codes-length, inst-at}
+use Rattle.fill.proofs.Laws.{over-again, over-done}
 use borrow.Author.Needs.{needs}
 use Rattle.fill.proofs.count.count.Statement.{statement}
 use Rattle.fill.proofs.count.count.Tie as tie
@@ -46,7 +48,7 @@ loop-again c =
     let ops = operandsIn (now (a .operands)) in
     let at = inst-at b (l .loop .k) (c .before .before .before .before .record-at .ensures) (c .before .before .before .inst-of .ensures) in
     let one = c .before .before .count-inst .ensures ∙ ap (countInst ops (l .loop .table)) at in
-    let more : l .loop .k < length (codesOf b) = rw (codes-length b) (c .before .before .before .before .before .before .loop-test .taken) in
+    let more : l .loop .k < length (codesOf b) = rw (length-codes b) (c .before .before .before .before .before .before .loop-test .taken) in
     (over-again (countCode ops) (codesOf b) (l .loop .k) (codeOf blank) more one (l .loop .inv .0), search needs)
 
 same-length : tie.Need-same-length Inv-loop μ-loop
@@ -57,7 +59,7 @@ returns c =
     let l = c .before in
     let a = l .before .before .before .before .args in
     let b = now (a .code) in
-    over-done (countCode (operandsIn (now (a .operands)))) (codesOf b) (l .loop .k) (rw (codes-length b) (c .loop-test .left)) (l .loop .inv .0)
+    over-done (countCode (operandsIn (now (a .operands)))) (codesOf b) (l .loop .k) (rw (length-codes b) (c .loop-test .left)) (l .loop .inv .0)
 
 pub count-spec : {M : Type 1} → statement M
 count-spec =

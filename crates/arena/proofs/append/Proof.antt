@@ -1,0 +1,90 @@
+use Prim.Native.Nat.{ℕ, suc, _+_, _-_, _≤_, _<_, min}
+use mathlib.Core.Path.{_≡_, refl, sym, ap, _∙_}
+use mathlib.Core.List.{List, []}
+use native.Mathlib.Omega.{arith}
+use borrow.Author.Needs.{needs}
+use denote.Ref.{now}
+use lib.ListN.{length, take, drop}
+use Rattle.arena.specs.Arena.{Arena, arena, pushAll}
+use Rattle.arena.proofs.Laws.{push-step, push-end}
+use Rattle.arena.proofs.append.Statement.{statement}
+use Rattle.arena.proofs.append.Tie as tie
+
+abbrev Inv-loop : tie.InvT-loop
+Inv-loop work₀ table₀ k top n code end at₀ i₀ work table at i =
+    (i ≤ end)
+    × (end ≡ min n 4)
+    × (length work ≡ length work₀)
+    × (length table ≡ length table₀)
+    × (pushAll k (drop i (take n code)) (arena work table at) ≡ pushAll k (take n code) (arena work₀ table₀ top))
+
+abbrev μ-loop : tie.MeasureT-loop
+μ-loop work₀ table₀ k top n code end at₀ i₀ work table at i = end - i
+
+least-requires : tie.Need-least-requires Inv-loop μ-loop
+least-requires c κs = search needs
+
+loop-holds : tie.Need-loop-holds Inv-loop μ-loop
+loop-holds c = (omega arith, c .least .ensures, refl, refl, refl)
+
+mul-push : tie.Need-mul-push Inv-loop μ-loop
+mul-push c = search needs
+
+array-copy-out-push : tie.Need-array-copy-out-push Inv-loop μ-loop
+array-copy-out-push c = search needs
+
+push-requires : tie.Need-push-requires Inv-loop μ-loop
+push-requires c κs = search needs
+
+add-i : tie.Need-add-i Inv-loop μ-loop
+add-i c = search needs
+
+loop-less : tie.Need-loop-less Inv-loop μ-loop
+loop-less c = search needs
+
+loop-again : tie.Need-loop-again Inv-loop μ-loop
+loop-again c =
+    let p = c .before .before .before .before .push in
+    let l = c .before .before .before .before .before .before .before .before .before in
+    let a = l .before .before .before .before .args in
+    let four : length (a .t5) ≡ 4 = search needs in
+    let i = l .loop .i in (
+      omega arith,
+      l .loop .inv .1,
+      p .kept .0 ∙ l .loop .inv .2,
+      p .kept .1 .0 ∙ l .loop .inv .3,
+      ap (pushAll (a .k) (drop (i + 1) (take (a .n) (a .t5)))) (p .ensures)
+          ∙ sym (push-step (a .k) (a .t5) (a .n) i _ (arena (l .loop .work) (l .loop .table) (l .loop .at)) (omega arith) (omega arith))
+          ∙ l .loop .inv .4,
+    )
+
+same-length : tie.Need-same-length Inv-loop μ-loop
+same-length c = search needs
+
+same-length-2 : tie.Need-same-length-2 Inv-loop μ-loop
+same-length-2 c = search needs
+
+returns : tie.Need-returns Inv-loop μ-loop
+returns c =
+    let l = c .before in
+    let a = l .before .before .before .before .args in
+    let four : length (a .t5) ≡ 4 = search needs in
+    push-end (a .k) (a .t5) (a .n) (l .loop .i) (arena (l .loop .work) (l .loop .table) (l .loop .at)) (omega arith) ∙ l .loop .inv .4
+
+pub append-spec : {M : Type 1} → statement M
+append-spec =
+    tie.close
+    (tie.spec
+    Inv-loop
+    μ-loop
+    least-requires
+    loop-holds
+    mul-push
+    array-copy-out-push
+    push-requires
+    add-i
+    loop-less
+    loop-again
+    same-length
+    same-length-2
+    returns)

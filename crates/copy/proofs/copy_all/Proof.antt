@@ -1,0 +1,104 @@
+use Prim.Native.Nat.{_-_, _≤_, _<_}
+use native.Mathlib.Omega.{arith}
+use mathlib.Core.Path.{_≡_, sym}
+use borrow.Author.Needs.{needs}
+use denote.Ref.{now}
+use lib.ListN.{length, getD, take, length-take}
+use lib.Seq.{getD-take}
+use Rattle.copy.specs.Storage.{howIn, Four}
+use Rattle.copy.proofs.Laws.{zeroCode}
+use Rattle.copy.proofs.Copying.{Left, left-start, left-done, left-step}
+use Rattle.copy.proofs.copy_all.Statement.{statement}
+use Rattle.copy.proofs.copy_all.Tie as tie
+
+abbrev Inv-loop : tie.InvT-loop
+Inv-loop n facts m code s₀ k₀ s k =
+    (length code ≡ 4) × (k ≤ n) × (s .n ≤ k) × (s .fresh ≤ s .n) × Left facts (take n code) m k s × Four s
+
+abbrev μ-loop : tie.MeasureT-loop
+μ-loop n facts m code s₀ k₀ s k = n - k
+
+nothing-requires : tie.Need-nothing-requires Inv-loop μ-loop
+nothing-requires c κs = search needs
+
+loop-holds : tie.Need-loop-holds Inv-loop μ-loop
+loop-holds c =
+    let a = c .before .before .args in
+    let z = c .nothing in
+    let e = z .ensures in (
+      search needs,
+      omega arith,
+      omega arith,
+      omega arith,
+      left-start (now (a .facts)) (take (a .n) (a .t1)) (a .m) (z .result) (e .0) (e .1),
+      e .2,
+    )
+
+mul-x : tie.Need-mul-x Inv-loop μ-loop
+mul-x c = search needs
+
+array-copy-out-x : tie.Need-array-copy-out-x Inv-loop μ-loop
+array-copy-out-x c = search needs
+
+how-of-requires : tie.Need-how-of-requires Inv-loop μ-loop
+how-of-requires c κs = search needs
+
+cast-t18 : tie.Need-cast-t18 Inv-loop μ-loop
+cast-t18 c = omega arith
+
+add-t19 : tie.Need-add-t19 Inv-loop μ-loop
+add-t19 c = omega arith
+
+placed-requires : tie.Need-placed-requires Inv-loop μ-loop
+placed-requires c κs = (omega arith, omega arith, c .before .before .before .before .loop .inv .5)
+
+add-k : tie.Need-add-k Inv-loop μ-loop
+add-k c = search needs
+
+loop-less : tie.Need-loop-less Inv-loop μ-loop
+loop-less c = search needs
+
+loop-again : tie.Need-loop-again Inv-loop μ-loop
+loop-again c =
+    let h = c .before .before in
+    let l = h .before .before .before in
+    let a = l .before .before .before .args in
+    let k = l .loop .k in
+    let p = c .placed .ensures in
+    let in-n : k < a .n = omega arith in
+    let in-code : k < length (take (a .n) (a .t1)) = simp length-take (omega arith) in (
+      l .loop .inv .0,
+      omega arith,
+      omega (arith, p .n-le),
+      p .fresh-le (l .loop .inv .3),
+      left-step (now (a .facts)) (take (a .n) (a .t1)) (a .m) (l .loop .s) k (l .loop .inv .4) (c .placed .result) (howIn (h .how-of .result))
+          (getD (a .t1) k zeroCode) zeroCode in-code (sym (getD-take (a .n) (a .t1) k zeroCode in-n)) (h .how-of .ensures) p,
+      p .four,
+    )
+
+returns : tie.Need-returns Inv-loop μ-loop
+returns c =
+    let l = c .before in
+    let a = l .before .before .before .args in
+    let t = take (a .n) (a .t1) in
+    let past : length t ≤ l .loop .k = simp length-take (omega arith) in
+    left-done (now (a .facts)) t (a .m) (l .loop .s) (l .loop .k) (l .loop .inv .4) past (omega arith) (l .loop .inv .3) (l .loop .inv .5)
+
+pub copy-all-spec : {M : Type 1} → statement M
+copy-all-spec =
+    tie.close
+    (tie.spec
+    Inv-loop
+    μ-loop
+    nothing-requires
+    loop-holds
+    mul-x
+    array-copy-out-x
+    how-of-requires
+    cast-t18
+    add-t19
+    placed-requires
+    add-k
+    loop-less
+    loop-again
+    returns)

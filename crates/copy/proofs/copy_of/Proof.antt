@@ -1,0 +1,51 @@
+use Prim.Native.Nat.{ℕ, _/_, _<_, _≤_}
+use native.Mathlib.Omega.{arith}
+use mathlib.Core.Path.{sym, ap, _∙_, subst}
+use mathlib.Core.List.{List}
+use borrow.Author.Needs.{needs}
+use denote.Ref.{now}
+use lib.ListN.{length, take}
+use Rattle.inst.specs.declared.Code.{Code}
+use Rattle.procedure.specs.Procedure.{codesOf}
+use Rattle.ends.proofs.Laws.{length-codes}
+use Rattle.copy.specs.Storage.{firstFour, CopyOf}
+use Rattle.copy.proofs.Laws.{four-few, four-all}
+use Rattle.copy.proofs.copy_of.Statement.{statement}
+use Rattle.copy.proofs.copy_of.Tie as tie
+
+taken-requires : tie.Need-taken-requires
+taken-requires c κs = search needs
+
+copy-all-requires : tie.Need-copy-all-requires
+copy-all-requires c κs = search needs
+
+returns : tie.Need-returns
+returns c =
+    let t = c .before in
+    let a = t .before .before .before .before .args in
+    let b = codesOf (now (a .code)) in
+    let n = length-codes (now (a .code)) in
+    let few : length b < 4 = omega (arith, t .before .if1 .taken) in
+    subst (λ (l : List Code). CopyOf (now (a .facts)) l (a .m) (c .copy-all .result))
+    (ap (take (length (now (a .code)) / 32)) (t .taken .ensures) ∙ ap (λ (k : ℕ). take k (firstFour b)) (sym n) ∙ four-few b few)
+    (c .copy-all .ensures)
+
+taken-requires-2 : tie.Need-taken-requires-2
+taken-requires-2 c κs = search needs
+
+copy-all-requires-2 : tie.Need-copy-all-requires-2
+copy-all-requires-2 c κs = search needs
+
+returns-2 : tie.Need-returns-2
+returns-2 c =
+    let t = c .before in
+    let a = t .before .before .before .before .args in
+    let b = codesOf (now (a .code)) in
+    let n = length-codes (now (a .code)) in
+    let many : 4 ≤ length b = omega (arith, t .before .if1 .left) in
+    subst (λ (l : List Code). CopyOf (now (a .facts)) l (a .m) (c .copy-all2 .result))
+    (ap (take 4) (t .taken2 .ensures) ∙ four-all b many)
+    (c .copy-all2 .ensures)
+
+pub copy-of-spec : {M : Type 1} → statement M
+copy-of-spec = tie.close (tie.spec taken-requires copy-all-requires returns taken-requires-2 copy-all-requires-2 returns-2)

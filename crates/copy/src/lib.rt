@@ -1,0 +1,252 @@
+ghost use mathlib.Core.Path.{_≡_};
+ghost use mathlib.Core.Option.{Option};
+ghost use Prim.Native.Nat.{ℕ, _≤_, _<_};
+ghost use lib.ListN.{take, drop};
+ghost use Rattle.roles.specs.Roles.{usesOf, numbersOf};
+ghost use Rattle.procedure.specs.Procedure.{codesOf};
+ghost use Rattle.procedure.specs.Lists.{times};
+ghost use Rattle.ends.specs.Forms.{fixedOf};
+ghost use Rattle.steps.specs.Copy as steps;
+ghost use Rattle.facts.specs.Storage.{factsIn, usesIn};
+ghost use Rattle.copy.specs.Storage.{howIn, isConst, howOne, localIn, Four, Pushed, Given, Placed, firstFour, CopyOf};
+use inst::Code;
+use inst::Inst;
+use inst::Reg;
+use inst::StmtId;
+
+// What becomes of an instruction in the copy: nothing, the same with a new number for what it writes, or the same.
+pub enum How {
+    LeftOut,
+    Renumbered(Reg),
+    Kept,
+}
+
+// A copy: its first n instructions, and the first fresh registers that got a new number, with that number.
+pub struct Copied {
+    pub code: [Code; 4],
+    pub n: usize,
+    pub old: [Reg; 4],
+    pub new: [Reg; 4],
+    pub fresh: usize,
+}
+
+// How often r stands in a row from place a up to place e.
+fn reads_in(reg: [Reg; 5], a: usize, e: usize, r: Reg) -> u64
+    requires { ⌜ e ≤ 5 ⌝ }
+    ensures { λ z. ⌜ z ≡ times (r .0) (drop a (take e (numbersOf reg))) ⌝ }
+{
+    let mut n = 0;
+    let mut k = a;
+    while k < e {
+        let x = reg[k];
+        if r.0 == x.0 {
+            n += 1;
+        }
+        k += 1;
+    }
+    n
+}
+
+fn reads_of(i: Inst, r: Reg) -> u64
+    ensures { λ z. ⌜ (z ≡ times (r .0) (usesOf i)) × (z ≤ 5) ⌝ }
+{
+    let q = roles::roles_of(i);
+    let reg = q.reg;
+    reads_in(reg, q.defs, q.n, r)
+}
+
+// The reads of a register in the first n instructions.
+fn own_uses(code: [Code; 4], n: usize, r: Reg) -> u64
+    requires { ⌜ n ≤ 4 ⌝ }
+    ensures { λ z. ⌜ z ≡ steps.ownUses (take n code) (r .0) ⌝ }
+{
+    let mut z = 0;
+    let mut k = 0;
+    while k < n {
+        let x = code[k];
+        let i = x.inst;
+        z += reads_of(i, r);
+        k += 1;
+    }
+    z
+}
+
+// A Const or ConstF.
+fn is_const(i: Inst) -> bool
+    ensures { λ z. ⌜ z ≡ isConst (fixedOf i) ⌝ }
+{
+    match i {
+        Inst::Const { .. } | Inst::ConstF { .. } => true,
+        _ => false,
+    }
+}
+
+// What becomes of an instruction that writes d, an old register that one field writes.
+fn how_single(i: Inst, d: Reg, code: [Code; 4], n: usize, facts: &[u64]) -> How
+    requires { ⌜ n ≤ 4 ⌝ }
+    ensures { λ z. ⌜ howIn z ≡ howOne (usesIn (now (facts .entry)) (d .0)) (steps.ownUses (take n code) (d .0)) (d .0) (fixedOf i) ⌝ }
+{
+    if is_const(i) {
+        return How::LeftOut;
+    }
+    if facts::uses_of(facts, d) == own_uses(code, n, d) {
+        return How::Renumbered(d);
+    }
+    How::Kept
+}
+
+// What becomes of an instruction of a target, whose first n instructions are given.
+fn how_of(i: Inst, code: [Code; 4], n: usize, facts: &[u64]) -> How
+    requires { ⌜ n ≤ 4 ⌝ }
+    ensures { λ z. ⌜ ((body : Option ℕ) (budget : ℕ)
+        → howIn z ≡ steps.howOf (factsIn (now (facts .entry)) body budget) (steps.ownUses (take n code)) i) ⌝ }
+{
+    let q = roles::roles_of(i);
+    if q.defs == 0 {
+        return How::Kept;
+    }
+    let reg = q.reg;
+    let d = reg[0];
+    if facts::registers(facts) <= d.0 as usize {
+        return How::Kept;
+    }
+    if facts::is_single(facts, d) {
+        return how_single(i, d, code, n, facts);
+    }
+    How::Kept
+}
+
+// One instruction more at the end of the copy.
+fn pushed(s: Copied, x: Code) -> Copied
+    requires { ⌜ (s .n < 4) × Four s ⌝ }
+    ensures { λ z. ⌜ Pushed s x z ⌝ }
+{
+    let mut code = s.code;
+    let n = s.n;
+    code[n] = x;
+    let old = s.old;
+    let new = s.new;
+    Copied {
+        code,
+        n: n + 1,
+        old,
+        new,
+        fresh: s.fresh,
+    }
+}
+
+// One register more with a new number.
+fn given(s: Copied, d: Reg, m: Reg) -> Copied
+    requires { ⌜ (s .fresh < 4) × Four s ⌝ }
+    ensures { λ z. ⌜ Given s (d .0) (m .0) z ⌝ }
+{
+    let mut old = s.old;
+    let mut new = s.new;
+    let k = s.fresh;
+    old[k] = d;
+    new[k] = m;
+    let code = s.code;
+    Copied {
+        code,
+        n: s.n,
+        old,
+        new,
+        fresh: k + 1,
+    }
+}
+
+// An instruction with its reads renamed.
+fn kept(s: Copied, x: Code) -> Code
+    ensures { λ z. ⌜ z ≡ steps.renamed (localIn s) (λ (r : ℕ). r) x ⌝ }
+{
+    let i = x.inst;
+    let stmt = x.stmt;
+    let old = s.old;
+    let new = s.new;
+    Code {
+        inst: exchange::renamed(i, old, new, s.fresh),
+        stmt,
+    }
+}
+
+// And with m in place of d where it writes.
+fn renumbered(s: Copied, x: Code, d: Reg, m: Reg) -> Code
+    ensures { λ z. ⌜ z ≡ steps.renamed (localIn s) (steps.written (d .0) (m .0)) x ⌝ }
+{
+    let i = x.inst;
+    let stmt = x.stmt;
+    let old = s.old;
+    let new = s.new;
+    Code {
+        inst: exchange::exchange(i, old, new, s.fresh, d, m),
+        stmt,
+    }
+}
+
+// One instruction of the target more, where m is the next new number.
+fn placed(s: Copied, how: How, x: Code, m: Reg) -> Copied
+    requires { ⌜ (s .n < 4) × (s .fresh < 4) × Four s ⌝ }
+    ensures { λ z. ⌜ Placed s (howIn how) x (m .0) z ⌝ }
+{
+    match how {
+        How::LeftOut => s,
+        How::Renumbered(d) => given(pushed(s, renumbered(s, x, d, m)), d, m),
+        How::Kept => pushed(s, kept(s, x)),
+    }
+}
+
+fn nothing() -> Copied
+    ensures { λ z. ⌜ (z .n ≡ 0) × (z .fresh ≡ 0) × Four z ⌝ }
+{
+    let blank = Code {
+        inst: Inst::Stmt,
+        stmt: StmtId(0),
+    };
+    Copied {
+        code: [blank; 4],
+        n: 0,
+        old: [Reg(0); 4],
+        new: [Reg(0); 4],
+        fresh: 0,
+    }
+}
+
+// The first four instructions of a target, held by value.
+fn taken(code: &[u8]) -> [Code; 4]
+    ensures { λ z. ⌜ z ≡ firstFour (codesOf (now (code .entry))) ⌝ }
+{
+    [
+        codec::code_of(format::record_at(code, 0)),
+        codec::code_of(format::record_at(code, 1)),
+        codec::code_of(format::record_at(code, 2)),
+        codec::code_of(format::record_at(code, 3)),
+    ]
+}
+
+// The copy of n instructions, where m is the first new number.
+fn copy_all(code: [Code; 4], n: usize, facts: &[u64], m: u16) -> Copied
+    requires { ⌜ n ≤ 4 ⌝ }
+    ensures { λ z. ⌜ CopyOf (now (facts .entry)) (take n code) m z ⌝ }
+{
+    let mut s = nothing();
+    let mut k = 0;
+    while k < n {
+        let x = code[k];
+        let i = x.inst;
+        let how = how_of(i, code, n, facts);
+        s = placed(s, how, x, Reg(m as u32 + s.fresh as u32));
+        k += 1;
+    }
+    s
+}
+
+// The copy of a target's first four instructions, where m is the first new number.
+pub fn copy_of(code: &[u8], facts: &[u64], m: u16) -> Copied
+    ensures { λ z. ⌜ CopyOf (now (facts .entry)) (take 4 (codesOf (now (code .entry)))) m z ⌝ }
+{
+    let n = code.len() / 32;
+    if n < 4 {
+        return copy_all(taken(code), n, facts, m);
+    }
+    copy_all(taken(code), 4, facts, m)
+}

@@ -1,0 +1,93 @@
+ghost use mathlib.Core.Path.{_≡_};
+ghost use Rattle.format.specs.Record.{recordsOf};
+ghost use Rattle.reach.specs.Reached.{targetsIn, leadsIn, seenIn};
+ghost use Rattle.reach.specs.Search.{Sized, searchOf, pushed, pushedAll};
+use ends::End;
+use inst::BlockId;
+
+// Marks a block and pushes it, where it is one of the nb blocks and not marked yet.
+fn push(seen: &mut [bool; 160], stack: &mut [u32; 160], top: usize, nb: usize, b: BlockId) -> usize
+    requires { ⌜ Sized nb (now seen) (now stack) top ⌝ }
+    ensures { λ r. ⌜ Sized nb (now (seen .exit)) (now (stack .exit)) r ⌝ }
+    ensures { λ r. ⌜ searchOf (now (seen .exit)) (now (stack .exit)) r ≡ pushed nb (searchOf (now (seen .entry)) (now (stack .entry)) top) (b .0) ⌝ }
+{
+    let at = b.0 as usize;
+    if nb <= at {
+        return top;
+    }
+    if seen[at] {
+        return top;
+    }
+    seen[at] = true;
+    stack[top] = b.0;
+    top + 1
+}
+
+// Pushes the targets of the arms of table n, up to its default.
+fn push_arms(
+    arms: &[u8],
+    n: u32,
+    seen: &mut [bool; 160],
+    stack: &mut [u32; 160],
+    top: usize,
+    nb: usize,
+) -> usize
+    requires { ⌜ Sized nb (now seen) (now stack) top ⌝ }
+    ensures { λ r. ⌜ Sized nb (now (seen .exit)) (now (stack .exit)) r ⌝ }
+    ensures { λ r. ⌜ searchOf (now (seen .exit)) (now (stack .exit)) r ≡ pushedAll nb (searchOf (now (seen .entry)) (now (stack .entry)) top) (targetsIn n (recordsOf (now (arms .entry)))) ⌝ }
+{
+    let count = arms.len() / 32;
+    let mut at = top;
+    let mut k = 0;
+    while k < count {
+        let r = format::record_at(arms, k);
+        if r.p1 == n {
+            at = push(seen, stack, at, nb, BlockId(r.p6));
+            if r.kind == 1 {
+                return at;
+            }
+        }
+        k += 1;
+    }
+    at
+}
+
+// Pushes the blocks that an end leads to.
+fn push_targets(
+    arms: &[u8],
+    e: End,
+    seen: &mut [bool; 160],
+    stack: &mut [u32; 160],
+    top: usize,
+    nb: usize,
+) -> usize
+    requires { ⌜ Sized nb (now seen) (now stack) top ⌝ }
+    ensures { λ r. ⌜ Sized nb (now (seen .exit)) (now (stack .exit)) r ⌝ }
+    ensures { λ r. ⌜ searchOf (now (seen .exit)) (now (stack .exit)) r ≡ pushedAll nb (searchOf (now (seen .entry)) (now (stack .entry)) top) (leadsIn (recordsOf (now (arms .entry))) e) ⌝ }
+{
+    match e {
+        End::Br(to) => push(seen, stack, top, nb, to),
+        End::CondBr(_, t, f) => {
+            let at = push(seen, stack, top, nb, t);
+            push(seen, stack, at, nb, f)
+        }
+        End::Case(n) => push_arms(arms, n, seen, stack, top, nb),
+        End::Other => top,
+    }
+}
+
+// Which of the first 160 blocks are reached from block 0, over Br, CondBr and arms.
+pub fn reached(code: &[u8], table: &[u8], arms: &[u8]) -> [bool; 160]
+    ensures { λ z. ⌜ z ≡ seenIn (now (code .entry)) (now (table .entry)) (now (arms .entry)) ⌝ }
+{
+    let nb = blocks::least(table.len() / 32, 160);
+    let mut seen = [false; 160];
+    let mut stack = [0u32; 160];
+    let mut top = push(&mut seen, &mut stack, 0, nb, BlockId(0));
+    while 0 < top {
+        let b = stack[top - 1] as usize;
+        let e = gate::end_at(code, table, b);
+        top = push_targets(arms, e, &mut seen, &mut stack, top - 1, nb);
+    }
+    seen
+}
