@@ -21,13 +21,14 @@ use Rattle.steps.specs.Emit.{leads, edgesOf, reached, emptyFrom, isRescued, res
 use Rattle.steps.specs.EqualArms.{equalArms}
 use Rattle.steps.specs.Facts.{Facts}
 use Rattle.steps.specs.Thread.{Work, thread, unthreaded, nextNumber}
-use Rattle.steps.specs.Run.{countedIn, unchanged, armsJoined, emit, emitIf, threadIf, runIf, run}
+use Rattle.steps.specs.Run.{Shortened, countedIn, unchanged, armsJoined, emit, emitIf, threadIf, runIf, run}
 use Rattle.machine.specs.Machine.{Regs, Address, Outside, at, start, intoZero}
+use Rattle.machine.specs.Single.{Loaded as Constants}
 use Rattle.machine.specs.Demand.{Starts, Alike, AlikeFrom, Demand3, shows, entries}
 use Rattle.machine.proofs.Shorter.{Shorter, mach, shorter-trans, alike}
 use Rattle.demand.specs.Setting.{In, Each, Setting, code, Fine}
 use Rattle.demand.specs.Whole.{Whole, Inside}
-use Rattle.demand.specs.Claim.{Kept}
+use Rattle.demand.specs.Claim.{Kept, KeptWhere}
 use Rattle.demand.proofs.Basics.{clash, clash-some, and-both, any-in, eqb-eq}
 use Rattle.demand.proofs.Effects.{Shape, constant, computed, acting, going, testing, casing, ending, shape, fixed-constant, varies}
 use Rattle.demand.proofs.Codes.{each-map, end-append}
@@ -247,3 +248,9 @@ module _ (p : Procedure) (whole : Whole p) (inside : Inside p) where
 
   pub demand3 : Demand3 p (run p .procedure) (run p .rescued)
   demand3 = run-kept 0 ([], refl)
+
+-- with more loaded, and under any condition
+pub kept-where : (p : Procedure) (s : Shortened) (loaded : Address → Regs → Type 0) (when : Outside → Address → ℕ → Regs → Type 0)
+    → ((address : Address) (g : Regs) → loaded address g → Constants address p g) → Kept p s → KeptWhere loaded when p s
+kept-where p s loaded when more k b r outside address g g′ l l′ same c =
+    k b r outside address g g′ (record { loaded = more address g l; loaded′ = more address g′ l′; same = same })
