@@ -87,9 +87,6 @@ module _ (E : Setting) (f : Facts) (same-one : (r : ℕ) → (ltb r (length (f .
 
     -- one instruction x and its copy x′
     module _ (x : Code) (c : List Code) (local : List (ℕ × ℕ)) (m : ℕ) (g g′ : Regs) (y : Ready (x ∷ c) local m g g′) where
-      σ : ℕ → ℕ
-      σ = readThrough local
-
       same-reads : map (λ r. g′ (readThrough local r)) (readsAt (E .operands) x) ≡ map g (readsAt (E .operands) x)
       same-reads = map-same _ _ (readsAt (E .operands) x) (λ r k. sym (y .agree r (inr (inl k))))
 
@@ -154,6 +151,16 @@ module _ (E : Setting) (f : Facts) (same-one : (r : ℕ) → (ltb r (length (f .
         unfolding writesIn times
         writes-one r = rw (s .one) (omega arith)
 
+        -- what is left writes no more
+        once-less : (r : ℕ) → E .one r ≡ true → E .local r ≡ true → all-own E f same-one own r ≡ true
+            → (writesIn c r + renumberings r local ≤ 1) ⊎ (¬ (Read (E .operands) c r))
+        once-less r p i q = by (y .once r p i q)
+          where
+            by : (writesIn (x ∷ c) r + renumberings r local ≤ 1) ⊎ (¬ (Read (E .operands) (x ∷ c) r))
+                → (writesIn c r + renumberings r local ≤ 1) ⊎ (¬ (Read (E .operands) c r))
+            by (inl z) = inl (omega (arith, writes-one r))
+            by (inr z) = inr (λ k. z (inr k))
+
         -- the instruction is kept
         module _ (kept-d : E .one d ≡ true → all-own E f same-one own d ≡ true → ⊥) where
           through-d : readThrough local d ≡ d
@@ -176,15 +183,6 @@ module _ (E : Setting) (f : Facts) (same-one : (r : ℕ) → (ltb r (length (f .
               by : Dec (r ≡ d) → upd d v g r ≡ upd d v g′ (readThrough local r)
               by (yes z) = upd-same d v g r z ∙ sym (upd-same d v g′ (readThrough local r) (ap (readThrough local) z ∙ through-d))
               by (no n) = upd-other d v g r n ∙ y .agree r (live-before r n l) ∙ sym (upd-other d v g′ (readThrough local r) (off r n))
-
-          once-less : (r : ℕ) → E .one r ≡ true → E .local r ≡ true → all-own E f same-one own r ≡ true
-              → (writesIn c r + renumberings r local ≤ 1) ⊎ (¬ (Read (E .operands) c r))
-          once-less r p i q = by (y .once r p i q)
-            where
-              by : (writesIn (x ∷ c) r + renumberings r local ≤ 1) ⊎ (¬ (Read (E .operands) (x ∷ c) r))
-                  → (writesIn c r + renumberings r local ≤ 1) ⊎ (¬ (Read (E .operands) c r))
-              by (inl z) = inl (omega (arith, writes-one r))
-              by (inr z) = inr (λ k. z (inr k))
 
           ready-kept : Ready c local m (upd d v g) (upd d v g′)
           ready-kept =
@@ -302,15 +300,6 @@ module _ (E : Setting) (f : Facts) (same-one : (r : ℕ) → (ltb r (length (f .
                   ∙ y .agree d (inl (E .single-shared d n single-d)) ∙ ap (λ w. g′ (readThrough local w)) (sym z)
               by (no w) = upd-other d v g r w ∙ y .agree r (live-before r w l)
 
-          once-out : (r : ℕ) → E .one r ≡ true → E .local r ≡ true → all-own E f same-one own r ≡ true
-              → (writesIn c r + renumberings r local ≤ 1) ⊎ (¬ (Read (E .operands) c r))
-          once-out r p i q = by (y .once r p i q)
-            where
-              by : (writesIn (x ∷ c) r + renumberings r local ≤ 1) ⊎ (¬ (Read (E .operands) (x ∷ c) r))
-                  → (writesIn c r + renumberings r local ≤ 1) ⊎ (¬ (Read (E .operands) c r))
-              by (inl z) = inl (omega (arith, writes-one r))
-              by (inr z) = inr (λ k. z (inr k))
-
           ready-out : Ready c local m (upd d v g) g′
           ready-out =
               record {
@@ -320,7 +309,7 @@ module _ (E : Setting) (f : Facts) (same-one : (r : ℕ) → (ltb r (length (f .
                 entries = y .entries;
                 low = y .low .1;
                 from = y .from;
-                once = once-out;
+                once = once-less;
               }
 
         pass : (w : How) → Way E f same-one own x w

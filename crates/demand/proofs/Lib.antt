@@ -23,3 +23,4 @@ pub mod Arms
 pub mod Original
 pub mod Started
 pub mod Theorem
+pub mod Places

@@ -48,9 +48,6 @@ in-names r x k = in-any (eqb r) (defsAt x) r (eqb-true r r refl) k
 pub singly-one : (cs : List Code) (r : ℕ) → singly cs r ≡ true → writesIn cs r ≡ 1
 singly-one cs r q = let z : min 255 (writesIn cs r) ≡ 1 = eqb-eq (min 255 (writesIn cs r)) 1 q in omega arith
 
-one-singly : (cs : List Code) (r : ℕ) → writesIn cs r ≡ 1 → singly cs r ≡ true
-one-singly cs r q = rw q
-
 unwritten-each : (F : Code → Type 0) (c : List Code) (r : ℕ) → writesIn c r ≡ 0 → Each (λ y. In r (defsAt y) → F y) c
 unfolding writesIn
 unwritten-each F [] r q = tt

@@ -1,3 +1,4 @@
 pub mod Setting
 pub mod Whole
 pub mod Claim
+pub mod Place

@@ -21,7 +21,7 @@ use Rattle.round.specs.WellFormed.{All, Ends, Sound, BlockIn, countsIn, WellFor
 use Rattle.sized.proofs.Names.{Named, named}
 use Rattle.demand.specs.Setting.{In, Each, Front, defsAt, readsAt}
 use Rattle.demand.specs.Whole.{Whole}
-use Rattle.demand.proofs.Basics.{in-split}
+use Rattle.demand.proofs.Basics.{in-left, in-right, in-split}
 
 -- the registers that an instruction names
 module _ (n : Counts) where
@@ -68,15 +68,6 @@ all-in : (F : ℕ → Type 0) (xs : List ℕ) (r : ℕ) → All F xs → In r xs
 all-in F [] r p k = absurd k
 all-in F (x ∷ xs) r p (inl e) = subst F (sym e) (p .0)
 all-in F (x ∷ xs) r p (inr k) = all-in F xs r (p .1) k
-
-in-left : (r : ℕ) (xs ys : List ℕ) → In r xs → In r (xs ++ ys)
-in-left r [] ys k = absurd k
-in-left r (x ∷ xs) ys (inl e) = inl e
-in-left r (x ∷ xs) ys (inr k) = inr (in-left r xs ys k)
-
-in-right : (r : ℕ) (xs ys : List ℕ) → In r ys → In r (xs ++ ys)
-in-right r [] ys k = k
-in-right r (x ∷ xs) ys k = inr (in-right r xs ys k)
 
 in-take : (r n : ℕ) (xs : List ℕ) → In r (take n xs) → In r xs
 in-take r zero xs k = absurd k
