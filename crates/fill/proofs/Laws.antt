@@ -1,5 +1,5 @@
 -- Laws of counting up a table, one register more, and of walking a list to its end.
-use Prim.Native.Nat.{ℕ, zero, suc, _+_, _/_, _≤_, _<_}
+use Prim.Native.Nat.{ℕ, suc, _+_, _/_, _≤_, _<_}
 use native.Mathlib.Numerals.{add-one}
 use native.Mathlib.Omega.{arith}
 use mathlib.Core.Path.{_≡_, refl, sym, ap, _∙_}
@@ -13,12 +13,9 @@ use Rattle.format.specs.declared.Record.{Record}
 use Rattle.format.specs.Record.{recordsOf, recordAt, blank}
 use Rattle.format.proofs.Laws.{length-records}
 use Rattle.inst.specs.declared.Inst.{Inst}
-use Rattle.inst.specs.declared.Code.{Code}
 use Rattle.roles.specs.declared.Roles.{Roles}
-use Rattle.roles.specs.Roles.{rolesOf, defsOf, usesOf, readsOf, operandsOf}
+use Rattle.roles.specs.Roles.{rolesOf, readsOf, operandsOf, numbersOf}
 use Rattle.roles.proofs.Laws.{n-few, defs-few, defs-first, reads-all}
-use Rattle.codec.specs.Codec.{instOf, codeOf}
-use Rattle.procedure.specs.Procedure.{codesOf}
 use Rattle.facts.specs.Storage.{operandsIn, kindsOf, cap}
 use Rattle.facts.proofs.Rows.{getD-any}
 use Rattle.fill.specs.Filling.{over, bumped, counted, countInst}
@@ -90,16 +87,21 @@ over-append f s [] m = refl
 over-append f s (x ∷ l) m = over-append f (f s x) l m
 
 -- an instruction's definitions, then its uses: its own fields and those of its list
+abbrev writtenBy : Roles → List ℕ
+writtenBy p = take (p .defs) (numbersOf (p .reg))
+
+abbrev readBy : Roles → List ℕ
+readBy p = drop (p .defs) (take (p .n) (numbersOf (p .reg)))
+
 module _ (i : Inst) {q : Roles} (e : q ≡ rolesOf i) (ops t : List ℕ) {t₁ t₂ t₃ : List ℕ} where
-  pub count-one : t₁ ≡ over (counted 1 255) t (take (q .defs) (q .reg)) → t₂ ≡ over (counted 2 cap) t₁ (drop (q .defs) (take (q .n) (q .reg))) →
+  pub count-one : t₁ ≡ over (counted 1 255) t (writtenBy q) → t₂ ≡ over (counted 2 cap) t₁ (readBy q) →
       t₃ ≡ over (counted 2 cap) t₂ (operandsOf ops (q .list)) → t₃ ≡ countInst ops t i
   count-one h m n =
       n
       ∙ ap (λ (s : List ℕ). over (counted 2 cap) s (operandsOf ops (q .list))) m
-      ∙ sym (over-append (counted 2 cap) t₁ (drop (q .defs) (take (q .n) (q .reg))) (operandsOf ops (q .list)))
-      ∙ ap (over (counted 2 cap) t₁) (ap (λ (p : Roles). drop (p .defs) (take (p .n) (p .reg)) ++ operandsOf ops (p .list)) e ∙ reads-all ops i)
-      ∙ ap (λ (s : List ℕ). over (counted 2 cap) s (readsOf ops i))
-      (h ∙ ap (over (counted 1 255) t) (ap (λ (p : Roles). take (p .defs) (p .reg)) e ∙ defs-first i))
+      ∙ sym (over-append (counted 2 cap) t₁ (readBy q) (operandsOf ops (q .list)))
+      ∙ ap (over (counted 2 cap) t₁) (ap (λ (p : Roles). readBy p ++ operandsOf ops (p .list)) e ∙ reads-all ops i)
+      ∙ ap (λ (s : List ℕ). over (counted 2 cap) s (readsOf ops i)) (h ∙ ap (over (counted 1 255) t) (ap writtenBy e ∙ defs-first i))
 
 pub few-defs : {q : Roles} (i : Inst) → q ≡ rolesOf i → q .defs ≤ 5
 few-defs i g = rw g (defs-few i)

@@ -1,7 +1,7 @@
 ghost use mathlib.Core.Path.{_≡_};
 ghost use Prim.Native.Nat.{_≤_, _<_};
 ghost use lib.ListN.{take, drop};
-ghost use Rattle.roles.specs.Roles.{operandsOf};
+ghost use Rattle.roles.specs.Roles.{operandsOf, numbersOf};
 ghost use Rattle.procedure.specs.Procedure.{codesOf};
 ghost use Rattle.facts.specs.Storage.{operandsIn};
 ghost use Rattle.fill.specs.Filling.{over, counted, countInst, countCode};
@@ -24,13 +24,14 @@ fn bump(table: &mut [u64], j: usize, most: u64, r: Reg)
 }
 
 // The registers from place a up to place e.
-fn bump_regs(table: &mut [u64], j: usize, most: u64, reg: [u32; 5], a: usize, e: usize)
+fn bump_regs(table: &mut [u64], j: usize, most: u64, reg: [Reg; 5], a: usize, e: usize)
     requires { ⌜ (e ≤ 5) × (j < 5) ⌝ }
-    ensures { λ u. ⌜ now (table .exit) ≡ over (counted j most) (now (table .entry)) (drop a (take e reg)) ⌝ }
+    ensures { λ u. ⌜ now (table .exit) ≡ over (counted j most) (now (table .entry)) (drop a (take e (numbersOf reg))) ⌝ }
 {
     let mut k = a;
     while k < e {
-        bump(table, j, most, Reg(reg[k]));
+        let r = reg[k];
+        bump(table, j, most, r);
         k += 1;
     }
 }

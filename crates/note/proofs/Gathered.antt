@@ -1,18 +1,14 @@
 -- Laws of `notes`: one instruction more, and the end. And `note` asks of its facts the kinds and the constants alone.
-use Prim.Native.Nat.{ℕ, suc, _+_, _/_, _≤_, _<_}
+use Prim.Native.Nat.{ℕ, suc, _+_, _≤_, _<_}
 use native.Mathlib.Numerals.{add-one}
 use mathlib.Core.Path.{_≡_, refl, sym, ap, _∙_}
 use mathlib.Core.List.{List, [], _∷_}
 use mathlib.Core.Option.{Option, none}
-use lib.ListN.{length, getD, drop, drop-of-length-le, List·getD-map}
+use lib.ListN.{length, getD, drop, drop-of-length-le}
 use lib.Seq.{drop-cons}
-use Rattle.format.specs.declared.Record.{Record}
-use Rattle.format.specs.Record.{recordsOf, recordAt, blank}
 use Rattle.inst.specs.declared.Inst.{Inst}
 use Rattle.inst.specs.declared.Inst.the-variants as i
 use Rattle.inst.specs.declared.Code.{Code}
-use Rattle.codec.specs.Codec.{instOf, codeOf}
-use Rattle.procedure.specs.Procedure.{codesOf}
 use Rattle.roles.specs.Roles.{defsOf}
 use Rattle.ends.specs.Forms.{formOf}
 use Rattle.steps.specs.Facts.{Facts}

@@ -7,13 +7,13 @@ use mathlib.Core.List.{List, [], _∷_}
 use mathlib.Core.Option.{Option, none}
 use borrow.Author.Tests.{ne-eqb}
 use lib.Dec.{eqb}
-use lib.ListN.{length, getD, take, length-take, length-append}
+use lib.ListN.{length, getD, take, length-take}
 use Rattle.inst.specs.declared.BoolOp.{BoolOp}
 use Rattle.inst.specs.declared.BoolOp.the-variants as o
 use Rattle.inst.specs.declared.Inst.{Inst}
 use Rattle.roles.specs.declared.Roles.{Roles}
-use Rattle.roles.specs.Roles.{rolesOf, defsOf, usesOf}
-use Rattle.roles.proofs.Laws.{defs-few, defs-first}
+use Rattle.roles.specs.Roles.{rolesOf, defsOf, regOf, numbersOf}
+use Rattle.roles.proofs.Laws.{numbers-length, number-at, reg-five, defs-few, defs-first}
 use Rattle.word.specs.Word.{bit, holds, tests}
 use Rattle.steps.specs.Note.{Known, nothing, forget, forgetAll, boolOf, alike}
 use Rattle.facts.specs.Storage.{kindsIn, factsIn}
@@ -67,33 +67,42 @@ more-than-two (x ∷ []) k h = absurd (omega arith)
 more-than-two (x ∷ (y ∷ [])) k h = absurd (omega arith)
 more-than-two (x ∷ (y ∷ (w ∷ l))) k h = refl
 
-five : (i : Inst) → length (rolesOf i .reg) ≡ 5
-unfolding rolesOf
-five i = simp (length-take, length-append) (omega arith)
-
 -- forgetting what an instruction writes, by its roles
 module _ (i : Inst) {q : Roles} (e : q ≡ rolesOf i) (k : Known) where
-  written : forgetAll (defsOf i) k ≡ forgetAll (take (q .defs) (q .reg)) k
-  written = ap (λ (l : List ℕ). forgetAll l k) (sym (ap (λ (p : Roles). take (p .defs) (p .reg)) e ∙ defs-first i))
+  abbrev regs : List ℕ
+  regs = numbersOf (q .reg)
 
-  long : length (q .reg) ≡ 5
-  long = ap (λ (p : Roles). length (p .reg)) e ∙ five i
+  abbrev reg : ℕ → ℕ
+  reg n = getD (q .reg) n (regOf 0) .0
+
+  written : forgetAll (defsOf i) k ≡ forgetAll (take (q .defs) regs) k
+  written = ap (λ (l : List ℕ). forgetAll l k) (sym (ap (λ (p : Roles). take (p .defs) (numbersOf (p .reg))) e ∙ defs-first i))
+
+  long : length regs ≡ 5
+  long = numbers-length (q .reg) ∙ ap (λ (p : Roles). length (p .reg)) e ∙ reg-five i
 
   few : q .defs ≤ 5
   few = rw e (defs-few i)
 
   pub writes-none : q .defs ≡ 0 → forgetAll (defsOf i) k ≡ k
   unfolding forgetAll
-  writes-none h = written ∙ ap (λ (n : ℕ). forgetAll (take n (q .reg)) k) h
+  writes-none h = written ∙ ap (λ (n : ℕ). forgetAll (take n regs) k) h
 
-  pub writes-one : q .defs ≡ 1 → forgetAll (defsOf i) k ≡ forget (getD (q .reg) 0 0) k
-  writes-one h = written ∙ ap (λ (n : ℕ). forgetAll (take n (q .reg)) k) h ∙ first-one (q .reg) k (let l = long in omega arith)
+  pub writes-one : q .defs ≡ 1 → forgetAll (defsOf i) k ≡ forget (reg 0) k
+  writes-one h =
+      written
+      ∙ ap (λ (n : ℕ). forgetAll (take n regs) k) h
+      ∙ first-one regs k (let l = long in omega arith)
+      ∙ ap (λ (r : ℕ). forget r k) (number-at (q .reg) 0 0)
 
-  pub writes-two : (q .defs ≡ 0 → ⊥) → q .defs ≤ 2 → (q .defs ≡ 1 → ⊥) →
-      forgetAll (defsOf i) k ≡ forget (getD (q .reg) 1 0) (forget (getD (q .reg) 0 0) k)
+  pub writes-two : (q .defs ≡ 0 → ⊥) → q .defs ≤ 2 → (q .defs ≡ 1 → ⊥) → forgetAll (defsOf i) k ≡ forget (reg 1) (forget (reg 0) k)
   writes-two h m j =
       let two : q .defs ≡ 2 = omega arith in
-      written ∙ ap (λ (n : ℕ). forgetAll (take n (q .reg)) k) two ∙ first-two (q .reg) k (let l = long in omega arith)
+      written
+      ∙ ap (λ (n : ℕ). forgetAll (take n regs) k) two
+      ∙ first-two regs k (let l = long in omega arith)
+      ∙ ap (λ (r : ℕ). forget r (forget (getD regs 0 0) k)) (number-at (q .reg) 1 0)
+      ∙ ap (λ (r : ℕ). forget (reg 1) (forget r k)) (number-at (q .reg) 0 0)
 
   pub writes-many : 2 < q .defs → forgetAll (defsOf i) k ≡ nothing
-  writes-many h = written ∙ more-than-two (take (q .defs) (q .reg)) k (let l = long in let f = few in simp length-take (omega arith))
+  writes-many h = written ∙ more-than-two (take (q .defs) regs) k (let l = long in let f = few in simp length-take (omega arith))

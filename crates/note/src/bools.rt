@@ -1,5 +1,4 @@
 ghost use mathlib.Core.Path.{_≡_};
-ghost use mathlib.Core.Option.{some};
 ghost use Rattle.word.specs.Word.{bit as bitOf, tests};
 ghost use Rattle.steps.specs.Note.{boolOfOne, boolOf};
 ghost use Rattle.facts.specs.Storage.{wordIn};

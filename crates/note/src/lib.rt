@@ -11,7 +11,6 @@ ghost use Rattle.entries.specs.Storage.{heldIn, NoMore};
 ghost use Rattle.note.specs.Noted.{Roomy, OneMore, enough, notedIn};
 use entries::Held;
 use inst::Inst;
-use inst::Reg;
 
 mod bools;
 mod learn;
@@ -36,11 +35,13 @@ fn forget_all(known: &mut [u64], copy: &mut [u32], h: Held, i: Inst) -> Held
     if 2 < defs {
         return Held { known: 0, copy: 0 };
     }
-    let one = entries::forget(known, copy, h, Reg(reg[0]));
+    let r = reg[0];
+    let one = entries::forget(known, copy, h, r);
     if defs == 1 {
         return one;
     }
-    entries::forget(known, copy, one, Reg(reg[1]))
+    let s = reg[1];
+    entries::forget(known, copy, one, s)
 }
 
 // What is known after an instruction: what it writes is forgotten, then Const, Move and Bool are learnt.

@@ -3,6 +3,7 @@ use native.Mathlib.Omega.{arith}
 use native.Mathlib.Nat.{le-trans}
 use mathlib.Core.Path.{sym, ap, _∙_}
 use lib.ListN.{getD}
+use Rattle.roles.specs.Roles.{regOf}
 use Rattle.steps.specs.Note.{forget}
 use Rattle.entries.specs.Storage.{heldIn}
 use Rattle.entries.proofs.Laws.{held-eq, entries-zero}
@@ -29,8 +30,8 @@ returns-2 c =
     let many = writes-many (a .i) (c .before .before .before .roles-of .ensures) k (c .if2 .taken) in
     (none ∙ sym many, record { known-le = omega arith; copy-le = omega arith })
 
-array-read-t16 : tie.Need-array-read-t16
-array-read-t16 c = search needs
+array-copy-out-r : tie.Need-array-copy-out-r
+array-copy-out-r c = search needs
 
 forget-requires : tie.Need-forget-requires
 forget-requires c κs = search needs
@@ -45,13 +46,13 @@ returns-3 : tie.Need-returns-3
 returns-3 c =
     let c5 = c .before .before .before .before .before in
     let c10 = c5 .before .before .before .before .before in
-    let a = c10 .before .before .before .before .args in
+    let a = c10 .before .before .before .before .before .args in
     let k = heldIn (a .h) (now (a .known)) (now (a .copy)) in
     let f = c5 .forget .ensures in
-    (f .0 ∙ sym (writes-one (a .i) (c10 .before .roles-of .ensures) k (c .if3 .taken)), f .1)
+    (f .0 ∙ sym (writes-one (a .i) (c10 .before .before .roles-of .ensures) k (c .if3 .taken)), f .1)
 
-array-read-t16-2 : tie.Need-array-read-t16-2
-array-read-t16-2 c = search needs
+array-copy-out-s : tie.Need-array-copy-out-s
+array-copy-out-s c = search needs
 
 forget-requires-2 : tie.Need-forget-requires-2
 forget-requires-2 c κs = search needs
@@ -68,13 +69,14 @@ returns-4 c =
     let c10 = c5 .before .before .before .before .before in
     let c15 = c10 .before .before .before .before .before in
     let c20 = c15 .before .before .before .before .before in
-    let a = c20 .before .args in
+    let a = c20 .before .before .before .args in
     let k = heldIn (a .h) (now (a .known)) (now (a .copy)) in
-    let q = c15 .before .before .before .roles-of in
-    let f = c10 .before .before .forget .ensures in
+    let q = c20 .roles-of in
+    let f = c10 .before .before .before .forget .ensures in
     let g = c .before .before .before .before .forget2 .ensures in
-    let two = writes-two (a .i) (q .ensures) k (c15 .before .if1 .left) (c15 .if2 .left) (c5 .before .before .if3 .left) in (
-      g .0 ∙ ap (forget (getD (q .result .reg) 1 0)) (f .0) ∙ sym two,
+    let b = c15 .before .before in
+    let two = writes-two (a .i) (q .ensures) k (b .before .if1 .left) (b .if2 .left) (c5 .before .before .before .if3 .left) in (
+      g .0 ∙ ap (forget (getD (q .result .reg) 1 (regOf 0) .0)) (f .0) ∙ sym two,
       record { known-le = le-trans (g .1 .known-le) (f .1 .known-le); copy-le = le-trans (g .1 .copy-le) (f .1 .copy-le) },
     )
 
@@ -85,12 +87,12 @@ forget-all-spec =
     roles-of-requires
     returns
     returns-2
-    array-read-t16
+    array-copy-out-r
     forget-requires
     same-length
     same-length-2
     returns-3
-    array-read-t16-2
+    array-copy-out-s
     forget-requires-2
     same-length-3
     same-length-4

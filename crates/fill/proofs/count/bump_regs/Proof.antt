@@ -1,8 +1,10 @@
 use native.Mathlib.Omega.{arith}
-use Prim.Native.Nat.{_-_, _≤_, _<_}
+use Prim.Native.Nat.{_-_}
 use mathlib.Core.Path.{_≡_, refl, sym, ap, _∙_}
 use lib.ListN.{length, take, drop}
 use lib.Seq.{length-take-le, getD-take}
+use Rattle.roles.specs.Roles.{numbersOf}
+use Rattle.roles.proofs.Laws.{numbers-length, number-at}
 use Rattle.fill.specs.Filling.{counted, over}
 use Rattle.fill.proofs.Laws.{over-again, over-done}
 use borrow.Author.Needs.{needs}
@@ -11,7 +13,7 @@ use Rattle.fill.proofs.count.bump_regs.Tie as tie
 
 abbrev Inv-loop : tie.InvT-loop
 Inv-loop table₀ j most a e reg k₀ table k =
-    (over (counted j most) table (drop k (take e reg)) ≡ over (counted j most) table₀ (drop a (take e reg)))
+    (over (counted j most) table (drop k (take e (numbersOf reg))) ≡ over (counted j most) table₀ (drop a (take e (numbersOf reg))))
     × ((length reg ≡ 5) × (length table ≡ length table₀))
 
 abbrev μ-loop : tie.MeasureT-loop
@@ -20,11 +22,11 @@ abbrev μ-loop : tie.MeasureT-loop
 loop-holds : tie.Need-loop-holds Inv-loop μ-loop
 loop-holds c = (refl, (search needs, refl))
 
-mul-t13 : tie.Need-mul-t13 Inv-loop μ-loop
-mul-t13 c = search needs
+mul-r : tie.Need-mul-r Inv-loop μ-loop
+mul-r c = search needs
 
-array-read-t16 : tie.Need-array-read-t16 Inv-loop μ-loop
-array-read-t16 c = search needs
+array-copy-out-r : tie.Need-array-copy-out-r Inv-loop μ-loop
+array-copy-out-r c = search needs
 
 bump-requires : tie.Need-bump-requires Inv-loop μ-loop
 bump-requires c κs = search needs
@@ -37,12 +39,14 @@ loop-less c = search needs
 
 loop-again : tie.Need-loop-again Inv-loop μ-loop
 loop-again c =
-    let l = c .before .before .before .before .before in
+    let l = c .before .before .before .before .before .before in
     let a = l .before .before .args in
     let step = counted (a .j) (a .most) in
-    let in-fields : l .loop .k < length (take (a .e) (a .t4)) = rw (length-take-le (a .e) (a .t4) (omega arith)) (omega arith) in
-    let one = c .before .before .bump .ensures ∙ ap (step (l .loop .table)) (sym (getD-take (a .e) (a .t4) (l .loop .k) 0 (omega arith))) in
-    (over-again step (take (a .e) (a .t4)) (l .loop .k) 0 in-fields one (l .loop .inv .0), (l .loop .inv .1 .0, search needs))
+    let regs = numbersOf (a .t4) in
+    let fit = length-take-le (a .e) regs (let z = numbers-length (a .t4) in omega arith) in
+    let at = getD-take (a .e) regs (l .loop .k) 0 (omega arith) ∙ number-at (a .t4) (l .loop .k) 0 in
+    let one = c .before .before .bump .ensures ∙ ap (step (l .loop .table)) (sym at) in
+    (over-again step (take (a .e) regs) (l .loop .k) 0 (rw fit (omega arith)) one (l .loop .inv .0), (l .loop .inv .1 .0, search needs))
 
 same-length : tie.Need-same-length Inv-loop μ-loop
 same-length c = search needs
@@ -51,8 +55,9 @@ returns : tie.Need-returns Inv-loop μ-loop
 returns c =
     let l = c .before in
     let a = l .before .before .args in
-    let past : length (take (a .e) (a .t4)) ≤ l .loop .k = rw (length-take-le (a .e) (a .t4) (omega arith)) (omega arith) in
-    over-done (counted (a .j) (a .most)) (take (a .e) (a .t4)) (l .loop .k) past (l .loop .inv .0)
+    let regs = numbersOf (a .t4) in
+    let fit = length-take-le (a .e) regs (let z = numbers-length (a .t4) in omega arith) in
+    over-done (counted (a .j) (a .most)) (take (a .e) regs) (l .loop .k) (rw fit (omega arith)) (l .loop .inv .0)
 
 pub bump-regs-spec : {M : Type 1} → statement M
 bump-regs-spec =
@@ -61,8 +66,8 @@ bump-regs-spec =
     Inv-loop
     μ-loop
     loop-holds
-    mul-t13
-    array-read-t16
+    mul-r
+    array-copy-out-r
     bump-requires
     add-k
     loop-less
