@@ -22,7 +22,6 @@ use Rattle.blocks.specs.Blocks.{blocksOf, blockBytes}
 use Rattle.blocks.specs.Rewrite.{frontBytes, endRewritten}
 use Rattle.blocks.proofs.Parts.{block-codes}
 use Rattle.blocks.proofs.Rewrites.{front-codes}
-use Rattle.steps.specs.Facts.{Facts}
 use Rattle.steps.specs.Note.{Known, nothing, notes, sourceOf, valueOf}
 use Rattle.steps.specs.Thread.{matching, armOf}
 use Rattle.facts.specs.Storage.{factsIn}

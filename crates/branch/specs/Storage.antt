@@ -15,7 +15,7 @@ use Rattle.blocks.specs.Blocks.{blocksOf}
 use Rattle.blocks.specs.Rewrite.{endRewritten}
 use Rattle.steps.specs.Facts.{Facts}
 use Rattle.steps.specs.Note.{Known, nothing, notes, sourceOf, valueOf}
-use Rattle.steps.specs.Thread.{armOf, unthreaded}
+use Rattle.steps.specs.Thread.{Work, Hop, stay, last, next, armOf, unthreaded}
 use Rattle.facts.specs.Storage.{factsIn}
 use Rattle.note.specs.Noted.{enough}
 use Rattle.branch.specs.declared.Pause.{Pause}
@@ -79,3 +79,15 @@ module _ (table : List ℕ) (a : ℕ) where
       let f = factsIn facts body 0 in
       decideFromIn f code body c t e (notes f nothing (before code))
   turnedIn facts body code c t e false = turned code u.Stay
+
+-- what the definition sees of them
+abbrev pub workIn : List ℕ → List ℕ → List ℕ → ℕ → Bool → Work
+workIn table code kinds grown edited = record { blocks = blocksOf code table; kinds = kinds; grown = grown; edited = edited }
+
+abbrev pub hopOf : Turn → Work → Hop
+hopOf u.Stay w = stay
+hopOf u.Last w = last w
+hopOf u.Next w = next w
+
+abbrev pub hopIn : List ℕ → List ℕ → ℕ → Turned → Hop
+hopIn table kinds grown s = hopOf (s .turn) (workIn table (s .code) kinds grown true)

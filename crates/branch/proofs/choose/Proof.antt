@@ -1,5 +1,3 @@
-use mathlib.Core.Path.{_≡_, refl, sym, ap}
-use Prim.Native.Nat.{ℕ, zero, suc}
 use Rattle.branch.proofs.Turns.{taken, not-taken}
 use Rattle.branch.proofs.choose.Statement.{statement}
 use Rattle.branch.proofs.choose.Tie as tie
