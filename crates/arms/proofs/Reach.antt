@@ -62,7 +62,7 @@ end-named [] h = tt
 end-named (x ∷ []) h = view-named (x .inst) (h 0 .inst)
 end-named (x ∷ (y ∷ c)) h = end-named (y ∷ c) (λ j. h (suc j))
 
-lone-named : (c : List Code) → ((j : ℕ) → InRange (codeAt c j)) → Named (loneOf c)
+pub lone-named : (c : List Code) → ((j : ℕ) → InRange (codeAt c j)) → Named (loneOf c)
 lone-named [] h = tt
 lone-named (x ∷ []) h = view-named (x .inst) (h 0 .inst)
 lone-named (x ∷ (y ∷ c)) h = tt

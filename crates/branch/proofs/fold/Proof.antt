@@ -1,0 +1,32 @@
+use mathlib.Core.Path.{ap, _∙_}
+use mathlib.Core.List.{List}
+use Prim.Native.Nat.{ℕ}
+use denote.Ref.{now}
+use Rattle.format.specs.Record.{recordAt}
+use Rattle.inst.specs.declared.BlockId.{BlockId}
+use Rattle.inst.specs.declared.Inst.the-variants as i
+use Rattle.blocks.specs.Rewrite.{endRewritten}
+use Rattle.branch.specs.declared.Turn.the-variants as u
+use Rattle.branch.specs.Storage.{turned}
+use borrow.Author.Needs.{needs}
+use Rattle.branch.proofs.fold.Statement.{statement}
+use Rattle.branch.proofs.fold.Tie as tie
+
+choose-requires : tie.Need-choose-requires
+choose-requires c κs = search needs
+
+rewrite-end-requires : tie.Need-rewrite-end-requires
+rewrite-end-requires c κs = search needs
+
+same-length : tie.Need-same-length
+same-length c = search needs
+
+returns : tie.Need-returns
+returns c =
+    let x = c .before .before .before in
+    let a = x .before .before .before .before .args in
+    ap (λ (b : List ℕ). turned b u.Next) (c .before .before .rewrite-end .ensures)
+    ∙ ap (λ (b : BlockId). turned (endRewritten (now (a .code)) (recordAt (now (a .table)) (a .a)) (i.Br b)) u.Next) (x .choose .ensures)
+
+pub fold-spec : {M : Type 1} → statement M
+fold-spec = tie.close (tie.spec choose-requires rewrite-end-requires same-length returns)
