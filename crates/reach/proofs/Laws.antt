@@ -8,8 +8,8 @@ use mathlib.Core.List.{List, [], _∷_, _++_, map}
 use mathlib.Core.Logic.{_⊎_, inl, inr, ⊎-elim}
 use borrow.Author.Tests.{eqb-true, eq-eqb, ne-eqb}
 use lib.Dec.{eqb}
-use lib.ListN.{length, getD, replicate, length-map, List·getD-append, List·getD-eq-default}
-use lib.Seq.{take-all}
+use lib.ListN.{length, getD, take, replicate, length-map, List·getD-append, List·getD-eq-default}
+use lib.Seq.{take-all, take-at}
 use Rattle.general.proofs.Booleans.{cases, and-first, and-second}
 use Rattle.general.proofs.Numbers.{order}
 use Rattle.format.specs.declared.Record.{Record}
@@ -25,6 +25,7 @@ use Rattle.ends.specs.declared.End.{End}
 use Rattle.ends.specs.declared.End.the-variants as e
 use Rattle.ends.specs.Ends.{endOf}
 use Rattle.blocks.specs.Blocks.{blocksOf}
+use Rattle.blocks.proofs.Parts.{length-blocks}
 use Rattle.steps.specs.Emit.{armTargets, leads, edgesOf, reached}
 use Rattle.reach.specs.Reached.{targetsIn, leadsIn, edgesIn, marksOf, seenIn}
 use Rattle.reach.proofs.Search.{clear-past}
@@ -185,17 +186,27 @@ module _ (code table arms : List ℕ) (few : length table / 32 ≤ 160) (right :
   abbrev wanted : List Bool
   wanted = reached (tablesFrom [] (recordsOf arms)) (blocksOf code table)
 
-  pub seen-is : seenIn code table arms ≡ wanted ++ replicate (160 - length table / 32) false
+  abbrev past : List Bool
+  past = replicate (160 - length table / 32) false
+
+  pub seen-is : seenIn code table arms ≡ wanted ++ past
   unfolding seenIn
   seen-is =
       let n = length-edges code table arms in
       ap marksOf (take-all 160 (edgesIn code table arms) (omega arith))
       ∙ ap (λ (k : ℕ). reachedFrom (edgesIn code table arms) 0 ++ replicate (160 - k) false) n
-      ∙ ap (λ (m : List Bool). m ++ replicate (160 - length table / 32) false) (same-marks (recordsOf arms) right (blocksOf code table))
-
-  abbrev past : List Bool
-  past = replicate (160 - length table / 32) false
+      ∙ ap (λ (m : List Bool). m ++ past) (same-marks (recordsOf arms) right (blocksOf code table))
 
   pub mark-is : (k : ℕ) → getD (seenIn code table arms) k false ≡ getD wanted k false
   mark-is k = ap (λ (m : List Bool). getD m k false) seen-is ∙ ⊎-elim (λ (h : k < length wanted). List·getD-append wanted past false k h)
       (λ (h : length wanted ≤ k). clear-past wanted (160 - length table / 32) k h ∙ sym (List·getD-eq-default wanted false h)) (order k (length wanted))
+
+  wanted-length : length wanted ≡ length table / 32
+  unfolding reached
+  wanted-length =
+      length-reached (edgesOf (tablesFrom [] (recordsOf arms)) (blocksOf code table)) 0
+      ∙ length-map (blocksOf code table) (λ c. leads (tablesFrom [] (recordsOf arms)) (endOf c))
+      ∙ length-blocks code table
+
+  pub first-marks : take (length table / 32) (seenIn code table arms) ≡ wanted
+  first-marks = ap (take (length table / 32)) seen-is ∙ take-at wanted past (length table / 32) wanted-length

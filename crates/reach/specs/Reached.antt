@@ -13,7 +13,7 @@ use Rattle.ends.specs.declared.End.the-variants as e
 use Rattle.ends.specs.Ends.{endOf}
 use Rattle.blocks.specs.Blocks.{blocksOf}
 
--- "Arm: p1 table, .. p6 target. Kind 1 is the default": the targets of table n, up to its default
+-- "Arm: p1 table, .. p6 target; kind 1 is the default": the targets of table n, up to its default
 unfoldable pub targetsIn : ℕ → List Record → List ℕ
 targetsIn n [] = []
 targetsIn n (r ∷ rs) = cond (eqb (r .p1) n) (r .p6 ∷ cond (isDefault r) [] (targetsIn n rs)) (targetsIn n rs)
@@ -29,7 +29,7 @@ leadsIn arms e.Other = []
 abbrev pub edgesIn : List ℕ → List ℕ → List ℕ → List (List ℕ)
 edgesIn code table arms = map (λ c. leadsIn (recordsOf arms) (endOf c)) (blocksOf code table)
 
--- one mark for each of 160 places; those past the last block are clear
+-- "one mark for each of 160 blocks, all clear at the start": those past the last block stay clear
 abbrev pub marksOf : List (List ℕ) → List Bool
 marksOf edges = reachedFrom edges 0 ++ replicate (160 - length edges) false
 

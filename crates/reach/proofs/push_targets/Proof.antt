@@ -1,9 +1,5 @@
-use mathlib.Core.Path.{sym, ap, _∙_}
-use denote.Ref.{now}
-use Rattle.format.specs.Record.{recordsOf}
-use Rattle.ends.specs.declared.End.{End}
-use Rattle.reach.specs.Reached.{leadsIn}
-use Rattle.reach.specs.Search.{Search, searchOf, pushed, pushedAll}
+use mathlib.Core.Path.{ap, _∙_}
+use Rattle.reach.specs.Search.{Search, pushed, pushedAll}
 use borrow.Author.Needs.{needs}
 use Rattle.reach.proofs.push_targets.Statement.{statement}
 use Rattle.reach.proofs.push_targets.Tie as tie
@@ -34,43 +30,25 @@ enum-told c = search needs
 
 returns : tie.Need-returns
 unfolding pushedAll
-returns c =
-    let b = c .before .before .before .before .before in
-    let a = b .before .before .args in
-    let s = searchOf (now (a .seen)) (now (a .stack)) (a .top) in
-    let all : End → Search = λ e. pushedAll (a .nb) s (leadsIn (recordsOf (now (a .arms))) e) in
-    (c .push .ensures .0, c .push .ensures .1 ∙ sym (ap all (c .before .before .before .before .e .given .1)))
+returns c = (c .push .ensures .0, rw (c .before .before .before .before .e .given .1) (c .push .ensures .1))
 
 returns-2 : tie.Need-returns-2
 unfolding pushedAll
 returns-2 c =
-    let b = c .before .before .before .before .before .before .before .before in
-    let a = b .before .before .args in
-    let s = searchOf (now (a .seen)) (now (a .stack)) (a .top) in
-    let all : End → Search = λ e. pushedAll (a .nb) s (leadsIn (recordsOf (now (a .arms))) e) in
     let p = c .before .before .before .push2 in
-    let f = c .before .before .before .before .before .before .before .e2 .given in (
+    let b = c .before .before .before .before .before .before .before in
+    let f = b .e2 .given in
+    let nb = b .before .before .before .args .nb in (
       c .push3 .ensures .0,
-      c .push3 .ensures .1 ∙ ap (λ (t : Search). pushed (a .nb) t (f .0 .1 .1 .0 .0)) (p .ensures .1) ∙ sym (ap all (f .1)),
+      rw (f .1) (c .push3 .ensures .1 ∙ ap (λ (t : Search). pushed nb t (f .0 .1 .1 .0 .0)) (p .ensures .1)),
     )
 
 returns-3 : tie.Need-returns-3
-unfolding pushedAll
-returns-3 c =
-    let b = c .before .before .before .before .before in
-    let a = b .before .before .args in
-    let s = searchOf (now (a .seen)) (now (a .stack)) (a .top) in
-    let all : End → Search = λ e. pushedAll (a .nb) s (leadsIn (recordsOf (now (a .arms))) e) in
-    (c .push-arms .ensures .0, c .push-arms .ensures .1 ∙ sym (ap all (c .before .before .before .before .e3 .given .1)))
+returns-3 c = (c .push-arms .ensures .0, rw (c .before .before .before .before .e3 .given .1) (c .push-arms .ensures .1))
 
 returns-4 : tie.Need-returns-4
 unfolding pushedAll
-returns-4 c =
-    let b = c .before in
-    let a = b .before .before .args in
-    let s = searchOf (now (a .seen)) (now (a .stack)) (a .top) in
-    let all : End → Search = λ e. pushedAll (a .nb) s (leadsIn (recordsOf (now (a .arms))) e) in
-    (b .before .before .pre, sym (ap all (c .enum-told .given .1)))
+returns-4 c = (c .before .before .before .pre, rw (c .enum-told .given .1))
 
 pub push-targets-spec : {M : Type 1} → statement M
 push-targets-spec =
