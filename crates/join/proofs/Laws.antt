@@ -1,18 +1,22 @@
 -- Laws of the tests before a copy.
 use Prim.Native.Nat.{ℕ, _+_, _≤_, _<_}
-use mathlib.Core.Path.{_≡_, ap, _∙_}
-use mathlib.Core.Bool.{Bool, true, false, _&&_, not}
-use mathlib.Core.List.{List, _++_}
+use mathlib.Core.Path.{_≡_, refl, sym, ap, _∙_}
+use mathlib.Core.Bool.{Bool, true, false, _&&_, _||_, not}
+use mathlib.Core.List.{List, [], _++_}
+use mathlib.Core.Option.{Option}
 use borrow.Author.Tests.{eq-eqb, ne-eqb, lt-ltb, le-ltb}
 use lib.ListN.{length, getD, take, drop}
 use lib.Seq.{getD-take, length-take-le}
-use Rattle.general.proofs.Booleans.{either, otherwise}
 use Rattle.inst.specs.declared.Reg.{Reg}
+use Rattle.inst.specs.declared.Code.{Code}
 use Rattle.inst.specs.declared.Inst.{Inst}
 use Rattle.roles.specs.declared.Roles.{Roles}
 use Rattle.roles.specs.Roles.{rolesOf, defsOf, usesOf, numbersOf, regOf}
 use Rattle.roles.proofs.Laws.{numbers-length, number-at, all-fields}
 use Rattle.procedure.specs.Lists.{anyOf, present, holds}
+use Rattle.procedure.specs.Procedure.{codesOf}
+use Rattle.blocks.specs.Blocks.{blocksOf, blockBytes}
+use Rattle.blocks.proofs.Parts.{block-codes}
 use Rattle.steps.specs.Small.{readsKonst}
 use Rattle.steps.specs.Facts.{Facts}
 use Rattle.steps.specs.Gate.{copied}
@@ -45,27 +49,40 @@ pub fields : (p : ℕ → Bool) (x : Inst) {q : Roles} → q ≡ rolesOf x
 fields p x e = ap (λ (q : Roles). anyOf p (take (q .n) (numbersOf (q .reg)))) e ∙ ap (anyOf p) (all-fields x)
 
 -- the tests before a copy, in their order
+tests : {s s′ b b′ k k′ g g′ n n′ : Bool} → s′ ≡ s → b′ ≡ b → k′ ≡ k → g′ ≡ g → n ≡ n′ → (s || b || k || g || n) ≡ (s′ || b′ || k′ || g′ || n′)
+tests e₁ e₂ e₃ e₄ e₅ = rw (e₁, e₂, e₃, e₄, ← e₅)
+
 module _ (f : Facts) (w : Work) (a l : ℕ) where
   pub stop-self : l ≡ a → true ≡ stops f w a l
   unfolding stops
-  stop-self e = either _ (eq-eqb l a e)
+  stop-self e = tests (eq-eqb l a e) refl refl refl refl
 
   module _ (self : l ≡ a → ⊥) where
     pub stop-body : holds (f .body) l ≡ true → true ≡ stops f w a l
     unfolding stops
-    stop-body e = otherwise (ne-eqb l a self) (either _ e)
+    stop-body e = tests (ne-eqb l a self) e refl refl refl
 
     module _ (body : holds (f .body) l ≡ false) where
       pub stop-konst : (present (f .body) && readsKonst (f .konst) (blockAt w l)) ≡ true → true ≡ stops f w a l
       unfolding stops
-      stop-konst e = otherwise (ne-eqb l a self) (otherwise body (either _ e))
+      stop-konst e = tests (ne-eqb l a self) body e refl refl
 
       module _ (konst : (present (f .body) && readsKonst (f .konst) (blockAt w l)) ≡ false) where
         pub stop-grown : f .budget < w .grown → true ≡ stops f w a l
         unfolding stops
-        stop-grown h = otherwise (ne-eqb l a self) (otherwise body (otherwise konst (either _ (lt-ltb (f .budget) (w .grown) h))))
+        stop-grown h = tests (ne-eqb l a self) body konst (lt-ltb (f .budget) (w .grown) h) refl
 
         pub stop-last : w .grown ≤ f .budget → {x : Bool} → x ≡ not (copied (present (f .body)) (w .blocks) l) → x ≡ stops f w a l
         unfolding stops
-        stop-last h e =
-            otherwise (ne-eqb l a self) (otherwise body (otherwise konst (otherwise (le-ltb (f .budget) (w .grown) h) e)))
+        stop-last h e = tests (ne-eqb l a self) body konst (le-ltb (f .budget) (w .grown) h) e
+
+-- block l of a process, by its bytes
+pub block-named : (code table : List ℕ) (l : ℕ) (konst : ℕ → Bool) (body : Option ℕ) {z wide v : Bool} {b : List ℕ}
+    → wide ≡ present body → b ≡ blockBytes code table l → z ≡ (wide && readsKonst konst (codesOf b)) → z ≡ v
+    → (present body && readsKonst konst (getD (blocksOf code table) l [])) ≡ v
+block-named code table l konst body {b = b} e f g h =
+    ap (λ (c : List Code). present body && readsKonst konst c) (sym (block-codes code table l))
+    ∙ ap (λ (x : List ℕ). present body && readsKonst konst (codesOf x)) (sym f)
+    ∙ ap (λ (t : Bool). t && readsKonst konst (codesOf b)) (sym e)
+    ∙ sym g
+    ∙ h
