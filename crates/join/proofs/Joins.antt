@@ -4,7 +4,7 @@ use native.Mathlib.Numerals.{add-one}
 use native.Mathlib.Omega.{arith}
 use mathlib.Core.Path.{_≡_, refl, sym, ap, _∙_}
 use mathlib.Core.List.{List, [], _∷_, map}
-use mathlib.Core.Option.{none}
+use mathlib.Core.Option.{Option}
 use lib.ListN.{length, getD, take, drop, set, length-set, length-map, length-take, drop-of-length-le, List·getD-map}
 use lib.Seq.{drop-cons, getD-take, length-take-le, set-out}
 use Rattle.inst.specs.declared.Reg.{Reg}
@@ -62,31 +62,31 @@ replaced-by a c s {work} moved popped pushed =
     ∙ ap (λ (x : Topped). pushAll a c (arena work (x .table) (x .top))) popped
     ∙ ap (λ (x : Arena). pushAll a c (cut a x)) moved
 
-module _ (facts : List ℕ) (l fresh : ℕ) (s : Arena) (z : Copied) {m : ℕ} {b : List ℕ} (next : m ≡ nextIn facts fresh)
+module _ (facts : List ℕ) (body : Option ℕ) (budget l fresh : ℕ) (s : Arena) (z : Copied) {m : ℕ} {b : List ℕ} (next : m ≡ nextIn facts fresh)
     (bytes : b ≡ blockBytes (s .work) (s .table) l) (copy : CopyOf facts (take 4 (codesOf b)) m z)
   where
-    pub code-is : codesIn z ≡ copyIn facts fresh (targetIn s l)
+    pub code-is : codesIn z ≡ copyIn facts body budget fresh (targetIn s l)
     code-is =
-        copy .code none 0
-        ∙ ap (λ (x : List ℕ). copyOf (factsIn facts none 0) (take 4 (codesOf x)) m) bytes
-        ∙ ap (copyOf (factsIn facts none 0) (targetIn s l)) next
+        copy .code body budget
+        ∙ ap (λ (x : List ℕ). copyOf (factsIn facts body budget) (take 4 (codesOf x)) m) bytes
+        ∙ ap (copyOf (factsIn facts body budget) (targetIn s l)) next
 
-    pub kinds-are : map (λ (d : ℕ). getD (kindsIn facts) d 0) (oldsIn z) ≡ givenIn facts (targetIn s l)
-    kinds-are = copy .kinds none 0 ∙ ap (λ (x : List ℕ). kindsOf (factsIn facts none 0) (take 4 (codesOf x))) bytes
+    pub kinds-are : map (λ (d : ℕ). getD (kindsIn facts) d 0) (oldsIn z) ≡ givenIn facts body budget (targetIn s l)
+    kinds-are = copy .kinds body budget ∙ ap (λ (x : List ℕ). kindsOf (factsIn facts body budget) (take 4 (codesOf x))) bytes
 
-    n-is : z .n ≡ length (copyIn facts fresh (targetIn s l))
+    n-is : z .n ≡ length (copyIn facts body budget fresh (targetIn s l))
     n-is = sym (length-take-le (z .n) (z .code) (rw (copy .four .code) (copy .n-le))) ∙ ap length code-is
 
     few : z .fresh ≤ length (numbersOf (z .old))
     few = omega (arith, copy .fresh-le, copy .n-le, copy .four .old, numbers-length (z .old))
 
-    fresh-is : z .fresh ≡ length (givenIn facts (targetIn s l))
+    fresh-is : z .fresh ≡ length (givenIn facts body budget (targetIn s l))
     fresh-is =
         sym (length-map (oldsIn z) (λ (d : ℕ). getD (kindsIn facts) d 0) ∙ length-take-le (z .fresh) (numbersOf (z .old)) few)
         ∙ ap length kinds-are
 
     pub joins : (a : ℕ) (kinds : List ℕ) {kinds′ : List ℕ} {t : Arena} → t ≡ replaced a (codesIn z) s
         → kinds′ ≡ kindsPut kinds fresh (map (λ (d : ℕ). getD (kindsIn facts) d 0) (oldsIn z))
-        → left t kinds′ (z .n) (z .fresh) ≡ joinOf facts a l fresh s kinds
+        → left t kinds′ (z .n) (z .fresh) ≡ joinOf facts body budget a l fresh s kinds
     joins a kinds grown put =
         left-same (grown ∙ ap (λ (c : List Code). replaced a c s) code-is) (put ∙ ap (kindsPut kinds fresh) kinds-are) n-is fresh-is

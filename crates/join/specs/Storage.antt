@@ -36,12 +36,13 @@ nextIn facts fresh = min (length (kindsIn facts) + fresh) 65535
 abbrev pub targetIn : Arena → ℕ → List Code
 targetIn s l = take 4 (codesOf (blockBytes (s .work) (s .table) l))
 
--- a copy asks neither for the body nor for the budget
-abbrev pub copyIn : List ℕ → ℕ → List Code → List Code
-copyIn facts fresh c = copyOf (factsIn facts none 0) c (nextIn facts fresh)
+-- its copy, where fresh new registers were given before, and the kinds of the copy's own
+module _ (facts : List ℕ) (body : Option ℕ) (budget : ℕ) where
+  abbrev pub copyIn : ℕ → List Code → List Code
+  copyIn fresh c = copyOf (factsIn facts body budget) c (nextIn facts fresh)
 
-abbrev pub givenIn : List ℕ → List Code → List ℕ
-givenIn facts c = kindsOf (factsIn facts none 0) c
+  abbrev pub givenIn : List Code → List ℕ
+  givenIn c = kindsOf (factsIn facts body budget) c
 
 -- block a without its last record
 unfoldable pub cut : ℕ → Arena → Arena
@@ -63,9 +64,10 @@ pub record Left : Type 0 where
 abbrev pub left : Arena → List ℕ → ℕ → ℕ → Left
 left blocks kinds n fresh = record { blocks = blocks; kinds = kinds; n = n; fresh = fresh }
 
--- the Br that block a ends with replaced by block l's code, where fresh new registers were given before
-abbrev pub joinOf : List ℕ → ℕ → ℕ → ℕ → Arena → List ℕ → Left
-joinOf facts a l fresh s kinds =
+-- the Br that block a ends with replaced by block l's code
+abbrev pub joinOf : List ℕ → Option ℕ → ℕ → ℕ → ℕ → ℕ → Arena → List ℕ → Left
+joinOf facts body budget a l fresh s kinds =
     let c = targetIn s l in
-    let new = copyIn facts fresh c in
-    left (replaced a new s) (kindsPut kinds fresh (givenIn facts c)) (length new) (length (givenIn facts c))
+    let new = copyIn facts body budget fresh c in
+    let given = givenIn facts body budget c in
+    left (replaced a new s) (kindsPut kinds fresh given) (length new) (length given)

@@ -1,6 +1,7 @@
 ghost use mathlib.Core.Path.{_≡_};
 ghost use mathlib.Core.List.{_++_, map};
 ghost use mathlib.Core.Bool.{_&&_};
+ghost use mathlib.Core.Option.{Option};
 ghost use Prim.Native.Nat.{ℕ};
 ghost use lib.ListN.{getD, take};
 ghost use Rattle.roles.specs.Roles.{defsOf, usesOf, numbersOf};
@@ -91,7 +92,8 @@ pub fn stops(
     a: usize,
     l: BlockId,
 ) -> bool
-    ensures { λ z. ⌜ z ≡ steps.stops (factsIn (now (facts .entry)) (bodyIn pause) budget) (grownTo (blocksOf (now (code .entry)) (now (table .entry))) grown) a (l .0) ⌝ }
+    ensures { λ z. ⌜ z ≡ steps.stops (factsIn (now (facts .entry)) (bodyIn pause) budget)
+        (grownTo (blocksOf (now (code .entry)) (now (table .entry))) grown) a (l .0) ⌝ }
 {
     let at = l.0 as usize;
     if at == a {
@@ -165,8 +167,9 @@ pub fn join(
     top: usize,
     fresh: usize,
 ) -> Joined
-    ensures { λ r. ⌜ left (arena (now (work .exit)) (now (table .exit)) (r .top)) (now (kinds .exit)) (r .n) (r .fresh)
-        ≡ joinOf (now (facts .entry)) a (l .0) fresh (arena (now (work .entry)) (now (table .entry)) top) (now (kinds .entry)) ⌝ }
+    ensures { λ r. ⌜ ((body : Option ℕ) (budget : ℕ)
+        → left (arena (now (work .exit)) (now (table .exit)) (r .top)) (now (kinds .exit)) (r .n) (r .fresh)
+        ≡ joinOf (now (facts .entry)) body budget a (l .0) fresh (arena (now (work .entry)) (now (table .entry)) top) (now (kinds .entry))) ⌝ }
 {
     let m = next_number(facts, fresh);
     let z = copy::copy_of(blocks::block(work, table, l.0 as usize), facts, m);

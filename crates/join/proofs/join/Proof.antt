@@ -40,7 +40,7 @@ same-length-3 : tie.Need-same-length-3
 same-length-3 c = search needs
 
 returns : tie.Need-returns
-returns c =
+returns c body budget =
     let end = c .before .before .before .before in
     let back = c .before .before .before .before .before .before .before .before .before in
     let made = c .before .before .before .before .before .before .before .before .before .before .before .before .before .before .before .before .before .before .before .before .before .before .before .before in
@@ -48,7 +48,7 @@ returns c =
     let s = arena (now (a .work)) (now (a .table)) (a .top) in
     let z = made .copy-of .result in
     let grown = replaced-by (a .a) (codesIn z) s (back .before .before .before .before .before .before .to-end .ensures) (back .pop .ensures) (end .append .ensures) in
-    joins (now (a .facts)) (a .l .0) (a .fresh) s z (made .before .before .before .before .before .next-number .ensures) (made .before .block .ensures) (made .copy-of .ensures)
+    joins (now (a .facts)) body budget (a .l .0) (a .fresh) s z (made .before .before .before .before .before .next-number .ensures) (made .before .block .ensures) (made .copy-of .ensures)
     (a .a) (now (a .kinds)) grown (c .before .before .before .before .before .before .before .before .before .before .before .before .before .before .before .before .before .before .before .before .put-kinds .ensures)
 
 pub join-spec : {M : Type 1} → statement M
