@@ -1,0 +1,96 @@
+use mathlib.Core.Path.{sym, ap, _∙_}
+use mathlib.Core.Bool.{Bool, not}
+use native.Mathlib.Omega.{arith}
+use borrow.Author.Needs.{needs}
+use denote.Ref.{now}
+use Rattle.blocks.specs.Blocks.{blocksOf}
+use Rattle.steps.specs.Gate.{copied}
+use Rattle.facts.specs.Storage.{factsIn, konstAt}
+use Rattle.join.specs.Storage.{bodyIn, grownTo}
+use Rattle.join.proofs.Laws.{stop-self, stop-body, stop-konst, stop-grown, stop-last, block-named}
+use Rattle.join.proofs.stops.Statement.{statement}
+use Rattle.join.proofs.stops.Tie as tie
+
+cast-at : tie.Need-cast-at
+cast-at c = search needs
+
+returns : tie.Need-returns
+returns c =
+    let x = c in
+    let a = x .before .before .before .before .before .args in
+    let f = factsIn (now (a .facts)) (bodyIn (a .pause)) (a .budget) in
+    let w = grownTo (blocksOf (now (a .code)) (now (a .table))) (a .grown) in
+    stop-self f w (a .a) (a .l .0) (x .if1 .taken)
+
+is-pause-requires : tie.Need-is-pause-requires
+is-pause-requires c κs = search needs
+
+returns-2 : tie.Need-returns-2
+returns-2 c =
+    let x = c .before .before in
+    let a = x .before .before .before .before .before .args in
+    let f = factsIn (now (a .facts)) (bodyIn (a .pause)) (a .budget) in
+    let w = grownTo (blocksOf (now (a .code)) (now (a .table))) (a .grown) in
+    stop-body f w (a .a) (a .l .0) (x .if1 .left) (sym (c .before .is-pause .ensures) ∙ c .if2 .taken)
+
+has-pause-requires : tie.Need-has-pause-requires
+has-pause-requires c κs = search needs
+
+block-requires : tie.Need-block-requires
+block-requires c κs = search needs
+
+binds-requires : tie.Need-binds-requires
+binds-requires c κs = search needs
+
+returns-3 : tie.Need-returns-3
+returns-3 c =
+    let x = c .before .before .before .before .before .before in
+    let a = x .before .before .before .before .before .args in
+    let f = factsIn (now (a .facts)) (bodyIn (a .pause)) (a .budget) in
+    let w = grownTo (blocksOf (now (a .code)) (now (a .table))) (a .grown) in
+    let p = sym (c .before .before .before .before .before .is-pause .ensures) ∙ c .before .before .before .before .if2 .left in
+    let k = block-named (now (a .code)) (now (a .table)) (a .l .0) (konstAt (now (a .facts))) (bodyIn (a .pause))
+    (c .before .before .before .has-pause .ensures) (c .before .before .block .ensures) (c .before .binds .ensures) (c .if3 .taken) in
+    stop-konst f w (a .a) (a .l .0) (x .if1 .left) p k
+
+returns-4 : tie.Need-returns-4
+returns-4 c =
+    let x = c .before .before .before .before .before .before .before in
+    let a = x .before .before .before .before .before .args in
+    let f = factsIn (now (a .facts)) (bodyIn (a .pause)) (a .budget) in
+    let w = grownTo (blocksOf (now (a .code)) (now (a .table))) (a .grown) in
+    let p = sym (c .before .before .before .before .before .before .is-pause .ensures) ∙ c .before .before .before .before .before .if2 .left in
+    let k = block-named (now (a .code)) (now (a .table)) (a .l .0) (konstAt (now (a .facts))) (bodyIn (a .pause))
+    (c .before .before .before .before .has-pause .ensures) (c .before .before .before .block .ensures) (c .before .before .binds .ensures) (c .before .if3 .left) in
+    stop-grown f w (a .a) (a .l .0) (x .if1 .left) p k (omega arith)
+
+copied-requires : tie.Need-copied-requires
+copied-requires c κs = search needs
+
+returns-5 : tie.Need-returns-5
+returns-5 c =
+    let x = c .before .before .before .before .before .before .before .before in
+    let a = x .before .before .before .before .before .args in
+    let f = factsIn (now (a .facts)) (bodyIn (a .pause)) (a .budget) in
+    let w = grownTo (blocksOf (now (a .code)) (now (a .table))) (a .grown) in
+    let p = sym (c .before .before .before .before .before .before .before .is-pause .ensures) ∙ c .before .before .before .before .before .before .if2 .left in
+    let k = block-named (now (a .code)) (now (a .table)) (a .l .0) (konstAt (now (a .facts))) (bodyIn (a .pause))
+    (c .before .before .before .before .before .has-pause .ensures) (c .before .before .before .before .block .ensures) (c .before .before .before .binds .ensures) (c .before .before .if3 .left) in
+    let e = ap (λ (t : Bool). not (copied t (w .blocks) (a .l .0))) (c .before .before .before .before .before .has-pause .ensures) in
+    stop-last f w (a .a) (a .l .0) (x .if1 .left) p k (omega arith) (ap not (c .copied .ensures) ∙ e)
+
+pub stops-spec : {M : Type 1} → statement M
+stops-spec =
+    tie.close
+    (tie.spec
+    cast-at
+    returns
+    is-pause-requires
+    returns-2
+    has-pause-requires
+    block-requires
+    binds-requires
+    returns-3
+    returns-4
+    copied-requires
+    returns-5)

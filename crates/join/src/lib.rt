@@ -1,0 +1,187 @@
+ghost use mathlib.Core.Path.{_≡_};
+ghost use mathlib.Core.List.{_++_, map};
+ghost use mathlib.Core.Bool.{_&&_};
+ghost use mathlib.Core.Option.{Option};
+ghost use Prim.Native.Nat.{ℕ};
+ghost use lib.ListN.{getD, take};
+ghost use Rattle.roles.specs.Roles.{defsOf, usesOf, numbersOf};
+ghost use Rattle.procedure.specs.Lists.{anyOf, present, holds};
+ghost use Rattle.procedure.specs.Procedure.{codesOf};
+ghost use Rattle.blocks.specs.Blocks.{blocksOf};
+ghost use Rattle.steps.specs.Small as small;
+ghost use Rattle.steps.specs.Thread as steps;
+ghost use Rattle.facts.specs.Storage.{konstAt, kindsIn, factsIn};
+ghost use Rattle.join.specs.Storage.{bodyIn, grownTo, nextIn, kindsPut, left, joinOf};
+ghost use Rattle.arena.specs.Arena.{arena};
+use inst::BlockId;
+use inst::Inst;
+use inst::Reg;
+
+// The source's Option<usize>: the block that a process pauses at before its first run.
+pub enum Pause {
+    At(BlockId),
+    Nowhere,
+}
+
+// The instruction reads or writes a register that a Const, a ConstF or a non-Up AddrOf alone writes.
+fn names_konst(i: Inst, facts: &[u64]) -> bool
+    ensures { λ z. ⌜ z ≡ anyOf (konstAt (now (facts .entry))) (defsOf i ++ usesOf i) ⌝ }
+{
+    let q = roles::roles_of(i);
+    let reg = q.reg;
+    let n = q.n;
+    let mut k = 0;
+    while k < n {
+        let r = reg[k];
+        if facts::is_konst(facts, r) {
+            return true;
+        }
+        k += 1;
+    }
+    false
+}
+
+// The code reads or writes such a register.
+pub fn reads_konst(code: &[u8], facts: &[u64]) -> bool
+    ensures { λ z. ⌜ z ≡ small.readsKonst (konstAt (now (facts .entry))) (codesOf (now (code .entry))) ⌝ }
+{
+    let n = code.len() / 32;
+    let mut k = 0;
+    while k < n {
+        if names_konst(ends::inst_at(code, k), facts) {
+            return true;
+        }
+        k += 1;
+    }
+    false
+}
+
+fn is_pause(pause: Pause, l: BlockId) -> bool
+    ensures { λ z. ⌜ z ≡ holds (bodyIn pause) (l .0) ⌝ }
+{
+    match pause {
+        Pause::At(b) => b.0 == l.0,
+        Pause::Nowhere => false,
+    }
+}
+
+fn has_pause(pause: Pause) -> bool
+    ensures { λ z. ⌜ z ≡ present (bodyIn pause) ⌝ }
+{
+    match pause {
+        Pause::At(_) => true,
+        Pause::Nowhere => false,
+    }
+}
+
+// In a process, the code reads or writes such a register.
+fn binds(code: &[u8], facts: &[u64], wide: bool) -> bool
+    ensures { λ z. ⌜ z ≡ (wide && small.readsKonst (konstAt (now (facts .entry))) (codesOf (now (code .entry)))) ⌝ }
+{
+    wide && reads_konst(code, facts)
+}
+
+// A Br of block a to block l stays: l is block a or the body, or binds a process; enough was copied; or l is none to copy.
+pub fn stops(
+    code: &[u8],
+    table: &[u8],
+    facts: &[u64],
+    pause: Pause,
+    budget: u32,
+    grown: u64,
+    a: usize,
+    l: BlockId,
+) -> bool
+    ensures { λ z. ⌜ z ≡ steps.stops (factsIn (now (facts .entry)) (bodyIn pause) budget)
+        (grownTo (blocksOf (now (code .entry)) (now (table .entry))) grown) a (l .0) ⌝ }
+{
+    let at = l.0 as usize;
+    if at == a {
+        return true;
+    }
+    if is_pause(pause, l) {
+        return true;
+    }
+    let wide = has_pause(pause);
+    if binds(blocks::block(code, table, at), facts, wide) {
+        return true;
+    }
+    if (budget as u64) < grown {
+        return true;
+    }
+    !gate::copied(code, table, l, wide)
+}
+
+// What a join leaves: the new top, and how many instructions and new registers came.
+pub struct Joined {
+    pub top: usize,
+    pub n: usize,
+    pub fresh: usize,
+}
+
+// The number of the next new register.
+fn next_number(facts: &[u64], fresh: usize) -> u16
+    ensures { λ r. ⌜ r ≡ nextIn (now (facts .entry)) fresh ⌝ }
+{
+    let m = blocks::least(facts::registers(facts), 65535);
+    (m + blocks::least(fresh, 65535 - m)) as u16
+}
+
+// A register's kind; 0 for a register that the file doesn't have.
+fn kind_at(facts: &[u64], r: Reg) -> u8
+    ensures { λ z. ⌜ z ≡ getD (kindsIn (now (facts .entry))) (r .0) 0 ⌝ }
+{
+    if facts::registers(facts) <= r.0 as usize {
+        return 0;
+    }
+    facts::kind_of(facts, r)
+}
+
+// The kinds of the first n of some registers, written from a place on.
+fn put_kinds(kinds: &mut [u8], facts: &[u64], old: [Reg; 4], n: usize, from: usize)
+    ensures { λ u. ⌜ now (kinds .exit) ≡ kindsPut (now (kinds .entry)) from
+        (map (λ (d : ℕ). getD (kindsIn (now (facts .entry))) d 0) (take n (numbersOf old))) ⌝ }
+{
+    let end = blocks::least(n, 4);
+    let mut at = from;
+    let mut k = 0;
+    while k < end {
+        if kinds.len() <= at {
+            return;
+        }
+        let r = old[k];
+        kinds[at] = kind_at(facts, r);
+        at += 1;
+        k += 1;
+    }
+}
+
+// The Br that block a ends with is replaced by the code of block l.
+pub fn join(
+    work: &mut [u8],
+    table: &mut [u8],
+    kinds: &mut [u8],
+    facts: &[u64],
+    a: usize,
+    l: BlockId,
+    top: usize,
+    fresh: usize,
+) -> Joined
+    ensures { λ r. ⌜ ((body : Option ℕ) (budget : ℕ)
+        → left (arena (now (work .exit)) (now (table .exit)) (r .top)) (now (kinds .exit)) (r .n) (r .fresh)
+        ≡ joinOf (now (facts .entry)) body budget a (l .0) fresh (arena (now (work .entry)) (now (table .entry)) top) (now (kinds .entry))) ⌝ }
+{
+    let m = next_number(facts, fresh);
+    let z = copy::copy_of(blocks::block(work, table, l.0 as usize), facts, m);
+    let code = z.code;
+    let old = z.old;
+    put_kinds(kinds, facts, old, z.fresh, fresh);
+    let last = arena::to_end(work, table, a, top);
+    let cut = arena::pop(table, a, last);
+    let end = arena::append(work, table, a, cut, code, z.n);
+    Joined {
+        top: end,
+        n: z.n,
+        fresh: z.fresh,
+    }
+}
