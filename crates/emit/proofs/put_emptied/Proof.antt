@@ -1,0 +1,37 @@
+use mathlib.Core.Path.{ap, _∙_}
+use denote.Ref.{now}
+use borrow.Author.Needs.{needs}
+use Rattle.format.specs.declared.Record.{Record}
+use Rattle.format.specs.Record.{recordsOf}
+use Rattle.inst.specs.declared.StmtId.{StmtId}
+use Rattle.inst.specs.declared.Inst.the-variants as i
+use Rattle.codec.specs.Codec.{recordOf}
+use Rattle.emit.specs.Emitted.{place, put}
+use Rattle.emit.proofs.Laws.{first-stmt}
+use Rattle.emit.proofs.put_emptied.Statement.{statement}
+use Rattle.emit.proofs.put_emptied.Tie as tie
+
+record-at-requires : tie.Need-record-at-requires
+record-at-requires c κs = search needs
+
+record-of-requires : tie.Need-record-of-requires
+record-of-requires c κs = search needs
+
+put-requires : tie.Need-put-requires
+put-requires c κs = search needs
+
+same-length : tie.Need-same-length
+same-length c = search needs
+
+returns : tie.Need-returns
+returns c =
+    let p = c .before .before in
+    let a = p .before .before .before .before .before .before .args in
+    let to : StmtId → Record = λ s. recordOf (record { inst = i.Br (a .next); stmt = s }) in
+    let first = ap (λ (r : Record). to (record { 0 = r .stmt })) (p .before .before .before .record-at .ensures) in
+    p .put .ensures
+    ∙ ap (λ (r : Record). put r (place (now (a .out)) (a .at)))
+    (p .before .record-of .ensures ∙ first ∙ ap to (first-stmt (recordsOf (now (a .code)))))
+
+pub put-emptied-spec : {M : Type 1} → statement M
+put-emptied-spec = tie.close (tie.spec record-at-requires record-of-requires put-requires same-length returns)

@@ -1,0 +1,28 @@
+use mathlib.Core.Path.{_∙_}
+use denote.Ref.{now}
+use borrow.Author.Needs.{needs}
+use Rattle.emit.specs.Emitted.{place, put}
+use Rattle.emit.proofs.Laws.{chosen, other}
+use Rattle.emit.proofs.put_if.Statement.{statement}
+use Rattle.emit.proofs.put_if.Tie as tie
+
+put-requires : tie.Need-put-requires
+put-requires c κs = search needs
+
+same-length : tie.Need-same-length
+same-length c = search needs
+
+returns : tie.Need-returns
+returns c =
+    let a = c .before .before .before .before .before .before .args in
+    let s = place (now (a .out)) (a .at) in
+    c .before .before .put .ensures ∙ chosen (put (a .r) s) s (c .before .before .before .before .if1 .taken)
+
+returns-2 : tie.Need-returns-2
+returns-2 c =
+    let a = c .before .before .args in
+    let s = place (now (a .out)) (a .at) in
+    other (put (a .r) s) s (c .if1 .left)
+
+pub put-if-spec : {M : Type 1} → statement M
+put-if-spec = tie.close (tie.spec put-requires same-length returns returns-2)

@@ -1,0 +1,100 @@
+use Prim.Native.Nat.{ℕ, _+_, _-_, _/_, _≤_}
+use native.Mathlib.Omega.{arith}
+use mathlib.Core.Path.{_≡_, refl, sym, ap, _∙_}
+use mathlib.Core.Bool.{Bool, cond}
+use denote.Ref.{now}
+use borrow.Author.Needs.{needs}
+use lib.ListN.{length, drop}
+use Rattle.format.specs.declared.Record.{Record}
+use Rattle.format.specs.Record.{recordsOf, recordAt}
+use Rattle.format.proofs.Laws.{length-records}
+use Rattle.ends.proofs.Laws.{code-at}
+use Rattle.codec.specs.Codec.{instOf}
+use Rattle.emit.specs.Emitted.{rescuedBy, rescuedIn, place, put, puts}
+use Rattle.emit.proofs.Laws.{rescued-end, puts-rescued}
+use Rattle.emit.proofs.put_rescued.Statement.{statement}
+use Rattle.emit.proofs.put_rescued.Tie as tie
+
+abbrev Inv-loop : tie.InvT-loop
+Inv-loop out₀ at code facts n top₀ k₀ out top k =
+    (k ≤ n)
+    × (n ≡ length code / 32)
+    × (length out ≡ length out₀)
+    × (puts (rescuedIn facts (drop k (recordsOf code))) (place out top) ≡ puts (rescuedIn facts (recordsOf code)) (place out₀ at))
+
+abbrev μ-loop : tie.MeasureT-loop
+μ-loop out₀ at code facts n top₀ k₀ out top k = n - k
+
+loop-holds : tie.Need-loop-holds Inv-loop μ-loop
+loop-holds c = (omega arith, refl, refl, refl)
+
+inst-at-requires : tie.Need-inst-at-requires Inv-loop μ-loop
+inst-at-requires c κs = search needs
+
+is-rescued-requires : tie.Need-is-rescued-requires Inv-loop μ-loop
+is-rescued-requires c κs = search needs
+
+record-at-requires : tie.Need-record-at-requires Inv-loop μ-loop
+record-at-requires c κs = search needs
+
+put-if-requires : tie.Need-put-if-requires Inv-loop μ-loop
+put-if-requires c κs = search needs
+
+add-k : tie.Need-add-k Inv-loop μ-loop
+add-k c = search needs
+
+loop-less : tie.Need-loop-less Inv-loop μ-loop
+loop-less c = search needs
+
+loop-again : tie.Need-loop-again Inv-loop μ-loop
+loop-again c =
+    let p = c .before .before in
+    let i = p .before .before .before .before in
+    let l = i .before .before in
+    let a = l .before .before .before .before .args in
+    let b = now (a .code) in
+    let f = now (a .facts) in
+    let k = l .loop .k in
+    let s = place (l .loop .out) (l .loop .top) in
+    let n = length-records b in
+    let is = p .before .before .before .is-rescued .ensures ∙ ap (rescuedBy f) (i .inst-at .ensures ∙ ap (λ x. x .inst) (code-at b k)) in (
+      omega arith,
+      l .loop .inv .1,
+      p .put-if .kept .0 ∙ l .loop .inv .2,
+      ap (puts (rescuedIn f (drop (k + 1) (recordsOf b))))
+          (p .put-if .ensures
+          ∙ ap (λ (t : Bool). cond t (put (p .before .record-at .result) s) s) is
+          ∙ ap (λ (r : Record). cond (rescuedBy f (instOf (recordAt b k))) (put r s) s) (p .before .record-at .ensures))
+          ∙ sym (puts-rescued f (recordsOf b) k s (omega arith))
+          ∙ l .loop .inv .3,
+    )
+
+same-length : tie.Need-same-length Inv-loop μ-loop
+same-length c = search needs
+
+returns : tie.Need-returns Inv-loop μ-loop
+unfolding puts
+returns c =
+    let l = c .before in
+    let a = l .before .before .before .before .args in
+    let b = now (a .code) in
+    let s = place (l .loop .out) (l .loop .top) in
+    let n = length-records b in
+    sym (ap (λ rs. puts rs s) (rescued-end (now (a .facts)) (recordsOf b) (l .loop .k) (omega arith))) ∙ l .loop .inv .3
+
+pub put-rescued-spec : {M : Type 1} → statement M
+put-rescued-spec =
+    tie.close
+    (tie.spec
+    Inv-loop
+    μ-loop
+    loop-holds
+    inst-at-requires
+    is-rescued-requires
+    record-at-requires
+    put-if-requires
+    add-k
+    loop-less
+    loop-again
+    same-length
+    returns)

@@ -1,0 +1,77 @@
+use Prim.Native.Nat.{ℕ, _+_, _-_, _/_, _≤_}
+use native.Mathlib.Omega.{arith}
+use mathlib.Core.Path.{_≡_, refl, sym, ap, _∙_}
+use mathlib.Core.Logic.{⊎-elim}
+use mathlib.Core.List.{List}
+use denote.Ref.{now}
+use borrow.Author.Needs.{needs}
+use lib.ListN.{length, drop}
+use Rattle.general.proofs.Booleans.{told}
+use Rattle.format.specs.declared.Record.{Record}
+use Rattle.format.specs.Record.{recordsOf}
+use Rattle.format.proofs.Laws.{length-records}
+use Rattle.ends.proofs.Laws.{code-at}
+use Rattle.emit.specs.Emitted.{rescuedBy, rescuedIn}
+use Rattle.emit.proofs.Laws.{rescued-one, rescued-pass, rescued-end}
+use Rattle.emit.proofs.rescued_in.Statement.{statement}
+use Rattle.emit.proofs.rescued_in.Tie as tie
+
+abbrev Inv-loop : tie.InvT-loop
+Inv-loop code facts n keep₀ k₀ keep k =
+    (k ≤ n)
+    × (keep ≤ k)
+    × (n ≡ length code / 32)
+    × (keep + length (rescuedIn facts (drop k (recordsOf code))) ≡ length (rescuedIn facts (recordsOf code)))
+
+abbrev μ-loop : tie.MeasureT-loop
+μ-loop code facts n keep₀ k₀ keep k = n - k
+
+loop-holds : tie.Need-loop-holds Inv-loop μ-loop
+loop-holds c = (omega arith, omega arith, refl, omega arith)
+
+inst-at-requires : tie.Need-inst-at-requires Inv-loop μ-loop
+inst-at-requires c κs = search needs
+
+is-rescued-requires : tie.Need-is-rescued-requires Inv-loop μ-loop
+is-rescued-requires c κs = search needs
+
+add-keep : tie.Need-add-keep Inv-loop μ-loop
+add-keep c = search needs
+
+add-k : tie.Need-add-k Inv-loop μ-loop
+add-k c = search needs
+
+loop-less : tie.Need-loop-less Inv-loop μ-loop
+loop-less c = search needs
+
+loop-again : tie.Need-loop-again Inv-loop μ-loop
+loop-again c =
+    let l = c .before .before .before .before in
+    let a = l .before .before .before .args in
+    let b = now (a .code) in
+    let f = now (a .facts) in
+    let k = l .loop .k in
+    let n = length-records b in
+    let i = c .before .before .inst-at .ensures ∙ ap (λ x. x .inst) (code-at b k) in
+    ⊎-elim
+    (λ w.
+    let t = told (rescuedBy f) i (c .before .is-rescued .ensures) (w .0 .taken) in
+    let e = ap (λ (r : List Record). length r) (rescued-one f (recordsOf b) k (omega arith) t) in
+    (omega arith, omega (arith, w .1), l .loop .inv .2, omega (arith, w .1)))
+    (λ w.
+    let t = told (rescuedBy f) i (c .before .is-rescued .ensures) (w .0 .left) in
+    let e = ap (λ (r : List Record). length r) (rescued-pass f (recordsOf b) k (omega arith) t) in
+    (omega arith, omega (arith, w .1), l .loop .inv .2, omega (arith, w .1)))
+    (c .if1 .came)
+
+returns : tie.Need-returns Inv-loop μ-loop
+returns c =
+    let l = c .before in
+    let a = l .before .before .before .args in
+    let n = length-records (now (a .code)) in
+    let e = ap (λ (r : List Record). length r) (rescued-end (now (a .facts)) (recordsOf (now (a .code))) (l .loop .k) (omega arith)) in
+    omega arith
+
+pub rescued-in-spec : {M : Type 1} → statement M
+rescued-in-spec =
+    tie.close (tie.spec Inv-loop μ-loop loop-holds inst-at-requires is-rescued-requires add-keep add-k loop-less loop-again returns)

@@ -1,0 +1,51 @@
+-- Document 01, "Emit", over bytes: which blocks stay, what is rescued, and records written one after the other.
+use Prim.Native.Nat.{ℕ, _+_, _/_}
+use mathlib.Core.List.{List, [], _∷_}
+use mathlib.Core.Option.{none}
+use mathlib.Core.Bool.{Bool, _&&_, _||_, not, cond}
+use lib.Dec.{leb, ltb}
+use lib.ListN.{length}
+use Rattle.format.specs.declared.Record.{Record}
+use Rattle.store.specs.Store.{putOf}
+use Rattle.inst.specs.declared.Inst.{Inst}
+use Rattle.inst.specs.declared.Inst.the-variants as i
+use Rattle.inst.specs.declared.Code.{Code}
+use Rattle.inst.specs.declared.BlockId.{BlockId}
+use Rattle.codec.specs.Codec.{instOf, recordOf}
+use Rattle.ends.specs.Ends.{endOf}
+use Rattle.steps.specs.Emit.{isJump, isRescued, firstStmt}
+use Rattle.facts.specs.Storage.{factsIn}
+
+-- "their singly written Const, ConstF and AddrOf"; the body, the budget and the statement are not asked
+abbrev pub rescuedBy : List ℕ → Inst → Bool
+rescuedBy facts x = isRescued (factsIn facts none 0) (record { inst = x; stmt = record { 0 = 0 } })
+
+-- the records of a block that are rescued
+unfoldable pub rescuedIn : List ℕ → List Record → List Record
+rescuedIn facts [] = []
+rescuedIn facts (r ∷ rs) = cond (rescuedBy facts (instOf r)) (r ∷ rescuedIn facts rs) (rescuedIn facts rs)
+
+-- "An unreached block stays if last, or one instruction and neither Br nor CondBr."
+abbrev pub staysBy : Bool → Bool → List Code → Bool
+staysBy mark last c = mark || last || leb (length c) 1 && not (isJump (endOf c))
+
+-- "Others become a Br to the next block with their first statement"
+abbrev pub branchRecord : BlockId → List Code → Record
+branchRecord next c = recordOf (record { inst = i.Br next; stmt = firstStmt c })
+
+-- some bytes, and the record of them that is written next
+pub record Place : Type 0 where
+  pub bytes : List ℕ
+  pub at : ℕ
+
+abbrev pub place : List ℕ → ℕ → Place
+place b at = record { bytes = b; at = at }
+
+-- a record written there, where the bytes have such a record
+unfoldable pub put : Record → Place → Place
+put r s = cond (ltb (s .at) (length (s .bytes) / 32)) (place (putOf (s .bytes) (s .at) r) (s .at + 1)) s
+
+-- some records, one after the other
+unfoldable pub puts : List Record → Place → Place
+puts [] s = s
+puts (r ∷ rs) s = puts rs (put r s)

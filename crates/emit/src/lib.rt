@@ -1,0 +1,139 @@
+ghost use mathlib.Core.Path.{_≡_};
+ghost use mathlib.Core.Bool.{cond};
+ghost use lib.ListN.{length};
+ghost use Rattle.format.specs.Record.{recordsOf};
+ghost use Rattle.procedure.specs.Procedure.{codesOf};
+ghost use Rattle.steps.specs.Emit as steps;
+ghost use Rattle.emit.specs.Emitted.{rescuedBy, staysBy, rescuedIn, branchRecord};
+ghost use Rattle.emit.specs.Emitted.{Place, place, put as putOne, puts};
+use ends::End;
+use format::Record;
+use inst::BlockId;
+use inst::Code;
+use inst::Inst;
+use inst::StmtId;
+
+// A Const, ConstF or AddrOf whose register one field of the code writes.
+pub fn is_rescued(i: Inst, facts: &[u64]) -> bool
+    ensures { λ z. ⌜ z ≡ rescuedBy (now (facts .entry)) i ⌝ }
+{
+    match i {
+        Inst::Const { dst, v: _ } => facts::is_single(facts, dst),
+        Inst::ConstF { dst, v: _ } => facts::is_single(facts, dst),
+        Inst::AddrOf {
+            dst,
+            space: _,
+            off: _,
+        } => facts::is_single(facts, dst),
+        _ => false,
+    }
+}
+
+// A Br or CondBr.
+fn is_jump(e: End) -> bool
+    ensures { λ z. ⌜ z ≡ steps.isJump e ⌝ }
+{
+    match e {
+        End::Br(_) => true,
+        End::CondBr(_, _, _) => true,
+        End::Case(_) => false,
+        End::Other => false,
+    }
+}
+
+// A block that stays as it is: reached, the last, or one instruction and neither Br nor CondBr.
+pub fn stays(mark: bool, last: bool, code: &[u8]) -> bool
+    ensures { λ z. ⌜ z ≡ staysBy mark last (codesOf (now (code .entry))) ⌝ }
+{
+    if mark {
+        return true;
+    }
+    if last {
+        return true;
+    }
+    if 1 < code.len() / 32 {
+        return false;
+    }
+    let jump = is_jump(ends::end_of(code));
+    !jump
+}
+
+// How many instructions of a block are rescued.
+pub fn rescued_in(code: &[u8], facts: &[u64]) -> usize
+    ensures { λ z. ⌜ z ≡ length (rescuedIn (now (facts .entry)) (recordsOf (now (code .entry)))) ⌝ }
+{
+    let n = code.len() / 32;
+    let mut keep = 0;
+    let mut k = 0;
+    while k < n {
+        if is_rescued(ends::inst_at(code, k), facts) {
+            keep += 1;
+        }
+        k += 1;
+    }
+    keep
+}
+
+// A record is written at a place, where there is one; returns the next place.
+fn put(out: &mut [u8], at: usize, r: Record) -> usize
+    ensures { λ z. ⌜ place (now (out .exit)) z ≡ putOne r (place (now (out .entry)) at) ⌝ }
+{
+    if at < out.len() / 32 {
+        store::put_record(out, at, r);
+        return at + 1;
+    }
+    at
+}
+
+// The same, only if it is kept.
+fn put_if(out: &mut [u8], at: usize, keep: bool, r: Record) -> usize
+    ensures { λ z. ⌜ place (now (out .exit)) z
+        ≡ cond keep (putOne r (place (now (out .entry)) at)) (place (now (out .entry)) at) ⌝ }
+{
+    if keep {
+        return put(out, at, r);
+    }
+    at
+}
+
+// The records of a block are written from a place on; returns the next place.
+pub fn put_block(out: &mut [u8], at: usize, code: &[u8]) -> usize
+    ensures { λ z. ⌜ place (now (out .exit)) z ≡ puts (recordsOf (now (code .entry))) (place (now (out .entry)) at) ⌝ }
+{
+    let n = code.len() / 32;
+    let mut top = at;
+    let mut k = 0;
+    while k < n {
+        top = put(out, top, format::record_at(code, k));
+        k += 1;
+    }
+    top
+}
+
+// The records of a block that are rescued are written from a place on; returns the next place.
+pub fn put_rescued(out: &mut [u8], at: usize, code: &[u8], facts: &[u64]) -> usize
+    ensures { λ z. ⌜ place (now (out .exit)) z
+        ≡ puts (rescuedIn (now (facts .entry)) (recordsOf (now (code .entry)))) (place (now (out .entry)) at) ⌝ }
+{
+    let n = code.len() / 32;
+    let mut top = at;
+    let mut k = 0;
+    while k < n {
+        let keep = is_rescued(ends::inst_at(code, k), facts);
+        top = put_if(out, top, keep, format::record_at(code, k));
+        k += 1;
+    }
+    top
+}
+
+// A Br to the next block, with the first statement of a block, is written at a place; returns the next place.
+pub fn put_emptied(out: &mut [u8], at: usize, next: BlockId, code: &[u8]) -> usize
+    ensures { λ z. ⌜ place (now (out .exit)) z ≡ putOne (branchRecord next (codesOf (now (code .entry)))) (place (now (out .entry)) at) ⌝ }
+{
+    let first = format::record_at(code, 0);
+    let br = Code {
+        inst: Inst::Br { to: next },
+        stmt: StmtId(first.stmt),
+    };
+    put(out, at, codec::record_of(br))
+}
