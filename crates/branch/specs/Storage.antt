@@ -18,8 +18,6 @@ use Rattle.steps.specs.Note.{Known, nothing, notes, sourceOf, valueOf}
 use Rattle.steps.specs.Thread.{Work, Hop, stay, last, next, armOf, unthreaded}
 use Rattle.facts.specs.Storage.{factsIn}
 use Rattle.note.specs.Noted.{enough}
-use Rattle.branch.specs.declared.Pause.{Pause}
-use Rattle.branch.specs.declared.Pause.the-variants as p
 use Rattle.branch.specs.declared.Turn.{Turn}
 use Rattle.branch.specs.declared.Turn.the-variants as u
 
@@ -30,11 +28,6 @@ pub record Turned : Type 0 where
 
 abbrev pub turned : List ℕ → Turn → Turned
 turned code turn = record { code = code; turn = turn }
-
--- the body, if there is one
-abbrev pub bodyIn : Pause → Option ℕ
-bodyIn (p.At b) = some (b .0)
-bodyIn p.Nowhere = none
 
 -- block a of a table
 module _ (table : List ℕ) (a : ℕ) where

@@ -2,37 +2,23 @@ ghost use mathlib.Core.Path.{_≡_};
 ghost use mathlib.Core.Bool.{_&&_};
 ghost use lib.Dec.{eqb};
 ghost use Rattle.codec.specs.Codec.{blockOf};
-ghost use Rattle.procedure.specs.Lists.{holds};
 ghost use Rattle.word.specs.Word as word;
 ghost use Rattle.steps.specs.Thread as steps;
-ghost use Rattle.branch.specs.Storage.{turned, bodyIn, armIn, turnIn, foldIn, roomIn, turnedIn};
+ghost use Rattle.pausing.specs.Storage.{bodyIn};
+ghost use Rattle.branch.specs.Storage.{turned, armIn, turnIn, foldIn, roomIn, turnedIn};
 use ends::End;
 use facts::Word;
 use inst::BlockId;
 use inst::Inst;
 use inst::Reg;
 use note::Noted;
-
-// The source's Option<usize>: the block that a process pauses at before its first run.
-pub enum Pause {
-    At(BlockId),
-    Nowhere,
-}
+use pausing::Pause;
 
 // Nothing was written; or the block's last instruction was, and no hop follows, or the next one.
 pub enum Turn {
     Stay,
     Last,
     Next,
-}
-
-fn is_pause(pause: Pause, l: BlockId) -> bool
-    ensures { λ z. ⌜ z ≡ holds (bodyIn pause) (l .0) ⌝ }
-{
-    match pause {
-        Pause::At(b) => b.0 == l.0,
-        Pause::Nowhere => false,
-    }
 }
 
 // The arm of a CondBr that tests c again.
@@ -67,7 +53,7 @@ fn arm_of(
     if l.0 as usize == a {
         return l;
     }
-    if is_pause(pause, l) {
+    if pausing::is_pause(pause, l) {
         return l;
     }
     matching(truth, c, l, gate::lone_at(code, table, l.0 as usize))

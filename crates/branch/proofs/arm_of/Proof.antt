@@ -1,6 +1,6 @@
 use mathlib.Core.Path.{sym, _∙_}
 use denote.Ref.{now}
-use Rattle.branch.specs.Storage.{bodyIn}
+use Rattle.pausing.specs.Storage.{bodyIn}
 use Rattle.branch.proofs.Turns.{arm-here, arm-pause, arm-past}
 use borrow.Author.Needs.{needs}
 use Rattle.branch.proofs.arm_of.Statement.{statement}

@@ -1,7 +1,7 @@
 use mathlib.Core.Path.{sym, ap, _∙_}
 use denote.Ref.{now}
 use Rattle.facts.specs.Storage.{wordIn}
-use Rattle.branch.specs.Storage.{bodyIn}
+use Rattle.pausing.specs.Storage.{bodyIn}
 use Rattle.branch.proofs.Turns.{turned-full, turned-at}
 use borrow.Author.Needs.{needs}
 use Rattle.branch.proofs.hop_cond_br.Statement.{statement}

@@ -3,7 +3,8 @@ use mathlib.Core.List.{List}
 use Prim.Native.Nat.{ℕ}
 use denote.Ref.{now}
 use Rattle.branch.specs.declared.Turn.the-variants as u
-use Rattle.branch.specs.Storage.{turned, bodyIn}
+use Rattle.pausing.specs.Storage.{bodyIn}
+use Rattle.branch.specs.Storage.{turned}
 use Rattle.branch.proofs.Turns.{all-same, one-differs}
 use borrow.Author.Needs.{needs}
 use Rattle.branch.proofs.rewrite.Statement.{statement}

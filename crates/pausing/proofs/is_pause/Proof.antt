@@ -1,10 +1,10 @@
 use mathlib.Core.Path.{sym, ap}
 use Rattle.procedure.specs.Lists.{holds}
-use Rattle.branch.specs.declared.Pause.{Pause}
-use Rattle.branch.specs.Storage.{bodyIn}
+use Rattle.pausing.specs.declared.Pause.{Pause}
+use Rattle.pausing.specs.Storage.{bodyIn}
 use borrow.Author.Needs.{needs}
-use Rattle.branch.proofs.is_pause.Statement.{statement}
-use Rattle.branch.proofs.is_pause.Tie as tie
+use Rattle.pausing.proofs.is_pause.Statement.{statement}
+use Rattle.pausing.proofs.is_pause.Tie as tie
 
 enum-known-pause : tie.Need-enum-known-pause
 enum-known-pause c = search needs
