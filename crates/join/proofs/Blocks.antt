@@ -3,17 +3,19 @@ use Prim.Native.Nat.{ℕ, _-_, _/_, _≤_, _<_}
 use native.Mathlib.Omega.{arith}
 use mathlib.Core.Path.{_≡_, refl, sym, ap, subst, _∙_}
 use mathlib.Core.Bool.{true}
-use mathlib.Core.List.{List, [], _++_, map}
-use lib.ListN.{length, getD, take, drop, set, length-set, length-take, length-drop}
+use mathlib.Core.List.{List, [], _++_, map, map-append}
+use lib.ListN.{length, getD, take, drop, set, length-set, length-map, length-take, length-drop, List·getD-map}
 use lib.Seq.{set-getD, getD-set-same}
+use Rattle.general.proofs.Lists.{map-take, map-set}
 use Rattle.format.specs.declared.Record.{Record}
 use Rattle.format.specs.Record.{recordsOf, recordAt}
 use Rattle.format.proofs.Laws.{length-records}
 use Rattle.inst.specs.declared.Code.{Code}
 use Rattle.codec.specs.Codec.{codeOf, recordOf}
 use Rattle.ends.specs.Ends.{front}
-use Rattle.blocks.specs.Blocks.{blockRecordsIn, blocksOf}
+use Rattle.blocks.specs.Blocks.{blockRecordsIn, blocksOf, Canonical}
 use Rattle.blocks.proofs.Parts.{records-at, length-table}
+use Rattle.blocks.proofs.Rewrites.{front-take}
 use Rattle.blocks.proofs.Apart.{last-place}
 use Rattle.arena.specs.Arena.{Arena, sizeOf, room, toEnd}
 use Rattle.arena.proofs.Moved.{Sound, Ready, to-end}
@@ -99,3 +101,30 @@ module _
             sound = u .sound;
             last = u .last;
           }
+
+-- blocks that hold the records that their instructions are written as go on to
+module _ (s t : Arena) (a : ℕ) (c : List Code)
+    (g : Grown s t a
+    (frontRecords (getD (blockRecordsIn (s .work) (s .table)) a []) ++ map recordOf c)
+    (front (getD (blocksOf (s .work) (s .table)) a []) ++ c))
+  where
+    front-written : (b : List Code) → frontRecords (map recordOf b) ≡ map recordOf (front b)
+    front-written b =
+        ap (λ (n : ℕ). take (n - 1) (map recordOf b)) (length-map b recordOf)
+        ∙ sym (map-take recordOf (length b - 1) b)
+        ∙ ap (map recordOf) (front-take b)
+
+    pub replaced-canonical : Canonical (s .work) (s .table) → Canonical (t .work) (t .table)
+    replaced-canonical e =
+        let R = blockRecordsIn (s .work) (s .table) in
+        let B = blocksOf (s .work) (s .table) in
+        let b = getD B a [] in
+        let there = ap (λ (Q : List (List Record)). getD Q a []) e ∙ List·getD-map (map recordOf) B a [] in
+        let v = ap (λ (x : List Record). frontRecords x ++ map recordOf c) there
+        ∙ ap (λ (x : List Record). x ++ map recordOf c) (front-written b)
+        ∙ sym (map-append recordOf (front b) c) in
+        g .records
+        ∙ ap (set R a) v
+        ∙ ap (λ (Q : List (List Record)). set Q a (map recordOf (front b ++ c))) e
+        ∙ sym (map-set (map recordOf) B a (front b ++ c))
+        ∙ ap (map (map recordOf)) (sym (g .codes))

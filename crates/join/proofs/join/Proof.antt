@@ -42,14 +42,17 @@ same-length-3 c = search needs
 returns : tie.Need-returns
 returns c body budget =
     let end = c .before .before .before .before in
-    let back = c .before .before .before .before .before .before .before .before .before in
-    let made = c .before .before .before .before .before .before .before .before .before .before .before .before .before .before .before .before .before .before .before .before .before .before .before .before in
-    let a = made .before .before .before .before .before .before .before .before .before .before .args in
+    let back = end .before .before .before .before .before in
+    let moved = back .before .before .before .before .before .before in
+    let put = moved .before .before .before .before .before in
+    let made = put .before .before .before .before in
+    let next = made .before .before .before .before .before in
+    let a = next .before .before .before .before .before .args in
     let s = arena (now (a .work)) (now (a .table)) (a .top) in
     let z = made .copy-of .result in
-    let grown = replaced-by (a .a) (codesIn z) s (back .before .before .before .before .before .before .to-end .ensures) (back .pop .ensures) (end .append .ensures) in
-    joins (now (a .facts)) body budget (a .l .0) (a .fresh) s z (made .before .before .before .before .before .next-number .ensures) (made .before .block .ensures) (made .copy-of .ensures)
-    (a .a) (now (a .kinds)) grown (c .before .before .before .before .before .before .before .before .before .before .before .before .before .before .before .before .before .before .before .before .put-kinds .ensures)
+    let grown = replaced-by (a .a) (codesIn z) s (moved .to-end .ensures) (back .pop .ensures) (end .append .ensures) in
+    joins (now (a .facts)) body budget (a .l .0) (a .fresh) s z (next .next-number .ensures) (made .before .block .ensures)
+    (made .copy-of .ensures) (a .a) (now (a .kinds)) grown (put .put-kinds .ensures)
 
 pub join-spec : {M : Type 1} → statement M
 join-spec =

@@ -60,8 +60,9 @@ returns-4 c =
     let f = factsIn (now (a .facts)) (bodyIn (a .pause)) (a .budget) in
     let w = grownTo (blocksOf (now (a .code)) (now (a .table))) (a .grown) in
     let p = sym (c .before .before .before .before .before .before .is-pause .ensures) ∙ c .before .before .before .before .before .if2 .left in
+    let d = c .before in
     let k = block-named (now (a .code)) (now (a .table)) (a .l .0) (konstAt (now (a .facts))) (bodyIn (a .pause))
-    (c .before .before .before .before .has-pause .ensures) (c .before .before .before .block .ensures) (c .before .before .binds .ensures) (c .before .if3 .left) in
+    (d .before .before .before .has-pause .ensures) (d .before .before .block .ensures) (d .before .binds .ensures) (d .if3 .left) in
     stop-grown f w (a .a) (a .l .0) (x .if1 .left) p k (omega arith)
 
 copied-requires : tie.Need-copied-requires
@@ -74,8 +75,9 @@ returns-5 c =
     let f = factsIn (now (a .facts)) (bodyIn (a .pause)) (a .budget) in
     let w = grownTo (blocksOf (now (a .code)) (now (a .table))) (a .grown) in
     let p = sym (c .before .before .before .before .before .before .before .is-pause .ensures) ∙ c .before .before .before .before .before .before .if2 .left in
+    let d = c .before .before in
     let k = block-named (now (a .code)) (now (a .table)) (a .l .0) (konstAt (now (a .facts))) (bodyIn (a .pause))
-    (c .before .before .before .before .before .has-pause .ensures) (c .before .before .before .before .block .ensures) (c .before .before .before .binds .ensures) (c .before .before .if3 .left) in
+    (d .before .before .before .has-pause .ensures) (d .before .before .block .ensures) (d .before .binds .ensures) (d .if3 .left) in
     let e = ap (λ (t : Bool). not (copied t (w .blocks) (a .l .0))) (c .before .before .before .before .before .has-pause .ensures) in
     stop-last f w (a .a) (a .l .0) (x .if1 .left) p k (omega arith) (ap not (c .copied .ensures) ∙ e)
 
