@@ -1,7 +1,7 @@
 -- Storage, not the paper's: what a hop of a Br is told, and what it leaves of the code, the block table and the kinds of the new registers.
 use Prim.Native.Nat.{ℕ, suc, _+_, min}
 use mathlib.Core.List.{List, [], _∷_}
-use mathlib.Core.Option.{Option, none, some}
+use mathlib.Core.Option.{Option}
 use mathlib.Core.Bool.{false}
 use lib.ListN.{length, take, set}
 use Rattle.inst.specs.declared.Code.{Code}
@@ -11,13 +11,6 @@ use Rattle.steps.specs.Thread.{Work}
 use Rattle.steps.specs.Copy.{copyOf, kindsOf}
 use Rattle.facts.specs.Storage.{kindsIn, factsIn}
 use Rattle.arena.specs.Arena.{Arena, arena, topped, toEnd, pop, pushAll}
-use Rattle.join.specs.declared.Pause.{Pause}
-use Rattle.join.specs.declared.Pause.the-variants as p
-
--- the body, if there is one
-abbrev pub bodyIn : Pause → Option ℕ
-bodyIn (p.At b) = some (b .0)
-bodyIn p.Nowhere = none
 
 -- the blocks, and how many instructions were appended by copying
 abbrev pub grownTo : List (List Code) → ℕ → Work

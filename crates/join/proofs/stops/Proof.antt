@@ -6,7 +6,8 @@ use denote.Ref.{now}
 use Rattle.blocks.specs.Blocks.{blocksOf}
 use Rattle.steps.specs.Gate.{copied}
 use Rattle.facts.specs.Storage.{factsIn, konstAt}
-use Rattle.join.specs.Storage.{bodyIn, grownTo}
+use Rattle.pausing.specs.Storage.{bodyIn}
+use Rattle.join.specs.Storage.{grownTo}
 use Rattle.join.proofs.Laws.{stop-self, stop-body, stop-konst, stop-grown, stop-last, block-named}
 use Rattle.join.proofs.stops.Statement.{statement}
 use Rattle.join.proofs.stops.Tie as tie
