@@ -1,5 +1,5 @@
 -- Laws of the kinds written one by one, and of a join by its parts.
-use Prim.Native.Nat.{ℕ, zero, suc, _+_, _≤_, _<_, min}
+use Prim.Native.Nat.{ℕ, suc, _+_, _≤_, _<_, min}
 use native.Mathlib.Numerals.{add-one}
 use native.Mathlib.Omega.{arith}
 use mathlib.Core.Path.{_≡_, refl, sym, ap, _∙_}
@@ -18,7 +18,7 @@ use Rattle.facts.specs.Storage.{kindsIn, factsIn}
 use Rattle.arena.specs.Arena.{Arena, arena, Topped, topped, toEnd, pop, pushAll}
 use Rattle.copy.specs.declared.Copied.{Copied}
 use Rattle.copy.specs.Storage.{codesIn, oldsIn, CopyOf}
-use Rattle.join.specs.Storage.{kindsPut, nextIn, targetIn, copyIn, givenIn, cut, replaced, Left, left, joinOf}
+use Rattle.join.specs.Storage.{kindsPut, nextIn, targetIn, copyIn, givenIn, cut, replaced, left, joinOf}
 
 pub kinds-past : (b : List ℕ) (at : ℕ) (ks : List ℕ) → length b ≤ at → kindsPut b at ks ≡ b
 unfolding kindsPut

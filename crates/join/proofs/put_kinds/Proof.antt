@@ -6,7 +6,7 @@ use borrow.Author.Needs.{needs}
 use denote.Ref.{now}
 use lib.ListN.{length, getD, take, drop, set, length-set}
 use Rattle.inst.specs.declared.Reg.{Reg}
-use Rattle.roles.specs.Roles.{numbersOf, regOf}
+use Rattle.roles.specs.Roles.{numbersOf}
 use Rattle.facts.specs.Storage.{kindsIn}
 use Rattle.join.specs.Storage.{kindsPut}
 use Rattle.join.proofs.Joins.{kinds-past, kinds-step, kinds-end, kinds-count, kind-nth}
