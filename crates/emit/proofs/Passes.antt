@@ -1,0 +1,136 @@
+-- Laws of the passes over the blocks: one block more, and what the passes write as steps defines it.
+use Prim.Native.Nat.{ℕ, suc, _+_, _-_, _≤_, _<_}
+use native.Mathlib.Numerals.{add-one}
+use native.Mathlib.Omega.{arith}
+use mathlib.Core.Path.{_≡_, refl, sym, ap, _∙_}
+use mathlib.Core.Bool.{Bool, true, false, cond, true≢false}
+use mathlib.Core.List.{List, [], _∷_, _++_, map}
+use mathlib.Core.Logic.{_⊎_, inl, inr}
+use mathlib.Core.Option.{Option}
+use borrow.Author.Tests.{lt-leb, le-leb}
+use lib.Dec.{leb}
+use lib.ListN.{length, getD, drop, length-drop, length-map, drop-of-length-le, List·getD-map, List·getD-eq-default}
+use lib.Seq.{drop-cons}
+use Rattle.general.proofs.Numbers.{order}
+use Rattle.format.specs.declared.Record.{Record}
+use Rattle.inst.specs.declared.Code.{Code}
+use Rattle.codec.specs.Codec.{codeOf, recordOf, blockOf}
+use Rattle.procedure.specs.Lists.{joined}
+use Rattle.facts.specs.Storage.{factsIn}
+use Rattle.steps.specs.Emit.{isLast, stays, rescues, rescuedOf, emptyFrom, emptied}
+use Rattle.emit.specs.Emitted.{staysBy, branchRecord, rescuedIn, Place, puts, codesIn, staysAt, lostAt, newAt, rescuesIn, emptyIn}
+use Rattle.emit.proofs.Laws.{stays-told, rescued-codes}
+
+pub puts-append : (xs ys : List Record) (s : Place) → puts (xs ++ ys) s ≡ puts ys (puts xs s)
+unfolding puts
+puts-append [] ys s = refl
+puts-append (x ∷ xs) ys s = puts-append xs ys _
+
+last-length : (P : List (List Code)) → isLast P ≡ leb (length P) 0
+last-length [] = sym (le-leb 0 0 (omega arith))
+last-length (c ∷ cs) = sym (lt-leb (length (c ∷ cs)) 0 (omega arith))
+
+-- only the last block has none after it
+module _ (R : List (List Record)) (b : ℕ) (h : b < length R) where
+  last-told : isLast (codesIn (drop (suc b) R)) ≡ leb (length (codesIn R) - 1) b
+  last-told = last-length (codesIn (drop (suc b) R)) ∙ go (order (suc b) (length R))
+    where
+      go : (suc b < length R) ⊎ (length R ≤ suc b) → leb (length (codesIn (drop (suc b) R))) 0 ≡ leb (length (codesIn R) - 1) b
+      go (inl i) =
+          let x = length-map (drop (suc b) R) (map codeOf) ∙ length-drop (suc b) R in
+          let y = length-map R (map codeOf) in
+          lt-leb (length (codesIn (drop (suc b) R))) 0 (omega arith) ∙ sym (lt-leb (length (codesIn R) - 1) b (omega arith))
+      go (inr i) =
+          let x = length-map (drop (suc b) R) (map codeOf) ∙ length-drop (suc b) R in
+          let y = length-map R (map codeOf) in
+          le-leb (length (codesIn (drop (suc b) R))) 0 (omega arith) ∙ sym (le-leb (length (codesIn R) - 1) b (omega arith))
+
+  module _ (marks : List Bool) where
+    test : stays (getD marks b true) (codesIn (drop (suc b) R)) (map codeOf (getD R b [])) ≡ staysAt marks (codesIn R) b
+    test =
+        let m = getD marks b true in
+        stays-told m (codesIn (drop (suc b) R)) (map codeOf (getD R b []))
+        ∙ ap (λ (l : Bool). staysBy m l (map codeOf (getD R b []))) last-told
+        ∙ ap (staysBy m (leb (length (codesIn R) - 1) b)) (sym (List·getD-map (map codeOf) R b []))
+
+    marked : b < length marks → drop b marks ≡ getD marks b true ∷ drop (suc b) marks
+    marked i = drop-cons marks b true i
+
+    block : drop b R ≡ getD R b [] ∷ drop (suc b) R
+    block = drop-cons R b [] h
+
+-- a block that has no mark stays
+unmarked : (marks : List Bool) (P : List (List Code)) (b : ℕ) → length marks ≤ b → staysAt marks P b ≡ true
+unmarked marks P b h = rw (List·getD-eq-default marks true h)
+
+pub has-mark : (marks : List Bool) (P : List (List Code)) (b : ℕ) → staysAt marks P b ≡ false → b < length marks
+has-mark marks P b e = go (order b (length marks))
+  where
+    go : (b < length marks) ⊎ (length marks ≤ b) → b < length marks
+    go (inl h) = h
+    go (inr h) = absurd (true≢false (sym (unmarked marks P b h) ∙ e))
+
+rescues-unmarked : (facts : List ℕ) (R : List (List Record)) → rescuesIn facts [] R ≡ []
+unfolding rescuesIn
+rescues-unmarked facts [] = refl
+rescues-unmarked facts (c ∷ cs) = refl
+
+empty-unmarked : (b : ℕ) (R : List (List Record)) → emptyIn b [] R ≡ R
+unfolding emptyIn
+empty-unmarked b [] = refl
+empty-unmarked b (c ∷ cs) = refl
+
+-- one block more
+module _ (marks : List Bool) (R : List (List Record)) (b : ℕ) where
+  gone : length marks ≤ b → drop (suc b) marks ≡ []
+  gone i = drop-of-length-le marks {i = suc b} (omega arith)
+
+  module _ (facts : List ℕ) where
+    pub rescues-one : b < length R → rescuesIn facts (drop b marks) (drop b R)
+        ≡ lostAt facts marks R b ++ rescuesIn facts (drop (b + 1) marks) (drop (b + 1) R)
+    unfolding rescuesIn
+    rescues-one h = go (order b (length marks)) ∙ rw (add-one b)
+      where
+        go : (b < length marks) ⊎ (length marks ≤ b) → rescuesIn facts (drop b marks) (drop b R)
+            ≡ lostAt facts marks R b ++ rescuesIn facts (drop (suc b) marks) (drop (suc b) R)
+        go (inl i) =
+            ap (λ (m : List Bool). rescuesIn facts m (drop b R)) (marked R b h marks i)
+            ∙ ap (rescuesIn facts (getD marks b true ∷ drop (suc b) marks)) (block R b h marks)
+            ∙ ap (λ (t : Bool). cond t [] (rescuedIn facts (getD R b [])) ++ rescuesIn facts (drop (suc b) marks) (drop (suc b) R)) (test R b h marks)
+        go (inr i) =
+            ap (λ (m : List Bool). rescuesIn facts m (drop b R)) (drop-of-length-le marks i)
+            ∙ rescues-unmarked facts (drop b R)
+            ∙ sym
+            (ap (λ (t : Bool). cond t [] (rescuedIn facts (getD R b [])) ++ rescuesIn facts (drop (suc b) marks) (drop (suc b) R)) (unmarked marks (codesIn R) b i)
+            ∙ ap (λ (m : List Bool). rescuesIn facts m (drop (suc b) R)) (gone i)
+            ∙ rescues-unmarked facts (drop (suc b) R))
+
+    pub rescues-end : length R ≤ b → rescuesIn facts (drop b marks) (drop b R) ≡ []
+    unfolding rescuesIn
+    rescues-end h = ap (rescuesIn facts (drop b marks)) (drop-of-length-le R h)
+
+  abbrev new : Bool → List Record
+  new t = cond t (getD R b []) (branchRecord (blockOf (suc b)) (map codeOf (getD R b [])) ∷ [])
+
+  pub empty-one : b < length R → joined (emptyIn b (drop b marks) (drop b R))
+      ≡ newAt marks R b ++ joined (emptyIn (b + 1) (drop (b + 1) marks) (drop (b + 1) R))
+  unfolding emptyIn
+  empty-one h = go (order b (length marks)) ∙ rw (add-one b)
+    where
+      go : (b < length marks) ⊎ (length marks ≤ b) → joined (emptyIn b (drop b marks) (drop b R))
+          ≡ newAt marks R b ++ joined (emptyIn (suc b) (drop (suc b) marks) (drop (suc b) R))
+      go (inl i) =
+          ap (λ (m : List Bool). joined (emptyIn b m (drop b R))) (marked R b h marks i)
+          ∙ ap (λ (r : List (List Record)). joined (emptyIn b (getD marks b true ∷ drop (suc b) marks) r)) (block R b h marks)
+          ∙ ap (λ (t : Bool). new t ++ joined (emptyIn (suc b) (drop (suc b) marks) (drop (suc b) R))) (test R b h marks)
+      go (inr i) =
+          ap (λ (m : List Bool). joined (emptyIn b m (drop b R))) (drop-of-length-le marks i)
+          ∙ ap (λ (r : List (List Record)). joined r) (empty-unmarked b (drop b R) ∙ block R b h marks)
+          ∙ sym
+          (ap (λ (t : Bool). new t ++ joined (emptyIn (suc b) (drop (suc b) marks) (drop (suc b) R))) (unmarked marks (codesIn R) b i)
+          ∙ ap (λ (m : List Bool). getD R b [] ++ joined (emptyIn (suc b) m (drop (suc b) R))) (gone i)
+          ∙ ap (λ (r : List (List Record)). getD R b [] ++ joined r) (empty-unmarked (suc b) (drop (suc b) R)))
+
+  pub empty-end : length R ≤ b → joined (emptyIn b (drop b marks) (drop b R)) ≡ []
+  unfolding emptyIn
+  empty-end h = ap (λ (r : List (List Record)). joined (emptyIn b (drop b marks) r)) (drop-of-length-le R h)
