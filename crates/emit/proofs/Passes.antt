@@ -1,10 +1,10 @@
 -- Laws of the passes over the blocks: one block more, and what the passes write as steps defines it.
-use Prim.Native.Nat.{ℕ, suc, _+_, _-_, _≤_, _<_}
+use Prim.Native.Nat.{ℕ, suc, _+_, _-_, _/_, _≤_, _<_}
 use native.Mathlib.Numerals.{add-one}
 use native.Mathlib.Omega.{arith}
 use mathlib.Core.Path.{_≡_, refl, sym, ap, _∙_}
 use mathlib.Core.Bool.{Bool, true, false, cond, true≢false}
-use mathlib.Core.List.{List, [], _∷_, _++_, map}
+use mathlib.Core.List.{List, [], _∷_, _++_, map, map-append}
 use mathlib.Core.Logic.{_⊎_, inl, inr}
 use mathlib.Core.Option.{Option}
 use borrow.Author.Tests.{lt-leb, le-leb}
@@ -13,13 +13,15 @@ use lib.ListN.{length, getD, drop, length-drop, length-map, drop-of-length-le, L
 use lib.Seq.{drop-cons}
 use Rattle.general.proofs.Numbers.{order}
 use Rattle.format.specs.declared.Record.{Record}
+use Rattle.store.specs.Store.{putOf}
+use Rattle.store.proofs.Laws.{put-length}
 use Rattle.inst.specs.declared.Code.{Code}
 use Rattle.codec.specs.Codec.{codeOf, recordOf, blockOf}
 use Rattle.procedure.specs.Lists.{joined}
 use Rattle.facts.specs.Storage.{factsIn}
 use Rattle.steps.specs.Emit.{isLast, stays, rescues, rescuedOf, emptyFrom, emptied}
-use Rattle.emit.specs.Emitted.{staysBy, branchRecord, rescuedIn, Place, puts, codesIn, staysAt, lostAt, newAt, rescuesIn, emptyIn}
-use Rattle.emit.proofs.Laws.{stays-told, rescued-codes}
+use Rattle.emit.specs.Emitted.{staysBy, branchRecord, rescuedIn, Place, place, puts, codesIn, staysAt, lostAt, newAt, rescuesIn, emptyIn}
+use Rattle.emit.proofs.Laws.{stays-told, rescued-codes, put-in}
 
 pub puts-append : (xs ys : List Record) (s : Place) → puts (xs ++ ys) s ≡ puts ys (puts xs s)
 unfolding puts
@@ -134,3 +136,43 @@ module _ (marks : List Bool) (R : List (List Record)) (b : ℕ) where
   pub empty-end : length R ≤ b → joined (emptyIn b (drop b marks) (drop b R)) ≡ []
   unfolding emptyIn
   empty-end h = ap (λ (r : List (List Record)). joined (emptyIn b (drop b marks) r)) (drop-of-length-le R h)
+
+-- the rescued records hold the instructions that steps rescues
+pub rescues-codes : (facts : List ℕ) (body : Option ℕ) (budget : ℕ) (marks : List Bool) (R : List (List Record))
+    → map codeOf (rescuesIn facts marks R) ≡ rescues (factsIn facts body budget) marks (codesIn R)
+unfolding rescuesIn rescues
+rescues-codes facts body budget marks [] = refl
+rescues-codes facts body budget [] (c ∷ cs) = refl
+rescues-codes facts body budget (m ∷ ms) (c ∷ cs) =
+    map-append codeOf (cond (stays m (codesIn cs) (map codeOf c)) [] (rescuedIn facts c)) (rescuesIn facts ms cs)
+    ∙ ap (λ (l : List Code). map codeOf (cond (stays m (codesIn cs) (map codeOf c)) [] (rescuedIn facts c)) ++ l) (rescues-codes facts body budget ms cs)
+    ∙ ap (λ (l : List Code). l ++ rescues (factsIn facts body budget) ms (codesIn cs)) (by (stays m (codesIn cs) (map codeOf c)))
+  where
+    by : (b : Bool) → map codeOf (cond b [] (rescuedIn facts c)) ≡ cond b [] (rescuedOf (factsIn facts body budget) (map codeOf c))
+    by true = refl
+    by false = rescued-codes facts body budget c
+
+-- the blocks that are written are the records of those that steps emits
+pub empty-records : (b : ℕ) (marks : List Bool) (R : List (List Record)) → R ≡ map (map recordOf) (codesIn R)
+    → emptyIn b marks R ≡ map (map recordOf) (emptyFrom b marks (codesIn R))
+unfolding emptyIn emptyFrom
+empty-records b marks [] e = refl
+empty-records b [] (c ∷ cs) e = e
+empty-records b (m ∷ ms) (c ∷ cs) e =
+    let t = stays m (codesIn cs) (map codeOf c) in
+    ap (λ (l : List (List Record)). cond t c (map recordOf (emptied b (map codeOf c))) ∷ l)
+    (empty-records (suc b) ms cs (ap (λ (l : List (List Record)). drop 1 l) e))
+    ∙ ap (λ (l : List Record). l ∷ map (map recordOf) (emptyFrom (suc b) ms (codesIn cs))) (by t)
+  where
+    by : (t : Bool) → cond t c (map recordOf (emptied b (map codeOf c))) ≡ map recordOf (cond t (map codeOf c) (emptied b (map codeOf c)))
+    by true = ap (λ (l : List (List Record)). getD l 0 []) e
+    by false = refl
+
+-- where there is room, each record moves the place by one
+pub puts-at : (rs : List Record) (s : Place) → s .at + length rs ≤ length (s .bytes) / 32 → puts rs s .at ≡ s .at + length rs
+unfolding puts
+puts-at [] s h = omega arith
+puts-at (r ∷ rs) s h =
+    let p = sym (put-in (s .bytes) (s .at) r (omega arith)) in
+    let l = put-length (s .bytes) (s .at) r in
+    ap (λ (t : Place). puts rs t .at) p ∙ puts-at rs (place (putOf (s .bytes) (s .at) r) (s .at + 1)) (rw l (omega arith)) ∙ omega arith
