@@ -114,28 +114,36 @@ module _ (marks : List Bool) (R : List (List Record)) (b : ℕ) where
   abbrev new : Bool → List Record
   new t = cond t (getD R b []) (branchRecord (blockOf (suc b)) (map codeOf (getD R b [])) ∷ [])
 
+  pub empty-cons : b < length R → emptyIn b (drop b marks) (drop b R)
+      ≡ newAt marks R b ∷ emptyIn (b + 1) (drop (b + 1) marks) (drop (b + 1) R)
+  unfolding emptyIn
+  empty-cons h = go (order b (length marks)) ∙ rw (add-one b)
+    where
+      go : (b < length marks) ⊎ (length marks ≤ b) → emptyIn b (drop b marks) (drop b R)
+          ≡ newAt marks R b ∷ emptyIn (suc b) (drop (suc b) marks) (drop (suc b) R)
+      go (inl i) =
+          ap (λ (m : List Bool). emptyIn b m (drop b R)) (marked R b h marks i)
+          ∙ ap (λ (r : List (List Record)). emptyIn b (getD marks b true ∷ drop (suc b) marks) r) (block R b h marks)
+          ∙ ap (λ (t : Bool). new t ∷ emptyIn (suc b) (drop (suc b) marks) (drop (suc b) R)) (test R b h marks)
+      go (inr i) =
+          ap (λ (m : List Bool). emptyIn b m (drop b R)) (drop-of-length-le marks i)
+          ∙ empty-unmarked b (drop b R)
+          ∙ block R b h marks
+          ∙ sym
+          (ap (λ (t : Bool). new t ∷ emptyIn (suc b) (drop (suc b) marks) (drop (suc b) R)) (unmarked marks (codesIn R) b i)
+          ∙ ap (λ (m : List Bool). getD R b [] ∷ emptyIn (suc b) m (drop (suc b) R)) (gone i)
+          ∙ ap (λ (r : List (List Record)). getD R b [] ∷ r) (empty-unmarked (suc b) (drop (suc b) R)))
+
   pub empty-one : b < length R → joined (emptyIn b (drop b marks) (drop b R))
       ≡ newAt marks R b ++ joined (emptyIn (b + 1) (drop (b + 1) marks) (drop (b + 1) R))
+  empty-one h = ap (λ (r : List (List Record)). joined r) (empty-cons h)
+
+  pub empty-none : length R ≤ b → emptyIn b (drop b marks) (drop b R) ≡ []
   unfolding emptyIn
-  empty-one h = go (order b (length marks)) ∙ rw (add-one b)
-    where
-      go : (b < length marks) ⊎ (length marks ≤ b) → joined (emptyIn b (drop b marks) (drop b R))
-          ≡ newAt marks R b ++ joined (emptyIn (suc b) (drop (suc b) marks) (drop (suc b) R))
-      go (inl i) =
-          ap (λ (m : List Bool). joined (emptyIn b m (drop b R))) (marked R b h marks i)
-          ∙ ap (λ (r : List (List Record)). joined (emptyIn b (getD marks b true ∷ drop (suc b) marks) r)) (block R b h marks)
-          ∙ ap (λ (t : Bool). new t ++ joined (emptyIn (suc b) (drop (suc b) marks) (drop (suc b) R))) (test R b h marks)
-      go (inr i) =
-          ap (λ (m : List Bool). joined (emptyIn b m (drop b R))) (drop-of-length-le marks i)
-          ∙ ap (λ (r : List (List Record)). joined r) (empty-unmarked b (drop b R) ∙ block R b h marks)
-          ∙ sym
-          (ap (λ (t : Bool). new t ++ joined (emptyIn (suc b) (drop (suc b) marks) (drop (suc b) R))) (unmarked marks (codesIn R) b i)
-          ∙ ap (λ (m : List Bool). getD R b [] ++ joined (emptyIn (suc b) m (drop (suc b) R))) (gone i)
-          ∙ ap (λ (r : List (List Record)). getD R b [] ++ joined r) (empty-unmarked (suc b) (drop (suc b) R)))
+  empty-none h = ap (emptyIn b (drop b marks)) (drop-of-length-le R h)
 
   pub empty-end : length R ≤ b → joined (emptyIn b (drop b marks) (drop b R)) ≡ []
-  unfolding emptyIn
-  empty-end h = ap (λ (r : List (List Record)). joined (emptyIn b (drop b marks) r)) (drop-of-length-le R h)
+  empty-end h = ap (λ (r : List (List Record)). joined r) (empty-none h)
 
 -- the rescued records hold the instructions that steps rescues
 pub rescues-codes : (facts : List ℕ) (body : Option ℕ) (budget : ℕ) (marks : List Bool) (R : List (List Record))

@@ -1,5 +1,5 @@
 -- Document 01, "Emit", over bytes: which blocks stay, what is rescued, and records written one after the other.
-use Prim.Native.Nat.{ℕ, suc, _+_, _-_, _/_}
+use Prim.Native.Nat.{ℕ, suc, _+_, _-_, _/_, min}
 use mathlib.Core.List.{List, [], _∷_, _++_, map}
 use mathlib.Core.Option.{none}
 use mathlib.Core.Bool.{Bool, true, _&&_, _||_, not, cond}
@@ -12,6 +12,7 @@ use Rattle.inst.specs.declared.Inst.the-variants as i
 use Rattle.inst.specs.declared.Code.{Code}
 use Rattle.inst.specs.declared.BlockId.{BlockId}
 use Rattle.codec.specs.Codec.{instOf, codeOf, recordOf, blockOf}
+use Rattle.items.specs.Items.{blockRecord}
 use Rattle.ends.specs.Ends.{endOf}
 use Rattle.steps.specs.Emit.{isJump, isRescued, firstStmt, stays}
 use Rattle.facts.specs.Storage.{factsIn}
@@ -78,3 +79,14 @@ emptyIn b marks [] = []
 emptyIn b [] (c ∷ cs) = c ∷ cs
 emptyIn b (m ∷ ms) (c ∷ cs) =
     cond (stays m (codesIn cs) (map codeOf c)) c (branchRecord (blockOf (suc b)) (map codeOf c) ∷ []) ∷ emptyIn (suc b) ms cs
+
+-- where a block of some size ends, with some records put before it; no later than a 32-bit field can say
+abbrev pub endAfter : ℕ → ℕ → ℕ → ℕ
+endAfter start front size = min (start + front + size) 4294967295
+
+-- "p1 start, p2 end (exclusive)": blocks whose code starts at a place, the first with some records put before it
+unfoldable pub headsFrom : ℕ → ℕ → List (List Record) → List Record
+headsFrom start front [] = []
+headsFrom start front (c ∷ cs) =
+    let end = endAfter start front (length c) in
+    blockRecord (record { start = start; end = end }) ∷ headsFrom end 0 cs

@@ -8,9 +8,10 @@ ghost use Rattle.blocks.specs.Blocks.{blockRecordsIn, blocksOf};
 ghost use Rattle.steps.specs.Emit as steps;
 ghost use Rattle.emit.specs.Emitted.{rescuedBy, staysBy, rescuedIn, branchRecord};
 ghost use Rattle.emit.specs.Emitted.{place, put as putOne, puts};
-ghost use Rattle.emit.specs.Emitted.{staysAt, lostAt, newAt, rescuesIn, emptyIn};
+ghost use Rattle.emit.specs.Emitted.{staysAt, lostAt, newAt, rescuesIn, emptyIn, endAfter, headsFrom};
 use ends::End;
 use format::Record;
+use inst::Block;
 use inst::BlockId;
 use inst::Code;
 use inst::Inst;
@@ -233,6 +234,51 @@ pub fn put_code(out: &mut [u8], at: usize, work: &[u8], table: &[u8], seen: [boo
     let mut b = 0;
     while b < nb {
         top = put_new(out, top, work, table, seen, b);
+        b += 1;
+    }
+    top
+}
+
+// How many records block b has as it is emitted.
+fn size_at(work: &[u8], table: &[u8], seen: [bool; 160], b: usize) -> usize
+    ensures { λ z. ⌜ z ≡ length (newAt seen (blockRecordsIn (now (work .entry)) (now (table .entry))) b) ⌝ }
+{
+    if keeps(work, table, seen, b) {
+        return blocks::block(work, table, b).len() / 32;
+    }
+    1
+}
+
+// Where a block of some size ends, with some records put before it; no later than a field can say.
+fn end_after(start: u32, front: u32, size: usize) -> u32
+    ensures { λ z. ⌜ z ≡ endAfter start front size ⌝ }
+{
+    let n = blocks::least(size, 4294967295);
+    blocks::least(start as usize + front as usize + n, 4294967295) as u32
+}
+
+// The records of the emitted blocks, of which the first has keep records more, are written from a place on; returns the next place.
+pub fn put_heads(
+    out: &mut [u8],
+    at: usize,
+    keep: u32,
+    work: &[u8],
+    table: &[u8],
+    seen: [bool; 160],
+) -> usize
+    ensures { λ z. ⌜ place (now (out .exit)) z
+        ≡ puts (headsFrom 0 keep (emptyIn 0 seen (blockRecordsIn (now (work .entry)) (now (table .entry))))) (place (now (out .entry)) at) ⌝ }
+{
+    let nb = table.len() / 32;
+    let mut top = at;
+    let mut start = 0;
+    let mut front = keep;
+    let mut b = 0;
+    while b < nb {
+        let end = end_after(start, front, size_at(work, table, seen, b));
+        top = put(out, top, items::record_of_block(Block { start, end }));
+        start = end;
+        front = 0;
         b += 1;
     }
     top
