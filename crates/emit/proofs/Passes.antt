@@ -88,6 +88,9 @@ module _ (marks : List Bool) (R : List (List Record)) (b : ℕ) where
   gone i = drop-of-length-le marks {i = suc b} (omega arith)
 
   module _ (facts : List ℕ) where
+    abbrev lost : Bool → List Record
+    lost t = cond t [] (rescuedIn facts (getD R b []))
+
     pub rescues-one : b < length R → rescuesIn facts (drop b marks) (drop b R)
         ≡ lostAt facts marks R b ++ rescuesIn facts (drop (b + 1) marks) (drop (b + 1) R)
     unfolding rescuesIn
@@ -98,12 +101,12 @@ module _ (marks : List Bool) (R : List (List Record)) (b : ℕ) where
         go (inl i) =
             ap (λ (m : List Bool). rescuesIn facts m (drop b R)) (marked R b h marks i)
             ∙ ap (rescuesIn facts (getD marks b true ∷ drop (suc b) marks)) (block R b h marks)
-            ∙ ap (λ (t : Bool). cond t [] (rescuedIn facts (getD R b [])) ++ rescuesIn facts (drop (suc b) marks) (drop (suc b) R)) (test R b h marks)
+            ∙ ap (λ (t : Bool). lost t ++ rescuesIn facts (drop (suc b) marks) (drop (suc b) R)) (test R b h marks)
         go (inr i) =
             ap (λ (m : List Bool). rescuesIn facts m (drop b R)) (drop-of-length-le marks i)
             ∙ rescues-unmarked facts (drop b R)
             ∙ sym
-            (ap (λ (t : Bool). cond t [] (rescuedIn facts (getD R b [])) ++ rescuesIn facts (drop (suc b) marks) (drop (suc b) R)) (unmarked marks (codesIn R) b i)
+            (ap (λ (t : Bool). lost t ++ rescuesIn facts (drop (suc b) marks) (drop (suc b) R)) (unmarked marks (codesIn R) b i)
             ∙ ap (λ (m : List Bool). rescuesIn facts m (drop (suc b) R)) (gone i)
             ∙ rescues-unmarked facts (drop (suc b) R))
 

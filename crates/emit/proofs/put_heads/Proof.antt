@@ -1,7 +1,6 @@
 use Prim.Native.Nat.{ℕ, _+_, _-_, _/_, _≤_}
 use native.Mathlib.Omega.{arith}
 use mathlib.Core.Path.{_≡_, refl, sym, ap, _∙_}
-use mathlib.Core.List.{List}
 use denote.Ref.{now}
 use borrow.Author.Needs.{needs}
 use lib.ListN.{length, drop}
@@ -9,7 +8,7 @@ use Rattle.format.specs.declared.Record.{Record}
 use Rattle.items.specs.Items.{blockRecord}
 use Rattle.blocks.specs.Blocks.{blockRecordsIn}
 use Rattle.blocks.proofs.Parts.{length-table}
-use Rattle.emit.specs.Emitted.{place, put, puts, newAt, emptyIn, endAfter, headsFrom}
+use Rattle.emit.specs.Emitted.{place, put, puts, emptyIn, endAfter, headsFrom}
 use Rattle.emit.proofs.Passes.{empty-cons, empty-none}
 use Rattle.emit.proofs.put_heads.Statement.{statement}
 use Rattle.emit.proofs.put_heads.Tie as tie

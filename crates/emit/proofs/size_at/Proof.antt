@@ -1,5 +1,5 @@
 use Prim.Native.Nat.{ℕ, suc, _/_}
-use mathlib.Core.Path.{_≡_, sym, ap, _∙_}
+use mathlib.Core.Path.{sym, ap, _∙_}
 use mathlib.Core.List.{List, [], _∷_, map}
 use denote.Ref.{now}
 use borrow.Author.Needs.{needs}
