@@ -1,19 +1,20 @@
 -- Document 01, "Emit", over bytes: which blocks stay, what is rescued, and records written one after the other.
-use Prim.Native.Nat.{ℕ, _+_, _/_}
-use mathlib.Core.List.{List, [], _∷_}
+use Prim.Native.Nat.{ℕ, suc, _+_, _-_, _/_, min}
+use mathlib.Core.List.{List, [], _∷_, _++_, map}
 use mathlib.Core.Option.{none}
-use mathlib.Core.Bool.{Bool, _&&_, _||_, not, cond}
+use mathlib.Core.Bool.{Bool, true, _&&_, _||_, not, cond}
 use lib.Dec.{leb, ltb}
-use lib.ListN.{length}
+use lib.ListN.{length, getD}
 use Rattle.format.specs.declared.Record.{Record}
 use Rattle.store.specs.Store.{putOf}
 use Rattle.inst.specs.declared.Inst.{Inst}
 use Rattle.inst.specs.declared.Inst.the-variants as i
 use Rattle.inst.specs.declared.Code.{Code}
 use Rattle.inst.specs.declared.BlockId.{BlockId}
-use Rattle.codec.specs.Codec.{instOf, recordOf}
+use Rattle.codec.specs.Codec.{instOf, codeOf, recordOf, blockOf}
+use Rattle.items.specs.Items.{blockRecord}
 use Rattle.ends.specs.Ends.{endOf}
-use Rattle.steps.specs.Emit.{isJump, isRescued, firstStmt}
+use Rattle.steps.specs.Emit.{isJump, isRescued, firstStmt, stays}
 use Rattle.facts.specs.Storage.{factsIn}
 
 -- "their singly written Const, ConstF and AddrOf"; the body, the budget and the statement are not asked
@@ -49,3 +50,43 @@ put r s = cond (ltb (s .at) (length (s .bytes) / 32)) (place (putOf (s .bytes) (
 unfoldable pub puts : List Record → Place → Place
 puts [] s = s
 puts (r ∷ rs) s = puts rs (put r s)
+
+-- the instructions of some blocks
+abbrev pub codesIn : List (List Record) → List (List Code)
+codesIn R = map (map codeOf) R
+
+-- block b stays; one that has no mark does
+abbrev pub staysAt : List Bool → List (List Code) → ℕ → Bool
+staysAt marks P b = staysBy (getD marks b true) (leb (length P - 1) b) (getD P b [])
+
+-- the records that are rescued from block b
+abbrev pub lostAt : List ℕ → List Bool → List (List Record) → ℕ → List Record
+lostAt facts marks R b = cond (staysAt marks (codesIn R) b) [] (rescuedIn facts (getD R b []))
+
+-- the records of block b as it is emitted
+abbrev pub newAt : List Bool → List (List Record) → ℕ → List Record
+newAt marks R b = cond (staysAt marks (codesIn R) b) (getD R b []) (branchRecord (blockOf (suc b)) (map codeOf (getD R b [])) ∷ [])
+
+-- "in order": of the blocks that become a Br
+unfoldable pub rescuesIn : List ℕ → List Bool → List (List Record) → List Record
+rescuesIn facts marks [] = []
+rescuesIn facts [] (c ∷ cs) = []
+rescuesIn facts (m ∷ ms) (c ∷ cs) = cond (stays m (codesIn cs) (map codeOf c)) [] (rescuedIn facts c) ++ rescuesIn facts ms cs
+
+-- the blocks from block b on, with their marks
+unfoldable pub emptyIn : ℕ → List Bool → List (List Record) → List (List Record)
+emptyIn b marks [] = []
+emptyIn b [] (c ∷ cs) = c ∷ cs
+emptyIn b (m ∷ ms) (c ∷ cs) =
+    cond (stays m (codesIn cs) (map codeOf c)) c (branchRecord (blockOf (suc b)) (map codeOf c) ∷ []) ∷ emptyIn (suc b) ms cs
+
+-- where a block of some size ends, with some records put before it; no later than a 32-bit field can say
+abbrev pub endAfter : ℕ → ℕ → ℕ → ℕ
+endAfter start front size = min (start + front + size) 4294967295
+
+-- "p1 start, p2 end (exclusive)": blocks whose code starts at a place, the first with some records put before it
+unfoldable pub headsFrom : ℕ → ℕ → List (List Record) → List Record
+headsFrom start front [] = []
+headsFrom start front (c ∷ cs) =
+    let end = endAfter start front (length c) in
+    blockRecord (record { start = start; end = end }) ∷ headsFrom end 0 cs

@@ -1,13 +1,17 @@
 ghost use mathlib.Core.Path.{_≡_};
-ghost use mathlib.Core.Bool.{cond};
-ghost use lib.ListN.{length};
+ghost use mathlib.Core.Bool.{true, cond};
+ghost use lib.ListN.{length, getD};
 ghost use Rattle.format.specs.Record.{recordsOf};
+ghost use Rattle.procedure.specs.Lists.{joined};
 ghost use Rattle.procedure.specs.Procedure.{codesOf};
+ghost use Rattle.blocks.specs.Blocks.{blockRecordsIn, blocksOf};
 ghost use Rattle.steps.specs.Emit as steps;
 ghost use Rattle.emit.specs.Emitted.{rescuedBy, staysBy, rescuedIn, branchRecord};
-ghost use Rattle.emit.specs.Emitted.{Place, place, put as putOne, puts};
+ghost use Rattle.emit.specs.Emitted.{place, put as putOne, puts};
+ghost use Rattle.emit.specs.Emitted.{staysAt, lostAt, newAt, rescuesIn, emptyIn, endAfter, headsFrom};
 use ends::End;
 use format::Record;
+use inst::Block;
 use inst::BlockId;
 use inst::Code;
 use inst::Inst;
@@ -136,4 +140,146 @@ pub fn put_emptied(out: &mut [u8], at: usize, next: BlockId, code: &[u8]) -> usi
         stmt: StmtId(first.stmt),
     };
     put(out, at, codec::record_of(br))
+}
+
+// The mark of block b; a block without a mark stays.
+fn mark_at(seen: [bool; 160], b: usize) -> bool
+    ensures { λ z. ⌜ z ≡ getD seen b true ⌝ }
+{
+    if b < 160 {
+        return seen[b];
+    }
+    true
+}
+
+// Block b stays.
+fn keeps(work: &[u8], table: &[u8], seen: [bool; 160], b: usize) -> bool
+    ensures { λ z. ⌜ z ≡ staysAt seen (blocksOf (now (work .entry)) (now (table .entry))) b ⌝ }
+{
+    let nb = table.len() / 32;
+    let last = nb - blocks::least(1, nb) <= b;
+    stays(mark_at(seen, b), last, blocks::block(work, table, b))
+}
+
+// The rescued records of block b, where it doesn't stay, are written from a place on; returns the next place.
+fn put_lost(
+    out: &mut [u8],
+    at: usize,
+    work: &[u8],
+    table: &[u8],
+    seen: [bool; 160],
+    facts: &[u64],
+    b: usize,
+) -> usize
+    ensures { λ z. ⌜ place (now (out .exit)) z
+        ≡ puts (lostAt (now (facts .entry)) seen (blockRecordsIn (now (work .entry)) (now (table .entry))) b)
+        (place (now (out .entry)) at) ⌝ }
+{
+    if keeps(work, table, seen, b) {
+        return at;
+    }
+    put_rescued(out, at, blocks::block(work, table, b), facts)
+}
+
+// The rescued records are written from a place on, in order; returns the next place.
+pub fn put_keep(
+    out: &mut [u8],
+    at: usize,
+    work: &[u8],
+    table: &[u8],
+    seen: [bool; 160],
+    facts: &[u64],
+) -> usize
+    ensures { λ z. ⌜ place (now (out .exit)) z
+        ≡ puts (rescuesIn (now (facts .entry)) seen (blockRecordsIn (now (work .entry)) (now (table .entry))))
+        (place (now (out .entry)) at) ⌝ }
+{
+    let nb = table.len() / 32;
+    let mut top = at;
+    let mut b = 0;
+    while b < nb {
+        top = put_lost(out, top, work, table, seen, facts, b);
+        b += 1;
+    }
+    top
+}
+
+// Block b as it is emitted is written from a place on; returns the next place.
+fn put_new(
+    out: &mut [u8],
+    at: usize,
+    work: &[u8],
+    table: &[u8],
+    seen: [bool; 160],
+    b: usize,
+) -> usize
+    ensures { λ z. ⌜ place (now (out .exit)) z
+        ≡ puts (newAt seen (blockRecordsIn (now (work .entry)) (now (table .entry))) b) (place (now (out .entry)) at) ⌝ }
+{
+    let code = blocks::block(work, table, b);
+    if keeps(work, table, seen, b) {
+        return put_block(out, at, code);
+    }
+    put_emptied(out, at, BlockId((b + 1) as u32), code)
+}
+
+// The blocks as they are emitted are written from a place on, without what is rescued; returns the next place.
+pub fn put_code(out: &mut [u8], at: usize, work: &[u8], table: &[u8], seen: [bool; 160]) -> usize
+    ensures { λ z. ⌜ place (now (out .exit)) z
+        ≡ puts (joined (emptyIn 0 seen (blockRecordsIn (now (work .entry)) (now (table .entry)))))
+        (place (now (out .entry)) at) ⌝ }
+{
+    let nb = table.len() / 32;
+    let mut top = at;
+    let mut b = 0;
+    while b < nb {
+        top = put_new(out, top, work, table, seen, b);
+        b += 1;
+    }
+    top
+}
+
+// How many records block b has as it is emitted.
+fn size_at(work: &[u8], table: &[u8], seen: [bool; 160], b: usize) -> usize
+    ensures { λ z. ⌜ z ≡ length (newAt seen (blockRecordsIn (now (work .entry)) (now (table .entry))) b) ⌝ }
+{
+    if keeps(work, table, seen, b) {
+        return blocks::block(work, table, b).len() / 32;
+    }
+    1
+}
+
+// Where a block of some size ends, with some records put before it; no later than a field can say.
+fn end_after(start: u32, front: u32, size: usize) -> u32
+    ensures { λ z. ⌜ z ≡ endAfter start front size ⌝ }
+{
+    let n = blocks::least(size, 4294967295);
+    blocks::least(start as usize + front as usize + n, 4294967295) as u32
+}
+
+// The records of the emitted blocks, of which the first has keep records more, are written from a place on; returns the next place.
+pub fn put_heads(
+    out: &mut [u8],
+    at: usize,
+    keep: u32,
+    work: &[u8],
+    table: &[u8],
+    seen: [bool; 160],
+) -> usize
+    ensures { λ z. ⌜ place (now (out .exit)) z
+        ≡ puts (headsFrom 0 keep (emptyIn 0 seen (blockRecordsIn (now (work .entry)) (now (table .entry))))) (place (now (out .entry)) at) ⌝ }
+{
+    let nb = table.len() / 32;
+    let mut top = at;
+    let mut start = 0;
+    let mut front = keep;
+    let mut b = 0;
+    while b < nb {
+        let end = end_after(start, front, size_at(work, table, seen, b));
+        top = put(out, top, items::record_of_block(Block { start, end }));
+        start = end;
+        front = 0;
+        b += 1;
+    }
+    top
 }

@@ -1,0 +1,49 @@
+use Prim.Native.Nat.{ℕ, _-_, _/_}
+use mathlib.Core.Path.{_≡_, ap, _∙_}
+use mathlib.Core.Bool.{Bool, true}
+use native.Mathlib.Omega.{arith}
+use denote.Ref.{now}
+use borrow.Author.Needs.{needs}
+use lib.Dec.{leb}
+use lib.ListN.{length, getD}
+use Rattle.procedure.specs.Procedure.{codesOf}
+use Rattle.blocks.specs.Blocks.{blocksOf}
+use Rattle.blocks.proofs.Parts.{block-codes, length-blocks}
+use Rattle.emit.specs.Emitted.{staysBy}
+use Rattle.emit.proofs.keeps.Statement.{statement}
+use Rattle.emit.proofs.keeps.Tie as tie
+
+least-requires : tie.Need-least-requires
+least-requires c κs = search needs
+
+sub-last : tie.Need-sub-last
+sub-last c = search needs
+
+mark-at-requires : tie.Need-mark-at-requires
+mark-at-requires c κs = search needs
+
+block-requires : tie.Need-block-requires
+block-requires c κs = search needs
+
+stays-requires : tie.Need-stays-requires
+stays-requires c κs = search needs
+
+returns : tie.Need-returns
+returns c =
+    let b = c .before in
+    let m = b .before in
+    let l = m .before in
+    let a = l .before .before .before .args in
+    let P = blocksOf (now (a .work)) (now (a .table)) in
+    let nb = length (now (a .table)) / 32 in
+    let n = length-blocks (now (a .work)) (now (a .table)) in
+    let e = l .least .ensures in
+    let last : nb - l .least .result ≡ length P - 1 = omega arith in
+    c .stays .ensures
+    ∙ ap (λ (t : Bool). staysBy t (leb (nb - l .least .result) (a .b)) (codesOf (now (b .block .result)))) (m .mark-at .ensures)
+    ∙ ap (λ (k : ℕ). staysBy (getD (a .seen) (a .b) true) (leb k (a .b)) (codesOf (now (b .block .result)))) last
+    ∙ ap (staysBy (getD (a .seen) (a .b) true) (leb (length P - 1) (a .b)))
+    (ap codesOf (b .block .ensures) ∙ block-codes (now (a .work)) (now (a .table)) (a .b))
+
+pub keeps-spec : {M : Type 1} → statement M
+keeps-spec = tie.close (tie.spec least-requires sub-last mark-at-requires block-requires stays-requires returns)
