@@ -1,9 +1,10 @@
 -- Where the blocks lie apart and there is room, block a's last instruction is replaced by some code; the other blocks stay.
-use Prim.Native.Nat.{ℕ, _-_, _/_, _≤_, _<_}
+use Prim.Native.Nat.{ℕ, _+_, _-_, _/_, _≤_, _<_, min}
 use native.Mathlib.Omega.{arith}
 use mathlib.Core.Path.{_≡_, refl, sym, ap, subst, _∙_}
-use mathlib.Core.Bool.{true}
+use mathlib.Core.Bool.{Bool, true, false}
 use mathlib.Core.List.{List, [], _++_, map, map-append}
+use borrow.Author.Tests.{leb-true, le-leb}
 use lib.ListN.{length, getD, take, drop, set, length-set, length-map, length-take, length-drop, List·getD-map}
 use lib.Seq.{set-getD, getD-set-same}
 use Rattle.general.proofs.Lists.{map-take, map-set}
@@ -17,8 +18,9 @@ use Rattle.blocks.specs.Blocks.{blockRecordsIn, blocksOf, Canonical}
 use Rattle.blocks.proofs.Parts.{records-at, length-table}
 use Rattle.blocks.proofs.Rewrites.{front-take}
 use Rattle.blocks.proofs.Apart.{last-place}
-use Rattle.arena.specs.Arena.{Arena, sizeOf, room, toEnd}
-use Rattle.arena.proofs.Moved.{Sound, Ready, to-end}
+use Rattle.arena.specs.Arena.{Arena, Topped, topped, sizeOf, room, moves, toEnd, popped, pop}
+use Rattle.arena.proofs.Laws.{moving, by-moves, by-popped}
+use Rattle.arena.proofs.Moved.{Sound, Ready, copied-length, to-end}
 use Rattle.arena.proofs.Grown.{Grown, frontRecords, grown-then, grown-block, popped-last}
 use Rattle.arena.proofs.Appended.{AllInRange, appended}
 use Rattle.join.specs.Storage.{cut, replaced}
@@ -83,7 +85,7 @@ module _
         subst (λ (R : List (List Record)). Grown s (cut a t) a (frontRecords (getD R a [])) (front (getD (map (map codeOf) R) a []))) (r .same) e
 
     module _ (c : List Code) (more : room (cut a (toEnd a s) .work) (cut a (toEnd a s) .top) (length c) ≡ true) (range : AllInRange c) where
-      pub replaced-last : Grown s (replaced a c s) a
+      replaced-last : Grown s (replaced a c s) a
           (frontRecords (getD (blockRecordsIn (s .work) (s .table)) a []) ++ map recordOf c)
           (front (getD (blocksOf (s .work) (s .table)) a []) ++ c)
       unfolding replaced
@@ -101,6 +103,65 @@ module _
             sound = u .sound;
             last = u .last;
           }
+
+-- how far block a goes when it is made the last, and cut
+module _ (s : Arena) (a : ℕ) where
+  abbrev Far : Arena → Type 0
+  Far t = (length (t .work) ≡ length (s .work)) × (t .top ≤ s .top + sizeOf (recordAt (s .table) a))
+
+  moved-far : Far (toEnd a s)
+  moved-far = go (moves (s .work) (recordAt (s .table) a) (s .top)) refl
+    where
+      go : (b : Bool) → moves (s .work) (recordAt (s .table) a) (s .top) ≡ b → Far (toEnd a s)
+      go true e =
+          let r = recordAt (s .table) a in
+          let m = moving (s .work) r (s .top) e in
+          subst Far (by-moves a s refl (sym e)) (copied-length (s .work) r (s .top) m, omega arith)
+      go false e = subst Far (by-moves a s refl (sym e)) (refl, omega arith)
+
+  pop-below : (t : Topped) → pop a t .top ≤ t .top
+  pop-below t = go (popped (recordAt (t .table) a) (t .top)) refl
+    where
+      go : (b : Bool) → popped (recordAt (t .table) a) (t .top) ≡ b → pop a t .top ≤ t .top
+      go true e = subst (λ (u : Topped). u .top ≤ t .top) (by-popped a t refl (sym e)) (omega arith)
+      go false e = subst (λ (u : Topped). u .top ≤ t .top) (by-popped a t refl (sym e)) (omega arith)
+
+  cut-far : Far (cut a (toEnd a s))
+  unfolding cut
+  cut-far =
+      let t = toEnd a s in
+      let below = pop-below (topped (t .table) (t .top)) in
+      let far = moved-far .1 in
+      (moved-far .0, omega arith)
+
+-- room for block a and some code is all that is asked
+module _
+    (s : Arena)
+    (w : Sound s)
+    (a : ℕ)
+    (h : a < length (s .table) / 32)
+    (g : recordAt (s .table) a .p1 < recordAt (s .table) a .p2)
+    (c : List Code)
+    (free : room (s .work) (s .top) (sizeOf (recordAt (s .table) a) + length c) ≡ true)
+  where
+    all : s .top + (sizeOf (recordAt (s .table) a) + length c) ≤ min (length (s .work) / 32) 4294967295
+    all = leb-true (s .top + (sizeOf (recordAt (s .table) a) + length c)) (min (length (s .work) / 32) 4294967295) free
+
+    first : room (s .work) (s .top) (sizeOf (recordAt (s .table) a)) ≡ true
+    first = le-leb (s .top + sizeOf (recordAt (s .table) a)) (min (length (s .work) / 32) 4294967295) (let i = all in omega arith)
+
+    rest : room (cut a (toEnd a s) .work) (cut a (toEnd a s) .top) (length c) ≡ true
+    rest =
+        let t = cut a (toEnd a s) in
+        let i = all in
+        let n = cut-far s a .0 in
+        let e = cut-far s a .1 in
+        le-leb (t .top + length c) (min (length (t .work) / 32) 4294967295) (rw n (omega arith))
+
+    pub replaced-block : AllInRange c → Grown s (replaced a c s) a
+        (frontRecords (getD (blockRecordsIn (s .work) (s .table)) a []) ++ map recordOf c)
+        (front (getD (blocksOf (s .work) (s .table)) a []) ++ c)
+    replaced-block range = replaced-last s w a h g first c rest range
 
 -- blocks that hold the records that their instructions are written as go on to
 module _ (s t : Arena) (a : ℕ) (c : List Code)

@@ -22,7 +22,8 @@ use Rattle.steps.specs.Copy.{copyOf, kindsOf}
 use Rattle.steps.specs.Thread.{Work, blockAt, nextNumber, stops, appended}
 use Rattle.facts.specs.Storage.{kindsIn, factsIn}
 use Rattle.arena.specs.Arena.{Arena}
-use Rattle.join.specs.Storage.{nextIn, targetIn, copyIn, givenIn}
+use Rattle.join.specs.Storage.{nextIn, targetIn, copyIn, givenIn, kindsPut}
+use Rattle.join.proofs.Joins.{kinds-follow}
 
 or-last : (a b : Bool) → (a || b) ≡ false → b ≡ false
 or-last true b e = absurd (true≢false e)
@@ -54,6 +55,16 @@ module _ (facts : List ℕ) (body : Option ℕ) (budget l fresh : ℕ) (s : Aren
     pub given : givenIn facts body budget (targetIn s l) ≡ kindsOf (factsIn facts body budget) (blockAt w l)
     given = ap (kindsOf (factsIn facts body budget)) target
 
+    -- the kinds of the new registers, in the order they were given
+    pub kinds : (b : List ℕ) → w .kinds ≡ take fresh b → fresh + length (givenIn facts body budget (targetIn s l)) ≤ length b
+        → take (fresh + length (givenIn facts body budget (targetIn s l))) (kindsPut b fresh (givenIn facts body budget (targetIn s l)))
+        ≡ w .kinds ++ kindsOf (factsIn facts body budget) (blockAt w l)
+    kinds b e h =
+        let g = givenIn facts body budget (targetIn s l) in
+        kinds-follow b fresh g h
+        ∙ ap (λ (x : List ℕ). x ++ g) (sym e)
+        ∙ ap (λ (x : List ℕ). w .kinds ++ x) given
+
     module _ (count : length (w .kinds) ≡ fresh) (narrow : length (kindsIn facts) + fresh ≤ 65535) where
       pub copy : copyIn facts body budget fresh (targetIn s l)
           ≡ copyOf (factsIn facts body budget) (blockAt w l) (nextNumber (factsIn facts body budget) w)
@@ -63,13 +74,13 @@ module _ (facts : List ℕ) (body : Option ℕ) (budget l fresh : ℕ) (s : Aren
           ∙ ap (copyOf (factsIn facts body budget) (blockAt w l)) n
 
       -- with what the arena's laws say of the blocks that are left
-      pub blocks : (a : ℕ) (t : Arena) (kinds : List ℕ)
+      pub blocks : (a : ℕ) (t : Arena) (ks : List ℕ)
           → blocksOf (t .work) (t .table)
           ≡ set (blocksOf (s .work) (s .table)) a
           (front (getD (blocksOf (s .work) (s .table)) a []) ++ copyIn facts body budget fresh (targetIn s l))
           → blocksOf (t .work) (t .table)
-          ≡ appended w a (copyOf (factsIn facts body budget) (blockAt w l) (nextNumber (factsIn facts body budget) w)) kinds .blocks
-      blocks a t kinds e =
+          ≡ appended w a (copyOf (factsIn facts body budget) (blockAt w l) (nextNumber (factsIn facts body budget) w)) ks .blocks
+      blocks a t ks e =
           e
           ∙ ap (λ (P : List (List Code)). set P a (front (getD P a []) ++ copyIn facts body budget fresh (targetIn s l))) (sym same)
           ∙ ap (λ (c : List Code). set (w .blocks) a (front (blockAt w a) ++ c)) copy

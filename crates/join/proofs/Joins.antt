@@ -3,10 +3,10 @@ use Prim.Native.Nat.{ℕ, zero, suc, _+_, _≤_, _<_, min}
 use native.Mathlib.Numerals.{add-one}
 use native.Mathlib.Omega.{arith}
 use mathlib.Core.Path.{_≡_, refl, sym, ap, _∙_}
-use mathlib.Core.List.{List, [], _∷_, map}
+use mathlib.Core.List.{List, [], _∷_, _++_, map, append-nil}
 use mathlib.Core.Option.{Option}
 use lib.ListN.{length, getD, take, drop, set, length-set, length-map, length-take, drop-of-length-le, List·getD-map}
-use lib.Seq.{drop-cons, getD-take, length-take-le, set-out}
+use lib.Seq.{drop-cons, getD-take, length-take-le, take-suc-set, append-snoc, set-out}
 use Rattle.inst.specs.declared.Reg.{Reg}
 use Rattle.inst.specs.declared.Code.{Code}
 use Rattle.roles.specs.Roles.{numbersOf, regOf}
@@ -24,6 +24,19 @@ pub kinds-past : (b : List ℕ) (at : ℕ) (ks : List ℕ) → length b ≤ at �
 unfolding kindsPut
 kinds-past b at [] h = refl
 kinds-past b at (k ∷ ks) h = kinds-past (set b at k) (suc at) ks (rw (length-set b at k) (omega arith)) ∙ set-out b at k h
+
+-- where they have room, they follow what stood before them
+pub kinds-follow : (b : List ℕ) (at : ℕ) (ks : List ℕ) → at + length ks ≤ length b → take (at + length ks) (kindsPut b at ks) ≡ take at b ++ ks
+unfolding kindsPut
+kinds-follow b at [] h =
+    let e : at + 0 ≡ at = omega arith in
+    ap (λ (n : ℕ). take n b) e ∙ sym (append-nil (take at b))
+kinds-follow b at (k ∷ ks) h =
+    let e : at + length (k ∷ ks) ≡ suc at + length ks = omega arith in
+    ap (λ (n : ℕ). take n (kindsPut (set b at k) (suc at) ks)) e
+    ∙ kinds-follow (set b at k) (suc at) ks (rw (length-set b at k) (omega arith))
+    ∙ ap (λ (l : List ℕ). l ++ ks) (take-suc-set b at k (omega arith))
+    ∙ append-snoc (take at b) k ks
 
 -- of some kinds from place k on
 module _ (b : List ℕ) (at : ℕ) (ks : List ℕ) (k : ℕ) where

@@ -72,9 +72,11 @@ module _ (f : Facts) (w : Work) (a l : ℕ) where
         unfolding stops
         stop-grown h = tests (ne-eqb l a self) body konst (lt-ltb (f .budget) (w .grown) h) refl
 
-        pub stop-last : w .grown ≤ f .budget → {x : Bool} → x ≡ not (copied (present (f .body)) (w .blocks) l) → x ≡ stops f w a l
+        pub stop-last : w .grown ≤ f .budget → {z wide : Bool} → wide ≡ present (f .body) → z ≡ copied wide (w .blocks) l → not z ≡ stops f w a l
         unfolding stops
-        stop-last h e = tests (ne-eqb l a self) body konst (le-ltb (f .budget) (w .grown) h) e
+        stop-last h i e =
+            let y = ap not (e ∙ ap (λ (t : Bool). copied t (w .blocks) l) i) in
+            tests (ne-eqb l a self) body konst (le-ltb (f .budget) (w .grown) h) y
 
 -- block l of a process, by its bytes
 pub block-named : (code table : List ℕ) (l : ℕ) (konst : ℕ → Bool) (body : Option ℕ) {z wide v : Bool} {b : List ℕ}

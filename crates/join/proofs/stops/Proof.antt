@@ -1,10 +1,8 @@
-use mathlib.Core.Path.{sym, ap, _∙_}
-use mathlib.Core.Bool.{Bool, not}
+use mathlib.Core.Path.{sym, _∙_}
 use native.Mathlib.Omega.{arith}
 use borrow.Author.Needs.{needs}
 use denote.Ref.{now}
 use Rattle.blocks.specs.Blocks.{blocksOf}
-use Rattle.steps.specs.Gate.{copied}
 use Rattle.facts.specs.Storage.{factsIn, konstAt}
 use Rattle.pausing.specs.Storage.{bodyIn}
 use Rattle.join.specs.Storage.{grownTo}
@@ -79,8 +77,7 @@ returns-5 c =
     let d = c .before .before in
     let k = block-named (now (a .code)) (now (a .table)) (a .l .0) (konstAt (now (a .facts))) (bodyIn (a .pause))
     (d .before .before .before .has-pause .ensures) (d .before .before .block .ensures) (d .before .binds .ensures) (d .if3 .left) in
-    let e = ap (λ (t : Bool). not (copied t (w .blocks) (a .l .0))) (c .before .before .before .before .before .has-pause .ensures) in
-    stop-last f w (a .a) (a .l .0) (x .if1 .left) p k (omega arith) (ap not (c .copied .ensures) ∙ e)
+    stop-last f w (a .a) (a .l .0) (x .if1 .left) p k (omega arith) (d .before .before .before .has-pause .ensures) (c .copied .ensures)
 
 pub stops-spec : {M : Type 1} → statement M
 stops-spec =
