@@ -125,9 +125,8 @@ fn hops(
     a: usize,
     from: Threaded,
 ) -> Threaded
-    ensures { λ r. ⌜ store (now (work .exit)) (now (table .exit)) (now (kinds .exit)) r
-        ≡ hopsIn (now (facts .entry)) (bodyIn pause) budget (length (now (known .entry))) (length (now (copy .entry))) 6 a
-        (store (now (work .entry)) (now (table .entry)) (now (kinds .entry)) from) ⌝ }
+    ensures { λ r. ⌜ store (now (work .exit)) (now (table .exit)) (now (kinds .exit)) r ≡ hopsIn (now (facts .entry)) (bodyIn pause) budget
+        (length (now (known .entry))) (length (now (copy .entry))) 6 a (store (now (work .entry)) (now (table .entry)) (now (kinds .entry)) from) ⌝ }
 {
     let mut s = from;
     let mut h: usize = 0;
