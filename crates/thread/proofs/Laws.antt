@@ -31,7 +31,8 @@ use Rattle.arena.specs.Arena.{Arena, arena}
 use Rattle.join.specs.Storage.{Left, left, grownTo, nextIn, targetIn, copyIn, joinOf}
 use Rattle.thread.specs.declared.Threaded.{Threaded}
 use Rattle.thread.specs.declared.Hopped.{Hopped}
-use Rattle.thread.specs.Storage.{Store, store, Hopping, hopped, hopping, stayIn, turnAt, turnedAt, freshTo, joinedAt, appendIn, hopBrIn, hopCondBrIn, hopAtIn, hopIn, onwardIn, hopsIn, threadFromIn}
+use Rattle.thread.specs.Storage.{Store, store, Hopping, hopped, hopping, stayIn, turnAt, turnedAt, freshTo, joinedAt, appendIn}
+use Rattle.thread.specs.Storage.{hopBrIn, hopCondBrIn, hopAtIn, hopIn, onwardIn, hopsIn, threadFromIn}
 
 place-short : (w : How) (x : Code) (local : List (ℕ × ℕ)) (m n : ℕ) (rest : List (ℕ × ℕ) → ℕ → List Code)
     → ((l : List (ℕ × ℕ)) (k : ℕ) → length (rest l k) ≤ n) → length (place w x local m rest) ≤ suc n

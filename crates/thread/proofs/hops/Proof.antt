@@ -61,7 +61,11 @@ hops-again c =
     let d = c .before in
     let l = d .before .before .before .before in
     let a = l .before .before .before .before .before .before .before .args in
-    let i = l .hops .inv in (
+    let k = length (now (a .known)) in
+    let q = length (now (a .copy)) in
+    let i = l .hops .inv in
+    let s = store (l .hops .work) (l .hops .table) (l .hops .kinds) (l .hops .s) in
+    let test = d .before .before .before .hops-test .taken in (
       omega arith,
       ⊎-elim (λ w. ap length (w .17) ∙ w .7 .kept .0 ∙ i .1) (λ w. ap length (w .16) ∙ w .6 .kept .0 ∙ i .1) (c .match .came),
       ⊎-elim (λ w. ap length (w .18) ∙ i .2) (λ w. ap length (w .17) ∙ w .6 .kept .1 .0 ∙ i .2) (c .match .came),
@@ -71,15 +75,15 @@ hops-again c =
       ⊎-elim
           (λ w.
           rw (w .17, w .18, w .19, w .22)
-          (hops-go (now (a .facts)) (bodyIn (a .pause)) (a .budget) (length (now (a .known))) (length (now (a .copy))) (a .a) (l .hops .h) (d .before .before .before .hops-test .taken) (store (l .hops .work) (l .hops .table) (l .hops .kinds) (l .hops .s))
-          (hop-cond-br (now (a .facts)) (bodyIn (a .pause)) (a .budget) (length (now (a .known))) (length (now (a .copy)))
-          (l .hops .work) (l .hops .table) (l .hops .kinds) (l .hops .s) (a .a) (d .end-at .result) (d .end-at .ensures) (i .4) (i .5) (w .1 .given .1) (w .7 .ensures (a .budget) (l .hops .kinds))) (not-false _ (w .16 .left))
+          (hops-go (now (a .facts)) (bodyIn (a .pause)) (a .budget) k q (a .a) (l .hops .h) test s
+          (hop-cond-br (now (a .facts)) (bodyIn (a .pause)) (a .budget) k q (l .hops .work) (l .hops .table) (l .hops .kinds) (l .hops .s) (a .a)
+          (d .end-at .result) (d .end-at .ensures) (i .4) (i .5) (w .1 .given .1) (w .7 .ensures (a .budget) (l .hops .kinds))) (not-false _ (w .16 .left))
           ∙ i .6))
           (λ w.
           rw (w .16, w .17, w .18, w .21)
-          (hops-go (now (a .facts)) (bodyIn (a .pause)) (a .budget) (length (now (a .known))) (length (now (a .copy))) (a .a) (l .hops .h) (d .before .before .before .hops-test .taken) (store (l .hops .work) (l .hops .table) (l .hops .kinds) (l .hops .s))
-          (hop-br (now (a .facts)) (bodyIn (a .pause)) (a .budget) (length (now (a .known))) (length (now (a .copy)))
-          (l .hops .work) (l .hops .table) (l .hops .kinds) (l .hops .s) (a .a) (d .end-at .result) (d .end-at .ensures) (w .1 .given .1) (w .6 .ensures (length (now (a .known))) (length (now (a .copy))))) (not-false _ (w .15 .left))
+          (hops-go (now (a .facts)) (bodyIn (a .pause)) (a .budget) k q (a .a) (l .hops .h) test s
+          (hop-br (now (a .facts)) (bodyIn (a .pause)) (a .budget) k q (l .hops .work) (l .hops .table) (l .hops .kinds) (l .hops .s) (a .a)
+          (d .end-at .result) (d .end-at .ensures) (w .1 .given .1) (w .6 .ensures k q)) (not-false _ (w .15 .left))
           ∙ i .6))
           (c .match .came),
     )
@@ -103,42 +107,56 @@ returns : tie.Need-returns Inv-hops μ-hops
 returns c =
     let l = c .before in
     let a = l .before .before .before .before .before .before .before .args in
-    hops-end (now (a .facts)) (bodyIn (a .pause)) (a .budget) (length (now (a .known))) (length (now (a .copy))) (a .a) (6 - l .hops .h)
-    (store (l .hops .work) (l .hops .table) (l .hops .kinds) (l .hops .s)) (omega arith) ∙ l .hops .inv .6
+    let k = length (now (a .known)) in
+    let q = length (now (a .copy)) in
+    hops-end (now (a .facts)) (bodyIn (a .pause)) (a .budget) k q (a .a) (6 - l .hops .h) (store (l .hops .work) (l .hops .table) (l .hops .kinds) (l .hops .s)) (omega arith)
+    ∙ l .hops .inv .6
 
 same-length-6 : tie.Need-same-length-6 Inv-hops μ-hops
 same-length-6 c =
-    let k = c .before .before .before .before .before .before .before .before .before .hop-cond-br in
-    let i = c .before .before .before .before .before .before .before .before .before .before .before .before .before .before .before .before .before .before .before .before .before .hops .inv in
-    k .kept .0 ∙ i .1
+    let z = c .before .before .before .before .before .before .before .before .before in
+    let i = z .before .before .before .before .before .before .before .before .before .before .before .before .hops .inv in
+    z .hop-cond-br .kept .0 ∙ i .1
 
 same-length-7 : tie.Need-same-length-7 Inv-hops μ-hops
-same-length-7 c = c .before .before .before .before .before .before .before .before .before .before .before .before .before .before .before .before .before .before .before .before .before .hops .inv .2
+same-length-7 c =
+    let z = c .before .before .before .before .before .before .before .before .before in
+    let i = z .before .before .before .before .before .before .before .before .before .before .before .before .hops .inv in
+    i .2
 
 same-length-8 : tie.Need-same-length-8 Inv-hops μ-hops
-same-length-8 c = c .before .before .before .before .before .before .before .before .before .before .before .before .before .before .before .before .before .before .before .before .before .hops .inv .3
+same-length-8 c =
+    let z = c .before .before .before .before .before .before .before .before .before in
+    let i = z .before .before .before .before .before .before .before .before .before .before .before .before .hops .inv in
+    i .3
 
 same-length-9 : tie.Need-same-length-9 Inv-hops μ-hops
 same-length-9 c =
-    let k = c .before .before .before .before .before .before .before .before .before .hop-cond-br in
-    let i = c .before .before .before .before .before .before .before .before .before .before .before .before .before .before .before .before .before .before .before .before .before .hops .inv in
-    k .kept .1 .1 .0 ∙ i .4
+    let z = c .before .before .before .before .before .before .before .before .before in
+    let i = z .before .before .before .before .before .before .before .before .before .before .before .before .hops .inv in
+    z .hop-cond-br .kept .1 .1 .0 ∙ i .4
 
 same-length-10 : tie.Need-same-length-10 Inv-hops μ-hops
 same-length-10 c =
-    let k = c .before .before .before .before .before .before .before .before .before .hop-cond-br in
-    let i = c .before .before .before .before .before .before .before .before .before .before .before .before .before .before .before .before .before .before .before .before .before .hops .inv in
-    k .kept .1 .1 .1 .0 ∙ i .5
+    let z = c .before .before .before .before .before .before .before .before .before in
+    let i = z .before .before .before .before .before .before .before .before .before .before .before .before .hops .inv in
+    z .hop-cond-br .kept .1 .1 .1 .0 ∙ i .5
 
 returns-2 : tie.Need-returns-2 Inv-hops μ-hops
 returns-2 c =
-    let d = c .before .before .before .before .before .before .before .before .before .before .before .before .before .before .before .before .before in
+    let z = c .before .before .before .before .before .before .before .before .before in
+    let x = z .before .before .before .before .before .before in
+    let d = x .before .before in
     let l = d .before .before .before .before in
     let a = l .before .before .before .before .before .before .before .args in
+    let k = length (now (a .known)) in
+    let q = length (now (a .copy)) in
     let i = l .hops .inv in
-    hops-stop (now (a .facts)) (bodyIn (a .pause)) (a .budget) (length (now (a .known))) (length (now (a .copy))) (a .a) (l .hops .h) (d .before .before .before .hops-test .taken) (store (l .hops .work) (l .hops .table) (l .hops .kinds) (l .hops .s))
-    (hop-cond-br (now (a .facts)) (bodyIn (a .pause)) (a .budget) (length (now (a .known))) (length (now (a .copy)))
-    (l .hops .work) (l .hops .table) (l .hops .kinds) (l .hops .s) (a .a) (d .end-at .result) (d .end-at .ensures) (i .4) (i .5) (c .before .before .before .before .before .before .before .before .before .before .before .before .before .before .before .last .given .1) (c .before .before .before .before .before .before .before .before .before .hop-cond-br .ensures (a .budget) (l .hops .kinds))) (not-true _ (c .if1 .taken))
+    let s = store (l .hops .work) (l .hops .table) (l .hops .kinds) (l .hops .s) in
+    let test = d .before .before .before .hops-test .taken in
+    hops-stop (now (a .facts)) (bodyIn (a .pause)) (a .budget) k q (a .a) (l .hops .h) test s
+    (hop-cond-br (now (a .facts)) (bodyIn (a .pause)) (a .budget) k q (l .hops .work) (l .hops .table) (l .hops .kinds) (l .hops .s) (a .a)
+    (d .end-at .result) (d .end-at .ensures) (i .4) (i .5) (x .last .given .1) (z .hop-cond-br .ensures (a .budget) (l .hops .kinds))) (not-true _ (c .if1 .taken))
     ∙ i .6
 
 same-length-11 : tie.Need-same-length-11 Inv-hops μ-hops
@@ -158,13 +176,19 @@ same-length-15 c = search needs
 
 returns-3 : tie.Need-returns-3 Inv-hops μ-hops
 returns-3 c =
-    let d = c .before .before .before .before .before .before .before .before .before .before .before .before .before .before .before .before in
+    let z = c .before .before .before .before .before .before .before .before .before in
+    let x = z .before .before .before .before .before in
+    let d = x .before .before in
     let l = d .before .before .before .before in
     let a = l .before .before .before .before .before .before .before .args in
+    let k = length (now (a .known)) in
+    let q = length (now (a .copy)) in
     let i = l .hops .inv in
-    hops-stop (now (a .facts)) (bodyIn (a .pause)) (a .budget) (length (now (a .known))) (length (now (a .copy))) (a .a) (l .hops .h) (d .before .before .before .hops-test .taken) (store (l .hops .work) (l .hops .table) (l .hops .kinds) (l .hops .s))
-    (hop-br (now (a .facts)) (bodyIn (a .pause)) (a .budget) (length (now (a .known))) (length (now (a .copy)))
-    (l .hops .work) (l .hops .table) (l .hops .kinds) (l .hops .s) (a .a) (d .end-at .result) (d .end-at .ensures) (c .before .before .before .before .before .before .before .before .before .before .before .before .before .before .last2 .given .1) (c .before .before .before .before .before .before .before .before .before .hop-br .ensures (length (now (a .known))) (length (now (a .copy))))) (not-true _ (c .if2 .taken))
+    let s = store (l .hops .work) (l .hops .table) (l .hops .kinds) (l .hops .s) in
+    let test = d .before .before .before .hops-test .taken in
+    hops-stop (now (a .facts)) (bodyIn (a .pause)) (a .budget) k q (a .a) (l .hops .h) test s
+    (hop-br (now (a .facts)) (bodyIn (a .pause)) (a .budget) k q (l .hops .work) (l .hops .table) (l .hops .kinds) (l .hops .s) (a .a)
+    (d .end-at .result) (d .end-at .ensures) (x .last2 .given .1) (z .hop-br .ensures k q)) (not-true _ (c .if2 .taken))
     ∙ i .6
 
 same-length-16 : tie.Need-same-length-16 Inv-hops μ-hops
@@ -187,10 +211,14 @@ returns-4 c =
     let d = c .before .before in
     let l = d .before .before .before .before in
     let a = l .before .before .before .before .before .before .before .args in
+    let k = length (now (a .known)) in
+    let q = length (now (a .copy)) in
     let i = l .hops .inv in
-    hops-stop (now (a .facts)) (bodyIn (a .pause)) (a .budget) (length (now (a .known))) (length (now (a .copy))) (a .a) (l .hops .h) (d .before .before .before .hops-test .taken) (store (l .hops .work) (l .hops .table) (l .hops .kinds) (l .hops .s))
-    (hop-case (now (a .facts)) (bodyIn (a .pause)) (a .budget) (length (now (a .known))) (length (now (a .copy)))
-    (l .hops .work) (l .hops .table) (l .hops .kinds) (l .hops .s) (a .a) (d .end-at .result) (d .end-at .ensures) (c .enum-told .given .1)) refl
+    let s = store (l .hops .work) (l .hops .table) (l .hops .kinds) (l .hops .s) in
+    let test = d .before .before .before .hops-test .taken in
+    hops-stop (now (a .facts)) (bodyIn (a .pause)) (a .budget) k q (a .a) (l .hops .h) test s
+    (hop-case (now (a .facts)) (bodyIn (a .pause)) (a .budget) k q (l .hops .work) (l .hops .table) (l .hops .kinds) (l .hops .s) (a .a)
+    (d .end-at .result) (d .end-at .ensures) (c .enum-told .given .1)) refl
     ∙ i .6
 
 same-length-21 : tie.Need-same-length-21 Inv-hops μ-hops
@@ -213,10 +241,14 @@ returns-5 c =
     let d = c .before .before in
     let l = d .before .before .before .before in
     let a = l .before .before .before .before .before .before .before .args in
+    let k = length (now (a .known)) in
+    let q = length (now (a .copy)) in
     let i = l .hops .inv in
-    hops-stop (now (a .facts)) (bodyIn (a .pause)) (a .budget) (length (now (a .known))) (length (now (a .copy))) (a .a) (l .hops .h) (d .before .before .before .hops-test .taken) (store (l .hops .work) (l .hops .table) (l .hops .kinds) (l .hops .s))
-    (hop-other (now (a .facts)) (bodyIn (a .pause)) (a .budget) (length (now (a .known))) (length (now (a .copy)))
-    (l .hops .work) (l .hops .table) (l .hops .kinds) (l .hops .s) (a .a) (d .end-at .result) (d .end-at .ensures) (c .enum-told2 .given .1)) refl
+    let s = store (l .hops .work) (l .hops .table) (l .hops .kinds) (l .hops .s) in
+    let test = d .before .before .before .hops-test .taken in
+    hops-stop (now (a .facts)) (bodyIn (a .pause)) (a .budget) k q (a .a) (l .hops .h) test s
+    (hop-other (now (a .facts)) (bodyIn (a .pause)) (a .budget) k q (l .hops .work) (l .hops .table) (l .hops .kinds) (l .hops .s) (a .a)
+    (d .end-at .result) (d .end-at .ensures) (c .enum-told2 .given .1)) refl
     ∙ i .6
 
 pub hops-spec : {M : Type 1} → statement M

@@ -28,7 +28,8 @@ abbrev μ-loop : tie.MeasureT-loop
 loop-holds : tie.Need-loop-holds Inv-loop μ-loop
 loop-holds c =
     let a = c .before .before .before .before .before .before .args in
-    (omega arith, refl, refl, refl, refl, refl, refl, thread-start (now (a .facts)) (bodyIn (a .pause)) (a .budget) (length (now (a .known))) (length (now (a .copy))) _ _)
+    let start = thread-start (now (a .facts)) (bodyIn (a .pause)) (a .budget) (length (now (a .known))) (length (now (a .copy))) _ _ in
+    (omega arith, refl, refl, refl, refl, refl, refl, start)
 
 hops-requires : tie.Need-hops-requires Inv-loop μ-loop
 hops-requires c κs = search needs
