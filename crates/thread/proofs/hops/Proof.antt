@@ -109,7 +109,8 @@ returns c =
     let a = l .before .before .before .before .before .before .before .args in
     let k = length (now (a .known)) in
     let q = length (now (a .copy)) in
-    hops-end (now (a .facts)) (bodyIn (a .pause)) (a .budget) k q (a .a) (6 - l .hops .h) (store (l .hops .work) (l .hops .table) (l .hops .kinds) (l .hops .s)) (omega arith)
+    hops-end (now (a .facts)) (bodyIn (a .pause)) (a .budget) k q (a .a) (6 - l .hops .h)
+    (store (l .hops .work) (l .hops .table) (l .hops .kinds) (l .hops .s)) (omega arith)
     ∙ l .hops .inv .6
 
 same-length-6 : tie.Need-same-length-6 Inv-hops μ-hops
@@ -156,7 +157,8 @@ returns-2 c =
     let test = d .before .before .before .hops-test .taken in
     hops-stop (now (a .facts)) (bodyIn (a .pause)) (a .budget) k q (a .a) (l .hops .h) test s
     (hop-cond-br (now (a .facts)) (bodyIn (a .pause)) (a .budget) k q (l .hops .work) (l .hops .table) (l .hops .kinds) (l .hops .s) (a .a)
-    (d .end-at .result) (d .end-at .ensures) (i .4) (i .5) (x .last .given .1) (z .hop-cond-br .ensures (a .budget) (l .hops .kinds))) (not-true _ (c .if1 .taken))
+    (d .end-at .result) (d .end-at .ensures) (i .4) (i .5) (x .last .given .1) (z .hop-cond-br .ensures (a .budget) (l .hops .kinds)))
+    (not-true _ (c .if1 .taken))
     ∙ i .6
 
 same-length-11 : tie.Need-same-length-11 Inv-hops μ-hops

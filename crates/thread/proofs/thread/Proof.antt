@@ -54,7 +54,8 @@ loop-again c =
       p .hops .kept .1 .1 .1 .0 ∙ i .5,
       p .hops .kept .1 .1 .1 .1 .0 ∙ i .6,
       thread-go (now (a .facts)) (bodyIn (a .pause)) (a .budget) (length (now (a .known))) (length (now (a .copy)))
-          _ (l .loop .a) (store (l .loop .work) (l .loop .table) (l .loop .kinds) (l .loop .s)) (p .before .before .before .before .before .before .loop-test .taken) (i .5) (i .6) (p .hops .ensures)
+          _ (l .loop .a) (store (l .loop .work) (l .loop .table) (l .loop .kinds) (l .loop .s))
+          (p .before .before .before .before .before .before .loop-test .taken) (i .5) (i .6) (p .hops .ensures)
           ∙ i .7,
     )
 
