@@ -119,7 +119,7 @@ module _ (facts : List ℕ) (body : Option ℕ) (budget known copy : ℕ) (s : S
   abbrev f : Facts
   f = factsIn facts body budget
 
-  abbrev new : List Code
+  abbrev pub new : List Code
   new = copyIn facts body budget (s .at .fresh) (targetIn (arenaOf s) l)
 
   abbrev given : List ℕ

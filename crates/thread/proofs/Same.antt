@@ -30,7 +30,7 @@ use Rattle.thread.specs.Storage.{Store, store, hopAtIn, hopIn, onwardIn,
 use Rattle.thread.proofs.Refined.{workOf, goes, arenaOf, Room, cond-br-hop, br-hop}
 
 -- the register that an end tests is in range
-abbrev Tested : End → Type 0
+abbrev pub Tested : End → Type 0
 Tested (e.Br t) = Unit {0}
 Tested (e.CondBr c t f) = c .0 < 2 ^ 32
 Tested (e.Case n) = Unit {0}
@@ -63,7 +63,7 @@ view-tested (i.Ret v) h = tt
 view-tested (i.Unreachable w) h = tt
 view-tested i.Stmt h = tt
 
-end-tested : (c : List Code) → ((j : ℕ) → InRange (codeAt c j)) → Tested (endOf c)
+pub end-tested : (c : List Code) → ((j : ℕ) → InRange (codeAt c j)) → Tested (endOf c)
 unfolding endOf
 end-tested [] h = tt
 end-tested (x ∷ []) h = view-tested (x .inst) (h 0 .inst)
