@@ -46,7 +46,7 @@ either true w = refl
 either false w = refl
 
 -- a block that ends with a Br is there, and holds code
-abbrev isBr : End → Type 0
+abbrev pub isBr : End → Type 0
 isBr (e.Br l) = Unit {0}
 isBr (e.CondBr c t f) = ⊥
 isBr (e.Case n) = ⊥

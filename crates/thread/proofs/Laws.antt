@@ -41,7 +41,7 @@ place-short (renumbered d) x local m n rest h = let g = h (local ++ ((d, m) ∷ 
 place-short kept x local m n rest h = let g = h local m in omega arith
 
 -- a copy has no more instructions than its target
-copy-short : (f : Facts) (own : ℕ → ℕ) (c : List Code) (local : List (ℕ × ℕ)) (m : ℕ) → length (copyFrom f own c local m) ≤ length c
+pub copy-short : (f : Facts) (own : ℕ → ℕ) (c : List Code) (local : List (ℕ × ℕ)) (m : ℕ) → length (copyFrom f own c local m) ≤ length c
 unfolding copyFrom
 copy-short f own [] local m = omega arith
 copy-short f own (x ∷ c) local m = place-short (howOf f own (x .inst)) x local m (length c) (copyFrom f own c) (copy-short f own c)
