@@ -123,16 +123,14 @@ fn hops(
     pause: Pause,
     budget: u32,
     a: usize,
-    from: Threaded,
+    mut s: Threaded,
 ) -> Threaded
     ensures { λ r. ⌜ store (now (work .exit)) (now (table .exit)) (now (kinds .exit)) r ≡ hopsIn (now (facts .entry)) (bodyIn pause) budget
-        (length (now (known .entry))) (length (now (copy .entry))) 6 a (store (now (work .entry)) (now (table .entry)) (now (kinds .entry)) from) ⌝ }
+        (length (now (known .entry))) (length (now (copy .entry))) 6 a (store (now (work .entry)) (now (table .entry)) (now (kinds .entry)) s) ⌝ }
 {
-    let mut s = from;
     let mut h: usize = 0;
     'hops: while h < 6 {
-        let last = gate::end_at(work, table, a);
-        match last {
+        match gate::end_at(work, table, a) {
             End::CondBr(c, t, e) => {
                 let z = hop_cond_br(work, table, known, copy, facts, pause, a, s, c, t, e);
                 s = z.at;

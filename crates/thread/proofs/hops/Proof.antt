@@ -32,14 +32,14 @@ hops-holds c = (omega arith, refl, refl, refl, refl, refl, refl)
 end-at-requires : tie.Need-end-at-requires Inv-hops μ-hops
 end-at-requires c κs = search needs
 
-enum-known-last : tie.Need-enum-known-last Inv-hops μ-hops
-enum-known-last c = search needs
+enum-known-c : tie.Need-enum-known-c Inv-hops μ-hops
+enum-known-c c = search needs
 
 hop-cond-br-requires : tie.Need-hop-cond-br-requires Inv-hops μ-hops
 hop-cond-br-requires c κs = search needs
 
-enum-known-last-2 : tie.Need-enum-known-last-2 Inv-hops μ-hops
-enum-known-last-2 c = search needs
+enum-known-l : tie.Need-enum-known-l Inv-hops μ-hops
+enum-known-l c = search needs
 
 hop-br-requires : tie.Need-hop-br-requires Inv-hops μ-hops
 hop-br-requires c κs = search needs
@@ -157,7 +157,7 @@ returns-2 c =
     let test = d .before .before .before .hops-test .taken in
     hops-stop (now (a .facts)) (bodyIn (a .pause)) (a .budget) k q (a .a) (l .hops .h) test s
     (hop-cond-br (now (a .facts)) (bodyIn (a .pause)) (a .budget) k q (l .hops .work) (l .hops .table) (l .hops .kinds) (l .hops .s) (a .a)
-    (d .end-at .result) (d .end-at .ensures) (i .4) (i .5) (x .last .given .1) (z .hop-cond-br .ensures (a .budget) (l .hops .kinds)))
+    (d .end-at .result) (d .end-at .ensures) (i .4) (i .5) (x .c .given .1) (z .hop-cond-br .ensures (a .budget) (l .hops .kinds)))
     (not-true _ (c .if1 .taken))
     ∙ i .6
 
@@ -190,7 +190,7 @@ returns-3 c =
     let test = d .before .before .before .hops-test .taken in
     hops-stop (now (a .facts)) (bodyIn (a .pause)) (a .budget) k q (a .a) (l .hops .h) test s
     (hop-br (now (a .facts)) (bodyIn (a .pause)) (a .budget) k q (l .hops .work) (l .hops .table) (l .hops .kinds) (l .hops .s) (a .a)
-    (d .end-at .result) (d .end-at .ensures) (x .last2 .given .1) (z .hop-br .ensures k q)) (not-true _ (c .if2 .taken))
+    (d .end-at .result) (d .end-at .ensures) (x .l .given .1) (z .hop-br .ensures k q)) (not-true _ (c .if2 .taken))
     ∙ i .6
 
 same-length-16 : tie.Need-same-length-16 Inv-hops μ-hops
@@ -261,9 +261,9 @@ hops-spec =
     μ-hops
     hops-holds
     end-at-requires
-    enum-known-last
+    enum-known-c
     hop-cond-br-requires
-    enum-known-last-2
+    enum-known-l
     hop-br-requires
     enum-told
     enum-told-2
