@@ -1,0 +1,100 @@
+use Prim.Native.Nat.{_+_, _-_, _/_, _≤_}
+use native.Mathlib.Omega.{arith}
+use mathlib.Core.Path.{_≡_, refl, ap, _∙_}
+use borrow.Author.Needs.{needs}
+use denote.Ref.{now}
+use lib.ListN.{length}
+use Rattle.pausing.specs.Storage.{bodyIn}
+use Rattle.thread.specs.Storage.{store, threadFromIn, threadIn}
+use Rattle.thread.proofs.Laws.{thread-start, thread-end, thread-go}
+use Rattle.thread.proofs.thread.Statement.{statement}
+use Rattle.thread.proofs.thread.Tie as tie
+
+abbrev Inv-loop : tie.InvT-loop
+Inv-loop work₀ table₀ kinds₀ known₀ copy₀ facts pause budget top n s₀ a₀ work table kinds known copy s a =
+    (a ≤ n)
+    × (n ≡ length table₀ / 32)
+    × (length work ≡ length work₀)
+    × (length table ≡ length table₀)
+    × (length kinds ≡ length kinds₀)
+    × (length known ≡ length known₀)
+    × (length copy ≡ length copy₀)
+    × (threadFromIn facts (bodyIn pause) budget (length known₀) (length copy₀) (n - a) a (store work table kinds s)
+    ≡ threadIn facts (bodyIn pause) budget (length known₀) (length copy₀) work₀ table₀ kinds₀ top)
+
+abbrev μ-loop : tie.MeasureT-loop
+μ-loop work₀ table₀ kinds₀ known₀ copy₀ facts pause budget top n s₀ a₀ work table kinds known copy s a = n - a
+
+loop-holds : tie.Need-loop-holds Inv-loop μ-loop
+loop-holds c =
+    let a = c .before .before .before .before .before .before .args in
+    let start = thread-start (now (a .facts)) (bodyIn (a .pause)) (a .budget) (length (now (a .known))) (length (now (a .copy))) _ _ in
+    (omega arith, refl, refl, refl, refl, refl, refl, start)
+
+hops-requires : tie.Need-hops-requires Inv-loop μ-loop
+hops-requires c κs = search needs
+
+add-a : tie.Need-add-a Inv-loop μ-loop
+add-a c = search needs
+
+loop-less : tie.Need-loop-less Inv-loop μ-loop
+loop-less c = search needs
+
+loop-again : tie.Need-loop-again Inv-loop μ-loop
+loop-again c =
+    let p = c .before .before .before .before .before .before .before .before .before .before in
+    let l = p .before .before .before .before .before .before .before in
+    let a = l .before .before .before .before .before .before .before .args in
+    let i = l .loop .inv in (
+      omega arith,
+      i .1,
+      p .hops .kept .0 ∙ i .2,
+      p .hops .kept .1 .0 ∙ i .3,
+      p .hops .kept .1 .1 .0 ∙ i .4,
+      p .hops .kept .1 .1 .1 .0 ∙ i .5,
+      p .hops .kept .1 .1 .1 .1 .0 ∙ i .6,
+      thread-go (now (a .facts)) (bodyIn (a .pause)) (a .budget) (length (now (a .known))) (length (now (a .copy)))
+          _ (l .loop .a) (store (l .loop .work) (l .loop .table) (l .loop .kinds) (l .loop .s))
+          (p .before .before .before .before .before .before .loop-test .taken) (i .5) (i .6) (p .hops .ensures)
+          ∙ i .7,
+    )
+
+same-length : tie.Need-same-length Inv-loop μ-loop
+same-length c = search needs
+
+same-length-2 : tie.Need-same-length-2 Inv-loop μ-loop
+same-length-2 c = search needs
+
+same-length-3 : tie.Need-same-length-3 Inv-loop μ-loop
+same-length-3 c = search needs
+
+same-length-4 : tie.Need-same-length-4 Inv-loop μ-loop
+same-length-4 c = search needs
+
+same-length-5 : tie.Need-same-length-5 Inv-loop μ-loop
+same-length-5 c = search needs
+
+returns : tie.Need-returns Inv-loop μ-loop
+returns c =
+    let l = c .before in
+    let a = l .before .before .before .before .before .before .before .args in
+    thread-end (now (a .facts)) (bodyIn (a .pause)) (a .budget) (length (now (a .known))) (length (now (a .copy))) _ (l .loop .a)
+    (store (l .loop .work) (l .loop .table) (l .loop .kinds) (l .loop .s)) (omega arith) ∙ l .loop .inv .7
+
+pub thread-spec : {M : Type 1} → statement M
+thread-spec =
+    tie.close
+    (tie.spec
+    Inv-loop
+    μ-loop
+    loop-holds
+    hops-requires
+    add-a
+    loop-less
+    loop-again
+    same-length
+    same-length-2
+    same-length-3
+    same-length-4
+    same-length-5
+    returns)
