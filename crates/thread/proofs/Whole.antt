@@ -187,3 +187,80 @@ module _ (C W K nb : ℕ) where
     pub sizes-hop : Sizes a (hopIn facts body budget known copy s a .to)
     unfolding hopIn
     sizes-hop = sizes-end (endOf (blockAt (workOf s) a)) refl
+
+-- n and N: what the blocks name, and how many instructions they had before
+module _
+    (facts : List ℕ)
+    (body : Option ℕ)
+    (budget known copy : ℕ)
+    (n : Counts)
+    (N : ℕ)
+    (work table kinds : List ℕ)
+    (top : ℕ)
+    (stored : Stored (store work table kinds (record { top = top; grown = 0; fresh = 0; edited = false })))
+    (inv : (v : Work) → Edits (factsIn facts body budget) (unthreaded (blocksOf work table)) v → Inv (factsIn facts body budget) n N v)
+    (space : sizesFrom (length table / 32) 0 table + top + (2 * N + 76) ≤ min (length work / 32) 4294967295)
+    (registers : N / 2 + 40 ≤ length kinds)
+    (numbers : length (kindsIn facts) + (N / 2 + 40) ≤ 65535)
+    (known-words : N + (N / 2 + 36) ≤ known / 2)
+    (copy-words : N + (N / 2 + 36) ≤ copy / 2)
+  where
+    abbrev C : ℕ
+    C = sizesFrom (length table / 32) 0 table + top
+
+    record Good (a : ℕ) (s : Store) : Type 0 where
+      pub stored-at : Stored s
+      pub edits : Edits (factsIn facts body budget) (unthreaded (blocksOf work table)) (workOf s)
+      pub sizes : Sizes C (length work) (length kinds) (length table / 32) a s
+
+    good-fine : (a : ℕ) (s : Store) → Good a s → Fine facts body budget known copy s a
+    good-fine a s g =
+        let v = inv (workOf s) (g .edits) in
+        let z = g .sizes in
+        let few = z .fresh in
+        let long = z .kinds in
+        let bytes = z .work in
+        let high = top-le C (length work) (length kinds) (length table / 32) a s z in
+        let block = block-le (workOf s .blocks) a in
+        let all = v .code in
+        let more = v .grown in
+        let given = v .fresh in
+        let count = length-take-le (s .at .fresh) (s .kinds) (omega arith) in
+        fine facts body budget known copy n N s a (g .stored-at .sound) v
+        (record {
+          code = rw bytes (omega arith);
+          kinds = omega arith;
+          numbers = omega arith;
+          known-words = omega arith;
+          copy-words = omega arith;
+        })
+
+    good-keeps : (a : ℕ) (s : Store) → Good a s → Good a (hopIn facts body budget known copy s a .to)
+    good-keeps a s g =
+        let w = good-fine a s g in
+        record {
+          stored-at = hop-kept facts body budget known copy s a w (g .stored-at .canonical);
+          edits = edits-join (factsIn facts body budget) (g .edits) (hop-edits facts body budget known copy s a w);
+          sizes = sizes-hop C (length work) (length kinds) (length table / 32) facts body budget known copy s a w (g .sizes);
+        }
+
+    good-leads : (a : ℕ) (s : Store) → Good a s → Good (suc a) s
+    good-leads a s g = record {
+      stored-at = g .stored-at;
+      edits = g .edits;
+      sizes = sizes-lead C (length work) (length kinds) (length table / 32) a s (g .sizes);
+    }
+
+    good-start : Good 0 (store work table kinds (record { top = top; grown = 0; fresh = 0; edited = false }))
+    good-start =
+        let z : length table / 32 - 0 ≡ length table / 32 = omega arith in
+        let same = ap (λ (m : ℕ). sizesFrom m 0 table) z in
+        record {
+          stored-at = stored;
+          edits = nil (unthreaded (blocksOf work table));
+          sizes = record { work = refl; table = refl; kinds = refl; fresh = omega arith; top = inl (omega arith) };
+        }
+
+    -- what is left is what Thread leaves
+    pub thread-is : thread (factsIn facts body budget) (blocksOf work table) ≡ workOf (threadIn facts body budget known copy work table kinds top)
+    thread-is = thread-same facts body budget known copy Good good-fine good-keeps good-leads work table kinds top good-start
