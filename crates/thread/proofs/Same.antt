@@ -146,3 +146,18 @@ module _ (facts : List ℕ) (body : Option ℕ) (budget known copy : ℕ) where
       thread-same work table kinds top g =
           let s = store work table kinds (record { top = top; grown = 0; fresh = 0; edited = false }) in
           ap (λ (n : ℕ). threadFrom f n 0 (workOf s)) (length-blocks work table) ∙ from-same (length table / 32) 0 s g
+
+      from-holds : (Q : Store → Type 0) → ((a : ℕ) (s : Store) → Good a s → Q s) → (n a : ℕ) (s : Store) → Good a s
+          → Q (threadFromIn facts body budget known copy n a s)
+      unfolding threadFromIn
+      from-holds Q q zero a s g = q a s g
+      from-holds Q q (suc n) a s g =
+          let t = hopsIn facts body budget known copy 6 a s in
+          from-holds Q q n (suc a) t (leads a t (hops-good a 6 s g))
+
+      -- and what it says of every block holds at the end
+      pub thread-holds : (Q : Store → Type 0) → ((a : ℕ) (s : Store) → Good a s → Q s) → (work table kinds : List ℕ) (top : ℕ)
+          → Good 0 (store work table kinds (record { top = top; grown = 0; fresh = 0; edited = false }))
+          → Q (threadIn facts body budget known copy work table kinds top)
+      thread-holds Q q work table kinds top g =
+          from-holds Q q (length table / 32) 0 (store work table kinds (record { top = top; grown = 0; fresh = 0; edited = false })) g

@@ -36,7 +36,7 @@ use Rattle.join.specs.Storage.{replaced, givenIn, targetIn}
 use Rattle.sized.proofs.Threads.{Inv}
 use Rattle.thread.specs.Storage.{Store, store, turnedAt, appendIn, hopBrIn, hopCondBrIn, hopAtIn, hopIn, threadIn}
 use Rattle.thread.proofs.Refined.{workOf, arenaOf, Room, new, join-grown}
-use Rattle.thread.proofs.Same.{Fine, Tested, end-tested, thread-same}
+use Rattle.thread.proofs.Same.{Fine, Tested, end-tested, thread-same, thread-holds}
 use Rattle.thread.proofs.Kept.{Stored, hop-edits, hop-kept}
 use Rattle.thread.proofs.Space.{Spacious, fine}
 use Rattle.thread.proofs.Tops.{Far, replaced-far, replaced-last-far, kinds-long}
@@ -264,3 +264,8 @@ module _
     -- what is left is what Thread leaves
     pub thread-is : thread (factsIn facts body budget) (blocksOf work table) ≡ workOf (threadIn facts body budget known copy work table kinds top)
     thread-is = thread-same facts body budget known copy Good good-fine good-keeps good-leads work table kinds top good-start
+
+    -- which stays sound and canonical
+    pub thread-stored : Stored (threadIn facts body budget known copy work table kinds top)
+    thread-stored =
+        thread-holds facts body budget known copy Good good-fine good-keeps good-leads Stored (λ a s g. g .stored-at) work table kinds top good-start
