@@ -1,18 +1,16 @@
 -- How far the arena goes: a join moves its block at most once, and touches no other block.
 use Prim.Native.Nat.{ℕ, suc, _+_, _-_, _≤_}
 use native.Mathlib.Omega.{arith}
-use mathlib.Core.Path.{_≡_, refl, sym, ap, subst, _∙_}
-use mathlib.Core.Bool.{Bool, true, false, _&&_, not}
+use mathlib.Core.Path.{_≡_, refl, sym, subst, _∙_}
+use mathlib.Core.Bool.{Bool, true, false}
 use mathlib.Core.List.{List, [], _∷_}
-use lib.Dec.{leb}
 use lib.ListN.{length, set, length-set}
-use Rattle.format.specs.declared.Record.{Record}
 use Rattle.format.specs.Record.{recordAt}
 use Rattle.store.proofs.Laws.{put-length}
 use Rattle.inst.specs.declared.Code.{Code}
 use Rattle.codec.specs.Codec.{recordOf}
 use Rattle.items.specs.Items.{blockRecord}
-use Rattle.arena.specs.Arena.{Arena, arena, Topped, topped, sizeOf, isLast, room, moves, moveIf, toEnd, popped, pop, grows, push, pushAll}
+use Rattle.arena.specs.Arena.{Arena, arena, Topped, topped, sizeOf, isLast, moves, toEnd, popped, pop, grows, push, pushAll}
 use Rattle.arena.proofs.Laws.{moving, moves-by, by-moves, by-popped, by-grows}
 use Rattle.arena.proofs.Moved.{copied-length}
 use Rattle.arena.proofs.Pointed.{pointed-other}

@@ -1,19 +1,18 @@
 -- Threading over the storage is the definition's, where the storage has room: each block is moved to the top once at most.
 use Prim.Native.Nat.{ℕ, zero, suc, _+_, _-_, _*_, _/_, _≤_, _<_, _^_, min}
 use native.Mathlib.Omega.{arith}
-use mathlib.Core.Path.{_≡_, refl, sym, ap, subst, _∙_}
+use mathlib.Core.Path.{_≡_, refl, ap, subst, _∙_}
 use mathlib.Core.Bool.{Bool, true, false, _&&_}
-use mathlib.Core.List.{List, [], _∷_, _++_}
+use mathlib.Core.List.{List, [], _∷_}
 use mathlib.Core.Logic.{_⊎_, inl, inr}
 use mathlib.Core.Option.{Option}
 use borrow.Author.Tests.{le-leb, eq-eqb}
-use lib.Dec.{leb, eqb}
-use lib.ListN.{length, getD, take, length-append}
+use lib.Dec.{leb}
+use lib.ListN.{length, getD, length-append}
 use lib.Seq.{length-take-le}
 use Rattle.general.proofs.Numbers.{order}
 use Rattle.format.specs.Record.{recordAt}
 use Rattle.shape.specs.declared.exist.Counts.{Counts}
-use Rattle.inst.specs.declared.BlockId.{BlockId}
 use Rattle.inst.specs.declared.Code.{Code}
 use Rattle.codec.specs.Codec.{InRange}
 use Rattle.procedure.specs.Lists.{joined}
@@ -23,7 +22,6 @@ use Rattle.ends.specs.Ends.{codeAt, endOf}
 use Rattle.blocks.specs.Blocks.{blocksOf}
 use Rattle.blocks.proofs.Bytes.{block-range}
 use Rattle.arms.proofs.Reach.{Named, end-named}
-use Rattle.steps.specs.Facts.{Facts}
 use Rattle.steps.specs.Thread.{Work, blockAt, stops, unthreaded, thread}
 use Rattle.steps.proofs.Edits.{Edits, nil, edits-join}
 use Rattle.facts.specs.Storage.{factsIn, kindsIn}
@@ -38,7 +36,7 @@ use Rattle.thread.specs.Storage.{Store, store, turnedAt, appendIn, hopBr
 use Rattle.thread.proofs.Refined.{workOf, arenaOf, Room, new, join-grown}
 use Rattle.thread.proofs.Same.{Fine, Tested, end-tested, thread-same, thread-holds}
 use Rattle.thread.proofs.Kept.{Stored, hop-edits, hop-kept}
-use Rattle.thread.proofs.Space.{Spacious, fine}
+use Rattle.thread.proofs.Space.{fine}
 use Rattle.thread.proofs.Tops.{Far, replaced-far, replaced-last-far, kinds-long}
 
 -- the places of m blocks from block a on
