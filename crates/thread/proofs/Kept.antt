@@ -1,16 +1,15 @@
 -- A hop keeps the storage sound and its records canonical, and is a row of edits of the definition.
-use Prim.Native.Nat.{ℕ, suc, _+_, _-_, _/_, _≤_, _<_, _^_}
+use Prim.Native.Nat.{ℕ, _-_, _/_, _≤_, _<_, _^_}
 use native.Mathlib.Omega.{arith}
-use mathlib.Core.Path.{_≡_, refl, sym, ap, subst, _∙_}
+use mathlib.Core.Path.{_≡_, refl, ap, subst, _∙_}
 use mathlib.Core.Bool.{Bool, true, false, _&&_, cond}
-use mathlib.Core.List.{List, [], _∷_, map}
+use mathlib.Core.List.{List, [], map}
 use mathlib.Core.Logic.{_⊎_, inl, inr}
 use mathlib.Core.Option.{Option}
 use lib.Dec.{leb}
 use lib.ListN.{length, getD, take, drop, List·getD-eq-default}
 use Rattle.general.proofs.Numbers.{order}
 use Rattle.format.specs.Record.{recordsOf, recordAt}
-use Rattle.inst.specs.declared.BlockId.{BlockId}
 use Rattle.inst.specs.declared.Code.{Code}
 use Rattle.codec.specs.Codec.{codeOf, InRange}
 use Rattle.ends.specs.declared.End.{End}
@@ -32,8 +31,8 @@ use Rattle.arena.specs.Arena.{arena}
 use Rattle.arena.proofs.Moved.{Sound}
 use Rattle.join.specs.Storage.{replaced}
 use Rattle.join.proofs.Blocks.{replaced-canonical}
-use Rattle.thread.specs.Storage.{Store, Hopping, turnedAt, appendIn, hopBrIn, hopCondBrIn, hopAtIn, hopIn}
-use Rattle.thread.proofs.Refined.{workOf, goes, arenaOf, Room, new, join-grown}
+use Rattle.thread.specs.Storage.{Store, turnedAt, appendIn, hopBrIn, hopCondBrIn, hopAtIn, hopIn}
+use Rattle.thread.proofs.Refined.{workOf, arenaOf, Room, new, join-grown}
 use Rattle.thread.proofs.Same.{Fine, Tested, end-tested, hop-same}
 
 -- what a hop is given and leaves

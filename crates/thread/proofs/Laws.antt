@@ -1,5 +1,5 @@
 -- What the code of the hops is told, in the words of the definition over the storage.
-use Prim.Native.Nat.{ℕ, zero, suc, _+_, _-_, _/_, _≤_, _<_}
+use Prim.Native.Nat.{ℕ, suc, _+_, _-_, _/_, _≤_, _<_}
 use native.Mathlib.Numerals.{add-one}
 use native.Mathlib.Omega.{arith}
 use mathlib.Core.Path.{_≡_, refl, sym, ap, _∙_}
@@ -8,7 +8,7 @@ use mathlib.Core.List.{List, [], _∷_, _++_}
 use mathlib.Core.Option.{Option}
 use borrow.Author.Tests.{ltb-false}
 use lib.Dec.{eqb, ltb, leb}
-use lib.ListN.{length, getD, take, length-take}
+use lib.ListN.{length, getD, length-take}
 use Rattle.inst.specs.declared.Code.{Code}
 use Rattle.inst.specs.declared.Reg.{Reg}
 use Rattle.inst.specs.declared.BlockId.{BlockId}
@@ -26,9 +26,9 @@ use Rattle.steps.specs.Copy.{How, leftOut, renumbered, kept, howOf, ownUses, pl
 use Rattle.steps.specs.Thread.{stops}
 use Rattle.facts.specs.Storage.{factsIn}
 use Rattle.branch.specs.declared.Turn.{Turn}
-use Rattle.branch.specs.Storage.{Turned, turned, before, turnedIn}
+use Rattle.branch.specs.Storage.{turned, before, turnedIn}
 use Rattle.arena.specs.Arena.{Arena, arena}
-use Rattle.join.specs.Storage.{Left, left, grownTo, nextIn, targetIn, copyIn, joinOf}
+use Rattle.join.specs.Storage.{left, grownTo, nextIn, targetIn, joinOf}
 use Rattle.thread.specs.declared.Threaded.{Threaded}
 use Rattle.thread.specs.declared.Hopped.{Hopped}
 use Rattle.thread.specs.Storage.{Store, store, Hopping, hopped, hopping, stayIn, turnAt, turnedAt, freshTo, joinedAt, appendIn}

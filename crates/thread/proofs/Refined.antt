@@ -1,15 +1,13 @@
 -- Where the blocks lie apart and there is room, a hop over the storage is the definition's hop over the blocks.
-use Prim.Native.Nat.{ℕ, zero, suc, _+_, _/_, _≤_, _<_, _^_, min}
+use Prim.Native.Nat.{ℕ, _+_, _/_, _≤_, _<_, _^_}
 use native.Mathlib.Omega.{arith}
-use mathlib.Core.Path.{_≡_, refl, sym, ap, subst, _∙_}
+use mathlib.Core.Path.{_≡_, refl, sym, ap, _∙_}
 use mathlib.Core.Bool.{Bool, true, false, _&&_, cond, true≢false}
-use mathlib.Core.List.{List, [], _∷_, _++_, map}
+use mathlib.Core.List.{List, [], _++_, map}
 use mathlib.Core.Option.{Option, none, some}
-use borrow.Author.Tests.{ltb-true}
-use lib.Dec.{eqb, leb, ltb}
-use lib.ListN.{length, getD, take, set}
+use lib.Dec.{eqb, leb}
+use lib.ListN.{length, getD, take}
 use lib.Seq.{length-take-le}
-use Rattle.general.proofs.Booleans.{and-first}
 use Rattle.format.specs.Record.{recordAt}
 use Rattle.inst.specs.declared.Code.{Code}
 use Rattle.ends.specs.Ends.{front}
@@ -18,7 +16,7 @@ use Rattle.codec.specs.Codec.{recordOf}
 use Rattle.steps.specs.Facts.{Facts}
 use Rattle.steps.specs.Copy.{copyOf, kindsOf}
 use Rattle.steps.specs.Note.{nothing, notes, sourceOf, valueOf}
-use Rattle.steps.specs.Thread.{Work, Hop, stay, last, next, blockAt, nextNumber, stops, appended, appendIf, hopBr, hopCondBr, onward}
+use Rattle.steps.specs.Thread.{Work, Hop, blockAt, nextNumber, stops, appended, appendIf, hopBr, hopCondBr, onward}
 use Rattle.facts.specs.Storage.{factsIn, kindsIn}
 use Rattle.branch.specs.declared.Turn.{Turn}
 use Rattle.branch.specs.declared.Turn.the-variants as u
@@ -28,10 +26,9 @@ use Rattle.arena.specs.Arena.{Arena, arena, sizeOf, room}
 use Rattle.arena.proofs.Moved.{Sound}
 use Rattle.arena.proofs.Grown.{Grown, frontRecords}
 use Rattle.arena.proofs.Appended.{AllInRange}
-use Rattle.join.specs.Storage.{grownTo, targetIn, copyIn, givenIn, kindsPut, replaced}
+use Rattle.join.specs.Storage.{targetIn, copyIn, givenIn, kindsPut, replaced}
 use Rattle.join.proofs.Blocks.{replaced-block}
 use Rattle.join.proofs.Hop as j
-use Rattle.thread.specs.declared.Threaded.{Threaded}
 use Rattle.thread.specs.Storage.{Store, store, Hopping, turnedAt, freshTo, appendIn, hopBrIn, hopCondBrIn}
 
 -- what the definition sees of the storage

@@ -1,12 +1,12 @@
 -- The hops and the blocks one after the other: where each hop has what it asks, they are the definition's.
 use Prim.Native.Nat.{ℕ, zero, suc, _/_, _<_, _^_}
-use mathlib.Core.Path.{_≡_, refl, sym, ap, subst, _∙_}
+use mathlib.Core.Path.{_≡_, refl, ap, subst, _∙_}
 use mathlib.Core.Bool.{Bool, true, false, _&&_, cond}
 use mathlib.Core.List.{List, [], _∷_}
 use mathlib.Core.Option.{Option}
 use borrow.Author.Tests.{ltb-true}
 use lib.Dec.{leb, ltb}
-use lib.ListN.{length, getD}
+use lib.ListN.{length}
 use Rattle.general.proofs.Booleans.{and-first}
 use Rattle.inst.specs.declared.BlockId.{BlockId}
 use Rattle.inst.specs.declared.Code.{Code}
@@ -146,3 +146,18 @@ module _ (facts : List ℕ) (body : Option ℕ) (budget known copy : ℕ) where
       thread-same work table kinds top g =
           let s = store work table kinds (record { top = top; grown = 0; fresh = 0; edited = false }) in
           ap (λ (n : ℕ). threadFrom f n 0 (workOf s)) (length-blocks work table) ∙ from-same (length table / 32) 0 s g
+
+      from-holds : (Q : Store → Type 0) → ((a : ℕ) (s : Store) → Good a s → Q s) → (n a : ℕ) (s : Store) → Good a s
+          → Q (threadFromIn facts body budget known copy n a s)
+      unfolding threadFromIn
+      from-holds Q q zero a s g = q a s g
+      from-holds Q q (suc n) a s g =
+          let t = hopsIn facts body budget known copy 6 a s in
+          from-holds Q q n (suc a) t (leads a t (hops-good a 6 s g))
+
+      -- and what it says of every block holds at the end
+      pub thread-holds : (Q : Store → Type 0) → ((a : ℕ) (s : Store) → Good a s → Q s) → (work table kinds : List ℕ) (top : ℕ)
+          → Good 0 (store work table kinds (record { top = top; grown = 0; fresh = 0; edited = false }))
+          → Q (threadIn facts body budget known copy work table kinds top)
+      thread-holds Q q work table kinds top g =
+          from-holds Q q (length table / 32) 0 (store work table kinds (record { top = top; grown = 0; fresh = 0; edited = false })) g

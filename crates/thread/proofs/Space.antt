@@ -1,13 +1,13 @@
 -- What a hop asks, in numbers: for a storage whose blocks are as sound as the definition keeps them.
-use Prim.Native.Nat.{ℕ, suc, _+_, _-_, _/_, _≤_, _<_, _^_, min}
+use Prim.Native.Nat.{ℕ, _+_, _-_, _/_, _≤_, _<_, min}
 use native.Mathlib.Omega.{arith}
 use mathlib.Core.Path.{_≡_, refl, sym, ap, subst, _∙_}
 use mathlib.Core.Bool.{Bool, true, false, _&&_, _||_, not, false≢true}
-use mathlib.Core.List.{List, [], _∷_, map}
+use mathlib.Core.List.{List, [], _∷_}
 use mathlib.Core.Logic.{_⊎_, inl, inr}
 use mathlib.Core.Option.{Option}
 use borrow.Author.Tests.{le-leb, not-false}
-use lib.Dec.{eqb, leb, ltb}
+use lib.Dec.{eqb, ltb}
 use lib.ListN.{length, getD, take, drop, length-take, length-drop, length-map, List·getD-eq-default}
 use lib.Seq.{length-take-le}
 use Rattle.general.proofs.Booleans.{and-first}
@@ -15,14 +15,11 @@ use Rattle.general.proofs.Numbers.{order}
 use Rattle.format.specs.Record.{recordsOf, recordAt}
 use Rattle.format.proofs.Laws.{length-records}
 use Rattle.shape.specs.declared.exist.Counts.{Counts}
-use Rattle.inst.specs.declared.BlockId.{BlockId}
 use Rattle.inst.specs.declared.Code.{Code}
 use Rattle.codec.specs.Codec.{codeOf}
 use Rattle.procedure.specs.Lists.{present, holds}
-use Rattle.ends.specs.declared.End.{End}
-use Rattle.ends.specs.declared.End.the-variants as e
-use Rattle.ends.specs.Ends.{front, endOf}
-use Rattle.blocks.specs.Blocks.{blocksOf, blockRecordsIn}
+use Rattle.ends.specs.Ends.{endOf}
+use Rattle.blocks.specs.Blocks.{blockRecordsIn}
 use Rattle.blocks.proofs.Apart.{last-place}
 use Rattle.blocks.proofs.Parts.{codes-at, records-at}
 use Rattle.blocks.proofs.Rewrites.{front-take}
