@@ -1,0 +1,1 @@
+// Where the classes of a file start, and parts of it.

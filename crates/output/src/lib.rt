@@ -1,0 +1,1 @@
+// The result of Shorten, written where it fits.
