@@ -11,11 +11,12 @@ use std::sync::LazyLock;
 static FAULT: LazyLock<String> = LazyLock::new(|| std::env::var("STAND_IN_FAULT").unwrap_or_default());
 
 /// # Safety
-/// `length` bytes stand at `bytes`, and `room` bytes at `out` are the caller's to write.
+/// `length` bytes stand at `bytes`, and `room` bytes at `out` are the caller's to write; a null pointer has none.
 #[unsafe(no_mangle)]
 pub unsafe extern "C" fn halivomue_shorten(bytes: *const u8, length: usize, out: *mut u8, room: usize) -> Shortening {
-    let (bytes, out) =
-        unsafe { (std::slice::from_raw_parts(bytes, length), std::slice::from_raw_parts_mut(out, room)) };
+    let bytes = if length == 0 { &[] } else { unsafe { std::slice::from_raw_parts(bytes, length) } };
+    let beyond = unsafe { out.add(room) };
+    let out = if room == 0 { &mut [] } else { unsafe { std::slice::from_raw_parts_mut(out, room) } };
     let shorten = reference().expect("the papers were there when this was built");
     let mut a = shorten(bytes, room);
     if a.number == 0 {
@@ -36,6 +37,7 @@ pub unsafe extern "C" fn halivomue_shorten(bytes: *const u8, length: usize, out:
         "record" => told.record += u32::from(told.number == 5),
         "byte" if told.fresh > 2 => out[told.length - 1] ^= 1,
         "past" if told.grown > 0 && room > told.length => out[told.length] ^= 1,
+        "beyond" if told.number == 0 && told.length == room => unsafe { *beyond = 0 },
         "refusal" if told.number == 9 && room > 0 => out[room - 1] ^= 1,
         "room" if told.number == 0 && told.length == room => told = refused(9),
         "limit" if told.number == 8 && bytes.iter().step_by(32).filter(|&&class| class == 4).count() == 481 => {
