@@ -1,0 +1,1 @@
+// Shorten over lent storage.
