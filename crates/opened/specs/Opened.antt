@@ -16,7 +16,7 @@ use Rattle.blocks.specs.Blocks.{blocksOf, Canonical}
 use Rattle.blocks.specs.Rewrite.{Tiled}
 use Rattle.steps.specs.Write.{blockRecords, bodyRecords, tableRecords}
 use Rattle.facts.specs.Storage.{kindsOf, operandsIn}
-use Rattle.round.specs.WellFormed.{WellFormed}
+use Rattle.round.specs.WellFormed.{WellFormed, armCount}
 use Rattle.classes.specs.Parts.{partOf}
 
 -- the bytes of each class
@@ -48,7 +48,10 @@ pub record Opened (p : Procedure) (x : Parts) : Type 0 where
   pub code-bytes : Bytes (x .code)
   pub registers-length : length (x .registers) ≡ 32 * length (p .registers)
   pub heads-length : length (x .heads) ≡ 32 * length (p .blocks)
+  pub body-length : length (x .body) ≡ 32 * length (bodyRecords (p .body))
   pub code-length : length (x .code) ≡ 32 * length (joined (p .blocks))
+  pub operands-length : length (x .operands) ≡ 32 * length (p .operands)
+  pub arms-length : length (x .arms) ≡ 32 * armCount (p .tables)
   -- what they hold
   pub kinds : kindsOf (x .registers) ≡ p .registers
   pub blocks : blocksOf (x .code) (x .heads) ≡ p .blocks
