@@ -1,31 +1,28 @@
 -- A file within the shortening limits is opened into its parts, and its parts are the file.
-use Prim.Native.Nat.{ℕ, _*_, _-_, _/_, _%_, _≤_, _<_}
+use Prim.Native.Nat.{ℕ, _*_, _-_, _/_}
 use native.Mathlib.Omega.{arith}
-use mathlib.Core.Path.{_≡_, refl, sym, ap, subst, _∙_}
+use mathlib.Core.Path.{_≡_, sym, ap, _∙_}
 use mathlib.Core.Bool.{true}
-use mathlib.Core.List.{List, [], _∷_, _++_, map, map-map, append-nil}
-use mathlib.Core.Option.{Option, none, some}
+use mathlib.Core.List.{List, [], _++_, map, map-map, append-nil}
 use lib.ListN.{length, drop, length-map, drop-of-length-le}
 use Rattle.format.specs.declared.Record.{Record}
-use Rattle.format.specs.Record.{recordsOf, recordAt, blank}
+use Rattle.format.specs.Record.{recordsOf, blank}
 use Rattle.format.specs.Kinds.{right}
 use Rattle.format.proofs.Laws.{length-records}
 use Rattle.layout.specs.declared.Layout.{Layout}
 use Rattle.layout.specs.Classes.{ofClass, before}
 use Rattle.layout.proofs.Order.{before-none, sorted-of}
 use Rattle.store.specs.Store.{Bytes, Fits}
-use Rattle.read.specs.Structure.{tiled, numbered, codeOf as recordsOfBlock}
+use Rattle.read.specs.Structure.{numbered, codeOf as recordsOfBlock}
 use Rattle.read.specs.Work.{LaidOut}
-use Rattle.read.proofs.Laid.{Sizes, sizes, class-part}
+use Rattle.read.proofs.Laid.{sizes, class-part}
 use Rattle.codec.specs.Codec.{codeOf}
 use Rattle.procedure.specs.Procedure.{Procedure, procedureOf, firstOf, tablesFrom}
-use Rattle.procedure.specs.Lists.{joined}
 use Rattle.blocks.specs.Blocks.{blocksOf, Canonical}
 use Rattle.blocks.specs.Rewrite.{Tiled}
 use Rattle.blocks.proofs.Canonical.{right-canonical}
-use Rattle.steps.specs.Write.{bodyRecords}
 use Rattle.facts.specs.Storage.{kindsOf, operandsIn}
-use Rattle.round.specs.WellFormed.{All, armCount}
+use Rattle.round.specs.WellFormed.{All}
 use Rattle.round.proofs.Lists.{all-at, all-both}
 use Rattle.round.proofs.Accepted.{Accepted, read-accepted}
 use Rattle.round.proofs.Bytes.{records-fit}

@@ -1,5 +1,5 @@
 -- A part of a file's bytes: its records, its length, and the parts one after the other.
-use Prim.Native.Nat.{ℕ, _+_, _*_, _-_, _/_, _%_, _≤_, min}
+use Prim.Native.Nat.{ℕ, _+_, _*_, _-_, _/_, _≤_, min}
 use native.Mathlib.Omega.{arith}
 use mathlib.Core.Path.{_≡_, sym, ap, _∙_}
 use mathlib.Core.List.{List, _++_}

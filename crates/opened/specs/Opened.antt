@@ -1,5 +1,5 @@
 -- Storage, not the paper's: a file within the shortening limits, as parts of its bytes, and what is known of them.
-use Prim.Native.Nat.{ℕ, _*_, _/_, _≤_}
+use Prim.Native.Nat.{ℕ, _*_, _≤_}
 use mathlib.Core.Path.{_≡_}
 use mathlib.Core.List.{List, [], _++_, map}
 use lib.ListN.{length}
@@ -72,3 +72,13 @@ pub record Opened (p : Procedure) (x : Parts) : Type 0 where
 -- the parts in their order
 abbrev pub whole : Parts → List ℕ
 whole x = x .registers ++ (x .heads ++ (x .body ++ (x .code ++ (x .operands ++ x .arms))))
+
+-- how many bytes the parts have, for a caller that lends storage: 480 registers, 1 to 160 blocks, 1 body, 480 instructions, 128 operands, 128 arms
+pub record Few (x : Parts) : Type 0 where
+  pub registers : length (x .registers) ≤ 15360
+  pub some-head : 32 ≤ length (x .heads)
+  pub heads : length (x .heads) ≤ 5120
+  pub body : length (x .body) ≤ 32
+  pub code : length (x .code) ≤ 15360
+  pub operands : length (x .operands) ≤ 4096
+  pub arms : length (x .arms) ≤ 4096
