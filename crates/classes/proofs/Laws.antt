@@ -1,9 +1,9 @@
 -- The layout of a file from where its classes start; in a file in order it is Read's.
-use Prim.Native.Nat.{ℕ, zero, suc, _+_, _≤_, _<_}
-use native.Mathlib.Nat.{zero-add, suc-add}
+use Prim.Native.Nat.{ℕ, zero, suc, _≤_, _<_}
+use native.Mathlib.Nat.{zero-add}
 use native.Mathlib.Omega.{arith}
 use mathlib.Core.Path.{_≡_, refl, sym, ap, _∙_}
-use mathlib.Core.Bool.{Bool, true, false}
+use mathlib.Core.Bool.{Bool}
 use mathlib.Core.List.{List, [], _∷_}
 use mathlib.Core.Logic.{_⊎_, inl, inr}
 use borrow.Author.Tests.{lt-ltb, le-ltb}
