@@ -13,6 +13,7 @@ use Rattle.layout.specs.declared.Layout.{Layout}
 use Rattle.layout.specs.Classes.{ofClass, before}
 use Rattle.layout.proofs.Order.{before-none, sorted-of}
 use Rattle.store.specs.Store.{Bytes, Fits}
+use Rattle.read.specs.Reading.{reading}
 use Rattle.read.specs.Structure.{numbered, codeOf as recordsOfBlock}
 use Rattle.read.specs.Work.{LaidOut}
 use Rattle.read.proofs.Laid.{sizes, class-part}
@@ -36,7 +37,7 @@ use Rattle.opened.specs.Opened.{Parts, partsOf, Opened, whole}
 use Rattle.opened.proofs.Parts.{records-of, bytes-of, length-of, part-rest}
 use Rattle.opened.proofs.Written as Written
 
-module _ (b : List ℕ) (h : Bytes b) (w : Within b) where
+module _ (b : List ℕ) (h : Bytes b) (e : reading b .number ≡ 0) where
   abbrev rs : List Record
   rs = recordsOf b
 
@@ -50,7 +51,7 @@ module _ (b : List ℕ) (h : Bytes b) (w : Within b) where
   p = procedureOf rs
 
   a : Accepted rs
-  a = read-accepted b (w .accepted) .2
+  a = read-accepted b e .2
 
   f : All Fits rs
   f = records-fit b h
@@ -62,16 +63,16 @@ module _ (b : List ℕ) (h : Bytes b) (w : Within b) where
   of-class : (c first end : ℕ) → first ≡ before c rs → end - first ≡ length (ofClass c rs) → recordsOf (partOf b first end) ≡ ofClass c rs
   of-class c first end d e = records-of b first end ∙ class-part laid c d e
 
-  registers-are : recordsOf (x .registers) ≡ ofClass 1 rs
+  pub registers-are : recordsOf (x .registers) ≡ ofClass 1 rs
   registers-are = let z = sizes laid in of-class 1 0 (l .blocks) (sym (before-none 1 1 rs (omega arith) (sorted-of rs (a .order)))) (omega arith)
 
-  heads-are : recordsOf (x .heads) ≡ ofClass 2 rs
+  pub heads-are : recordsOf (x .heads) ≡ ofClass 2 rs
   heads-are = let z = sizes laid in of-class 2 (l .blocks) (l .bodies) (laid .blocks) (omega arith)
 
   body-is : recordsOf (x .body) ≡ ofClass 3 rs
   body-is = let z = sizes laid in of-class 3 (l .bodies) (l .code) (laid .bodies) (omega arith)
 
-  code-is : recordsOf (x .code) ≡ ofClass 4 rs
+  pub code-is : recordsOf (x .code) ≡ ofClass 4 rs
   code-is = let z = sizes laid in of-class 4 (l .code) (l .operands) (laid .code) (omega arith)
 
   operands-are : recordsOf (x .operands) ≡ ofClass 5 rs
@@ -130,8 +131,9 @@ module _ (b : List ℕ) (h : Bytes b) (w : Within b) where
   all-numbered : numbered (recordsOf (x .arms)) ≡ length (recordsOf (x .arms))
   all-numbered = rw arms-are (a .number)
 
-  pub opened : Opened p x
-  opened =
+  -- within the shortening limits they are a file opened
+  pub opened : Within b → Opened p x
+  opened w =
       let registers-same = registers-are ∙ sym (Written.registers-same rs a f) in
       let blocks-same = heads-are ∙ sym (Written.blocks-same rs a f) in
       let body-same = body-is ∙ sym (Written.body-same rs a f) in
@@ -175,7 +177,7 @@ module _ (b : List ℕ) (h : Bytes b) (w : Within b) where
   whole-parts =
       let z = sizes laid in
       let n = length-records b in
-      let m = read-accepted b (w .accepted) .0 in
+      let m = read-accepted b e .0 in
       let end : drop (32 * l .end) b ≡ [] = drop-of-length-le b {i = 32 * l .end} (omega arith) in
       let to-end : partOf b (l .arms) (l .end) ≡ drop (32 * l .arms) b =
       sym (append-nil (x .arms)) ∙ ap (λ (t : List ℕ). x .arms ++ t) (sym end) ∙ part-rest b (l .arms) (l .end) (omega arith) (omega arith) in

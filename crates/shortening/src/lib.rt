@@ -39,4 +39,3 @@ fn pause_of(body: &[u8]) -> Pause
     let r = format::record_at(body, 0);
     Pause::At(BlockId(r.p1))
 }
-
