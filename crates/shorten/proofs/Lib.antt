@@ -1,1 +1,2 @@
 pub mod Tiers
+pub mod Answers
