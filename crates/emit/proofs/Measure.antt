@@ -16,9 +16,6 @@ count-more n x a t e f g h = omega arith
 pub count-end : {n r u : ℕ} → n ≡ counted n → r ≡ 0 → counted (n + r) ≡ u → n ≡ u
 count-end e f g = omega arith
 
-pub counted-sum : (a b : ℕ) → counted (counted a + counted b) ≡ counted (a + b)
-counted-sum a b = omega arith
-
 -- there are as many emitted blocks as blocks, and as many records of them
 pub empty-length : (b : ℕ) (marks : List Bool) (R : List (List Record)) → length (emptyIn b marks R) ≡ length R
 unfolding emptyIn
