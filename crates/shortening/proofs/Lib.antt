@@ -1,3 +1,4 @@
 pub mod Fronts
 pub mod Emitting
 pub mod Written
+pub mod Composed
