@@ -6,7 +6,6 @@ use mathlib.Core.List.{List, [], _∷_}
 use mathlib.Core.Logic.{_⊎_, inl, inr}
 use lib.ListN.{length, getD, take, drop, length-append, length-drop, List·getD-eq-default}
 use Rattle.general.proofs.Numbers.{order}
-use Rattle.store.specs.Store.{Bytes}
 use Rattle.shape.specs.declared.exist.Counts.{Counts}
 use Rattle.inst.specs.declared.Code.{Code}
 use Rattle.procedure.specs.Procedure.{Procedure, codesOf}
@@ -29,6 +28,7 @@ use Rattle.thread.proofs.Refined.{workOf}
 use Rattle.thread.proofs.Kept.{Stored}
 use Rattle.thread.proofs.Whole as w
 use Rattle.run.specs.Ran.{still, countedIn}
+use Rattle.run.proofs.Lent.{Lent, held}
 use Rattle.run.proofs.Uses.{unwritten, unread, uses-few}
 use Rattle.run.proofs.Joins as j
 
@@ -53,137 +53,122 @@ kind-few kinds h r = by (order r (length kinds))
     by (inl i) = let k = all-at (λ k. k < 5) kinds 0 h r i in omega arith
     by (inr i) = let e = List·getD-eq-default kinds 0 i in omega arith
 
-module _
-    (p : Procedure)
-    (x : Parts)
-    (o : Opened p x)
-    (work : List ℕ)
-    (bytes : Bytes work)
-    (code : take (length (x .code)) work ≡ x .code)
-    (fit : length (joined (p .blocks)) ≤ length work / 32)
-    (facts : List ℕ)
-    (five : length facts ≡ 5 * length (p .registers))
-  where
-    abbrev N : ℕ
-    N = length (joined (p .blocks))
+module _ {p : Procedure} {x : Parts} {known copy : ℕ} {work kinds facts : List ℕ}
+    (h : Lent p x (p .body) known copy (length (joined (p .blocks))) work (x .heads) kinds facts) where
+  abbrev N : ℕ
+  N = length (joined (p .blocks))
 
-    abbrev after : List ℕ
-    after = j.arms p x o work bytes code fit .code
+  abbrev o : Opened p x
+  o = h .opened
 
-    -- the procedure after the equal-arms step
-    abbrev pub q : Procedure
-    q = s.armsJoined p .procedure
+  abbrev after : List ℕ
+  after = j.arms (held h) .code
 
-    abbrev pub counted : List ℕ
-    counted = countedIn N (x .operands) (x .registers) facts after
+  -- the procedure after the equal-arms step
+  abbrev pub q : Procedure
+  q = s.armsJoined p .procedure
 
-    pub counted-long : length counted ≡ length facts
-    counted-long = table-long facts (kindsOf (x .registers)) (operandsIn (x .operands)) (codesOf (take (32 * min N (length after / 32)) after))
+  abbrev pub counted : List ℕ
+  counted = countedIn N (x .operands) (x .registers) facts after
 
-    counted-is : counted ≡ tableOf facts (p .registers) (p .operands) (joined (q .blocks))
-    counted-is =
-        let long = j.arms-long p x o work bytes code fit in
-        let all : min N (length after / 32) ≡ N = omega arith in
-        ap (λ (m : ℕ). tableOf facts (kindsOf (x .registers)) (operandsIn (x .operands)) (codesOf (take (32 * m) after))) all
-        ∙ ap (tableOf facts (kindsOf (x .registers)) (operandsIn (x .operands)))
-        (j.codes p x o work bytes code fit after long ∙ ap joined (j.arms-blocks p x o work bytes code fit))
-        ∙ ap (λ (k : List ℕ). tableOf facts k (operandsIn (x .operands)) (joined (q .blocks))) (o .kinds)
-        ∙ ap (λ (l : List ℕ). tableOf facts (p .registers) l (joined (q .blocks))) (o .operands)
+  pub counted-long : length counted ≡ length facts
+  counted-long = table-long facts (kindsOf (x .registers)) (operandsIn (x .operands)) (codesOf (take (32 * min N (length after / 32)) after))
 
-    -- the table says what is counted of the procedure
-    pub facts-are : factsIn counted (p .body) (N / 2 + 32) ≡ s.countedIn q
-    facts-are =
-        let k = j.arms-sound p x o work bytes code fit in
-        let wf = o .well-formed in
-        let c = joined (q .blocks) in
-        let sound = each-joined (countsIn p) (q .blocks) (k .each) in
-        let few = o .few-code in
-        let len = k .code in
-        ap (λ (t : List ℕ). factsIn t (p .body) (N / 2 + 32)) counted-is
-        ∙ ap (λ (n : ℕ). factsIn (tableOf facts (p .registers) (p .operands) c) (p .body) (n / 2 + 32)) (sym len)
-        ∙ told facts (p .registers) (p .operands) c five (kind-few (p .registers) (wf .each-register))
-        (unwritten (countsIn p) (p .operands) (wf .each-operand) c sound)
-        (unread (countsIn p) (p .operands) (wf .each-operand) c sound)
-        (λ r. let u = uses-few (p .operands) (wf .operands) c r in omega arith)
-        (p .body)
+  counted-is : counted ≡ tableOf facts (p .registers) (p .operands) (joined (q .blocks))
+  counted-is =
+      let long = j.arms-long (held h) in
+      let all : min N (length after / 32) ≡ N = omega arith in
+      ap (λ (m : ℕ). tableOf facts (kindsOf (x .registers)) (operandsIn (x .operands)) (codesOf (take (32 * m) after))) all
+      ∙ ap (tableOf facts (kindsOf (x .registers)) (operandsIn (x .operands)))
+      (j.codes (held h) after long ∙ ap joined (j.arms-blocks (held h)))
+      ∙ ap (λ (k : List ℕ). tableOf facts k (operandsIn (x .operands)) (joined (q .blocks))) (o .kinds)
+      ∙ ap (λ (l : List ℕ). tableOf facts (p .registers) l (joined (q .blocks))) (o .operands)
 
-    -- every work that edits lead to
-    inv-at : (v : Work) → Edits (factsIn counted (p .body) (N / 2 + 32)) (unthreaded (blocksOf after (x .heads))) v
-        → Inv (factsIn counted (p .body) (N / 2 + 32)) (countsIn p) N v
-    inv-at v es =
-        let a = subst (λ (f : Facts). Edits f (unthreaded (blocksOf after (x .heads))) v) facts-are es in
-        let b = subst (λ (P : List (List Code)). Edits (s.countedIn q) (unthreaded P) v) (j.arms-blocks p x o work bytes code fit) a in
-        subst (λ (f : Facts). Inv f (countsIn p) N v) (sym facts-are) (edits-inv p (o .well-formed) b)
+  -- the table says what is counted of the procedure
+  pub facts-are : factsIn counted (p .body) (N / 2 + 32) ≡ s.countedIn q
+  facts-are =
+      let k = j.arms-sound (held h) in
+      let wf = o .well-formed in
+      let c = joined (q .blocks) in
+      let sound = each-joined (countsIn p) (q .blocks) (k .each) in
+      let few = o .few-code in
+      let len = k .code in
+      ap (λ (t : List ℕ). factsIn t (p .body) (N / 2 + 32)) counted-is
+      ∙ ap (λ (n : ℕ). factsIn (tableOf facts (p .registers) (p .operands) c) (p .body) (n / 2 + 32)) (sym len)
+      ∙ told facts (p .registers) (p .operands) c (h .five) (kind-few (p .registers) (wf .each-register))
+      (unwritten (countsIn p) (p .operands) (wf .each-operand) c sound)
+      (unread (countsIn p) (p .operands) (wf .each-operand) c sound)
+      (λ r. let u = uses-few (p .operands) (wf .operands) c r in omega arith)
+      (p .body)
 
-    -- with room in the storage
-    module _
-        (known copy : ℕ)
-        (kinds : List ℕ)
-        (space : 4 * N + 76 ≤ length work / 32)
-        (words : length work / 32 ≤ 4294967295)
-        (registers : N / 2 + 40 ≤ length kinds)
-        (known-words : N + (N / 2 + 36) ≤ known / 2)
-        (copy-words : N + (N / 2 + 36) ≤ copy / 2)
-      where
-        abbrev pub left : Store
-        left = threadIn counted (p .body) (N / 2 + 32) known copy after (x .heads) kinds N
+  -- every work that edits lead to
+  inv-at : (v : Work) → Edits (factsIn counted (p .body) (N / 2 + 32)) (unthreaded (blocksOf after (x .heads))) v
+      → Inv (factsIn counted (p .body) (N / 2 + 32)) (countsIn p) N v
+  inv-at v es =
+      let a = subst (λ (f : Facts). Edits f (unthreaded (blocksOf after (x .heads))) v) facts-are es in
+      let b = subst (λ (P : List (List Code)). Edits (s.countedIn q) (unthreaded P) v) (j.arms-blocks (held h)) a in
+      subst (λ (f : Facts). Inv f (countsIn p) N v) (sym facts-are) (edits-inv p (o .well-formed) b)
 
-        stored-at : Stored (store after (x .heads) kinds (still N))
-        stored-at =
-            let c = j.arms-coded p x o work bytes code fit in
-            let long = j.arms-long p x o work bytes code fit in
-            let few = o .few-code in
+  -- with room in the storage
+  abbrev pub left : Store
+  left = threadIn counted (p .body) (N / 2 + 32) known copy after (x .heads) kinds N
+
+  stored-at : Stored (store after (x .heads) kinds (still N))
+  stored-at =
+      let c = j.arms-coded (held h) in
+      let long = j.arms-long (held h) in
+      let few = o .few-code in
+      record {
+        sound =
             record {
-              sound =
-                  record {
-                    work-bytes = c .bytes;
-                    table-bytes = o .heads-bytes;
-                    fit = omega arith;
-                    word = omega arith;
-                    apart = j.apart p x o work bytes code fit;
-                  };
-              canonical = c .canonical;
-            }
+              work-bytes = c .bytes;
+              table-bytes = o .heads-bytes;
+              fit = omega arith;
+              word = omega arith;
+              apart = j.apart (held h);
+            };
+        canonical = c .canonical;
+      }
 
-        space-there : w.sizesFrom (length (x .heads) / 32) 0 (x .heads) + N + (2 * N + 76) ≤ min (length after / 32) 4294967295
-        space-there =
-            let long = j.arms-long p x o work bytes code fit in
-            let size = j.sizes p x o work bytes code fit in
-            omega arith
+  space-there : w.sizesFrom (length (x .heads) / 32) 0 (x .heads) + N + (2 * N + 76) ≤ min (length after / 32) 4294967295
+  space-there =
+      let long = j.arms-long (held h) in
+      let size = j.sizes (held h) in
+      omega arith
 
-        numbers : length (kindsIn counted) + (N / 2 + 40) ≤ 65535
-        unfolding factsOf
-        numbers =
-            let e = ap (λ (f : Facts). length (f .registers)) facts-are in
-            let r = o .few-registers in
-            let c = o .few-code in
-            omega arith
+  numbers : length (kindsIn counted) + (N / 2 + 40) ≤ 65535
+  unfolding factsOf
+  numbers =
+      let e = ap (λ (f : Facts). length (f .registers)) facts-are in
+      let r = o .few-registers in
+      let c = o .few-code in
+      omega arith
 
-        own-is : thread (factsIn counted (p .body) (N / 2 + 32)) (blocksOf after (x .heads)) ≡ workOf left
-        own-is =
-            w.thread-is counted (p .body) (N / 2 + 32) known copy (countsIn p) N after (x .heads) kinds N
-            stored-at inv-at space-there registers numbers known-words copy-words
+  own-is : thread (factsIn counted (p .body) (N / 2 + 32)) (blocksOf after (x .heads)) ≡ workOf left
+  own-is =
+      w.thread-is counted (p .body) (N / 2 + 32) known copy (countsIn p) N after (x .heads) kinds N
+      stored-at inv-at space-there (h .registers) numbers (h .known-words) (h .copy-words)
 
-        -- what is left is what Thread leaves
-        pub thread-is : thread (s.countedIn q) (q .blocks) ≡ workOf left
-        thread-is =
-            ap (thread (s.countedIn q)) (sym (j.arms-blocks p x o work bytes code fit))
-            ∙ ap (λ (f : Facts). thread f (blocksOf after (x .heads))) (sym facts-are)
-            ∙ own-is
+  -- what is left is what Thread leaves
+  pub thread-is : thread (s.countedIn q) (q .blocks) ≡ workOf left
+  thread-is =
+      ap (thread (s.countedIn q)) (sym (j.arms-blocks (held h)))
+      ∙ ap (λ (f : Facts). thread f (blocksOf after (x .heads))) (sym facts-are)
+      ∙ own-is
 
-        pub stored : Stored left
-        stored =
-            w.thread-stored counted (p .body) (N / 2 + 32) known copy (countsIn p) N after (x .heads) kinds N
-            stored-at inv-at space-there registers numbers known-words copy-words
+  pub stored : Stored left
+  stored =
+      w.thread-stored counted (p .body) (N / 2 + 32) known copy (countsIn p) N after (x .heads) kinds N
+      stored-at inv-at space-there (h .registers) numbers (h .known-words) (h .copy-words)
 
-        pub long : w.Long (length work) (length (x .heads)) (length kinds) left
-        long =
-            subst (λ (m : ℕ). w.Long m (length (x .heads)) (length kinds) left) (j.arms-long p x o work bytes code fit)
-            (w.thread-long counted (p .body) (N / 2 + 32) known copy (countsIn p) N after (x .heads) kinds N
-            stored-at inv-at space-there registers numbers known-words copy-words)
+  pub long : w.Long (length work) (length (x .heads)) (length kinds) left
+  long =
+      subst (λ (m : ℕ). w.Long m (length (x .heads)) (length kinds) left) (j.arms-long (held h))
+      (w.thread-long counted (p .body) (N / 2 + 32) known copy (countsIn p) N after (x .heads) kinds N
+      stored-at inv-at space-there (h .registers) numbers (h .known-words) (h .copy-words))
 
-        pub inv : Inv (factsIn counted (p .body) (N / 2 + 32)) (countsIn p) N (workOf left)
-        inv =
-            let f = factsIn counted (p .body) (N / 2 + 32) in
-            let P = blocksOf after (x .heads) in
-            inv-at (workOf left) (subst (Edits f (unthreaded P)) own-is (thread-edits f P))
+  pub inv : Inv (factsIn counted (p .body) (N / 2 + 32)) (countsIn p) N (workOf left)
+  inv =
+      let f = factsIn counted (p .body) (N / 2 + 32) in
+      let P = blocksOf after (x .heads) in
+      inv-at (workOf left) (subst (Edits f (unthreaded P)) own-is (thread-edits f P))
