@@ -136,7 +136,7 @@ module _ (p : Procedure) (x : Parts) (o : Opened p x) where
     emit-is B = ap (λ t. emitMarked (factsIn facts (p .body) budget) (withBlocks p B) (workOf s) (reached t (blocksOf (s .work) (s .table)))) (sym (o .tables))
 
     -- what is written of it
-    emitted-written : (B : List (List Code)) (out : List ℕ) → run p ≡ emit (factsIn facts (p .body) budget) (withBlocks p B) (workOf s)
+    pub emitted-written : (B : List (List Code)) (out : List ℕ) → run p ≡ emit (factsIn facts (p .body) budget) (withBlocks p B) (workOf s)
         → s .at .fresh ≤ length (s .kinds)
         → emittedIn (s .work) (s .table) (x .arms) facts (x .registers) (take (min (s .at .fresh) (length (s .kinds))) (s .kinds)) (x .body) (x .operands)
         (short (s .at .grown)) out
@@ -163,7 +163,7 @@ module _ (p : Procedure) (x : Parts) (o : Opened p x) where
         (ap (λ r. r .moved) is) (omega arith) (omega arith) (omega arith)
 
   -- what is written where nothing is threaded
-  still-written : (B : List (List Code)) (work : List ℕ) (joins : Bool) (out : List ℕ)
+  pub still-written : (B : List (List Code)) (work : List ℕ) (joins : Bool) (out : List ℕ)
       → run p ≡ record { procedure = withBlocks p B; moved = joins; grown = 0; fresh = 0; rescued = 0 }
       → recordsOf work ≡ map recordOf (joined B)
       → blockRecords 0 B ≡ blockRecords 0 (p .blocks)
