@@ -4,15 +4,20 @@ use native.Mathlib.Omega.{arith}
 use mathlib.Core.Path.{_≡_, sym, ap, _∙_}
 use mathlib.Core.List.{List, [], _∷_, _++_, append-assoc}
 use lib.ListN.{length, take, drop, length-append, take-append-drop}
-use lib.Seq.{take-at, drop-append-add, drop-drop, length-take-le}
+use lib.Seq.{paste, take-at, take-all, drop-append-add, drop-drop, length-take-le}
 use borrow.Author.Tests.{lt-ltb}
 use Rattle.format.specs.declared.Record.{Record}
-use Rattle.store.specs.Store.{recordBytes, putOf}
+use Rattle.format.specs.Record.{recordsOf}
+use Rattle.format.proofs.Laws.{length-records}
+use Rattle.store.specs.Store.{recordBytes, putOf, Bytes}
 use Rattle.store.proofs.Laws.{length-bytes, put-length}
 use Rattle.steps.specs.Write.{bytesOf}
-use Rattle.round.proofs.Bytes.{bytes-length}
+use Rattle.blocks.proofs.Parts.{records-part}
+use Rattle.blocks.proofs.Bytes.{bytes-part}
+use Rattle.round.proofs.Bytes.{bytes-length, bytes-back}
 use Rattle.emit.specs.Emitted.{Place, place, puts}
 use Rattle.emit.proofs.Laws.{put-in}
+use Rattle.emit.proofs.Passes.{puts-at}
 
 -- one record more
 module _ (b : List ℕ) (at : ℕ) (r : Record) (h : at < length b / 32) where
@@ -57,6 +62,31 @@ puts-bytes (r ∷ rs) b at h =
     ∙ append-assoc (take (32 * at) b) (recordBytes r) (bytesOf rs ++ drop (32 * (at + 1 + n)) b)
     ∙ ap (λ (q : List ℕ). take (32 * at) b ++ q) (sym (append-assoc (recordBytes r) (bytesOf rs) (drop (32 * (at + 1 + n)) b)))
     ∙ ap (λ (k : ℕ). take (32 * at) b ++ ((recordBytes r ++ bytesOf rs) ++ drop (32 * k) b)) e
+
+-- the bytes of a slice's records are the slice up to its last whole record
+whole-back : (b : List ℕ) → Bytes b → bytesOf (recordsOf b) ≡ take (32 * (length b / 32)) b
+whole-back b h =
+    let n = length b / 32 in
+    let l = length-take-le (32 * n) b (omega arith) in
+    ap bytesOf (sym (records-part b 0 n (omega arith) ∙ take-all n (recordsOf b) (omega (arith, length-records b))))
+    ∙ bytes-back (take (32 * n) b) (omega arith) (bytes-part (32 * n) 0 b h)
+
+-- records copied by their bytes, where all have room
+pub puts-copied : (c b : List ℕ) (at : ℕ) → Bytes c → at + length c / 32 ≤ length b / 32
+    → place (paste b (32 * at) c (32 * (length c / 32))) (at + length c / 32) ≡ puts (recordsOf c) (place b at)
+puts-copied c b at h i =
+    let n = length c / 32 in
+    let l = length-records c in
+    let e : 32 * (at + length (recordsOf c)) ≡ 32 * at + 32 * n = omega arith in
+    let p = puts-bytes (recordsOf c) b at (omega arith) in
+    let q = puts-at (recordsOf c) (place b at) (omega arith) in
+    let w =
+    p
+    ∙ ap (λ (x : List ℕ). take (32 * at) b ++ (x ++ drop (32 * (at + length (recordsOf c))) b)) (whole-back c h)
+    ∙ ap (λ (k : ℕ). take (32 * at) b ++ (take (32 * n) c ++ drop k b)) e
+    ∙ sym (append-assoc (take (32 * at) b) (take (32 * n) c) (drop (32 * at + 32 * n) b))
+    in
+    sym (ap (λ (x : List ℕ). place x (puts (recordsOf c) (place b at) .at)) w ∙ ap (place _) (q ∙ ap (λ (k : ℕ). at + k) l))
 
 -- from the first record on
 pub puts-front : (rs : List Record) (b : List ℕ) → length rs ≤ length b / 32

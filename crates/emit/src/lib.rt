@@ -1,7 +1,8 @@
-ghost use Prim.Native.Nat.{ℕ, _+_};
+ghost use Prim.Native.Nat.{_+_, _≤_};
 ghost use mathlib.Core.Path.{_≡_};
 ghost use mathlib.Core.Bool.{true, cond};
 ghost use lib.ListN.{length, getD};
+ghost use lib.Seq.{paste};
 ghost use Rattle.format.specs.Record.{recordsOf};
 ghost use Rattle.procedure.specs.Lists.{joined};
 ghost use Rattle.procedure.specs.Procedure.{codesOf};
@@ -101,8 +102,8 @@ fn put_if(out: &mut [u8], at: usize, keep: bool, r: Record) -> usize
     at
 }
 
-// The records of a block are written from a place on; returns the next place.
-pub fn put_block(out: &mut [u8], at: usize, code: &[u8]) -> usize
+// Records are written one by one from a place on, while there is a place; returns the next place.
+fn put_each(out: &mut [u8], at: usize, code: &[u8]) -> usize
     ensures { λ z. ⌜ place (now (out .exit)) z ≡ puts (recordsOf (now (code .entry))) (place (now (out .entry)) at) ⌝ }
 {
     let n = code.len() / 32;
@@ -113,6 +114,31 @@ pub fn put_block(out: &mut [u8], at: usize, code: &[u8]) -> usize
         k += 1;
     }
     top
+}
+
+// n bytes of code are copied to a place.
+fn copy(out: &mut [u8], to: usize, code: &[u8], n: usize)
+    requires { ⌜ (to + n ≤ length (now out)) × (n ≤ length (now code)) ⌝ }
+    ensures { λ u. ⌜ now (out .exit) ≡ paste (now (out .entry)) to (now (code .entry)) n ⌝ }
+{
+    let mut i = 0;
+    while i < n {
+        out[to + i] = code[i];
+        i += 1;
+    }
+}
+
+// The records of a block are written from a place on, by their bytes where all have room; returns the next place.
+pub fn put_block(out: &mut [u8], at: usize, code: &[u8]) -> usize
+    ensures { λ z. ⌜ place (now (out .exit)) z ≡ puts (recordsOf (now (code .entry))) (place (now (out .entry)) at) ⌝ }
+{
+    let n = code.len() / 32;
+    let room = out.len() / 32;
+    if at <= room && n <= room - at {
+        copy(out, 32 * at, code, 32 * n);
+        return at + n;
+    }
+    put_each(out, at, code)
 }
 
 // The records of a block that are rescued are written from a place on; returns the next place.

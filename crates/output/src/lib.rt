@@ -1,5 +1,5 @@
 // The result of Shorten, written where it fits.
-ghost use Prim.Native.Nat.{ℕ, _+_, _*_, _/_, _<_};
+ghost use Prim.Native.Nat.{_+_, _*_, _/_, _<_};
 ghost use mathlib.Core.Path.{_≡_};
 ghost use mathlib.Core.List.{[]};
 ghost use lib.ListN.{length};
