@@ -1,0 +1,32 @@
+ghost use mathlib.Core.Path.{_≡_};
+ghost use Rattle.procedure.specs.Procedure.{codesOf};
+ghost use Rattle.blocks.specs.Blocks.{partBytes};
+ghost use Rattle.ends.specs.Ends.{endOf};
+ghost use Rattle.lent.specs.Lent.{lentBytes};
+use ends::End;
+use inst::Block;
+
+// The part of a code that a block holds.
+pub fn part_of<'a>(code: &'a [u8], b: Block) -> &'a [u8]
+    ensures { λ r. ⌜ now r ≡ partBytes (now (code .entry)) (b .start) (b .end) ⌝ }
+{
+    blocks::part(code, b.start, b.end)
+}
+
+// The code of block k of a lent block table; none past the last block.
+pub fn block_in<'a>(code: &'a [u8], blocks: &[Block], k: usize) -> &'a [u8]
+    ensures { λ r. ⌜ now r ≡ lentBytes (now (code .entry)) (now (blocks .entry)) k ⌝ }
+{
+    let mut b = Block { start: 0, end: 0 };
+    if k < blocks.len() {
+        b = blocks[k];
+    }
+    part_of(code, b)
+}
+
+// How block k of a lent block table ends.
+pub fn end_in(code: &[u8], blocks: &[Block], k: usize) -> End
+    ensures { λ r. ⌜ r ≡ endOf (codesOf (lentBytes (now (code .entry)) (now (blocks .entry)) k)) ⌝ }
+{
+    ends::end_of(block_in(code, blocks, k))
+}
