@@ -41,14 +41,16 @@ abbrev pub blocks-ty : Ty
 blocks-ty = sliceTy (tyRef (named 1) imm (pointee (T.the-row .written)))
 
 abbrev pub stayed : Stays (f.signature .params) (f.ended .kept)
-stayed =
-    (stay-none-slice (0 ∷ []) tt (plain (λ _. u8)) yes,
-    (stay-none-slice (1 ∷ []) tt (plain (λ _. T.the-row)) yes, (stay-none (λ _. usize) yes, tt)))
+stayed = (
+  stay-none-slice (0 ∷ []) tt (plain (λ _. u8)) yes,
+  (stay-none-slice (1 ∷ []) tt (plain (λ _. T.the-row)) yes, (stay-none (λ _. usize) yes, tt)),
+)
 
 pub all-go : {M : Type 1} (𝓤 : URA M) (H : Heap 𝓤) (A : Atoms 𝓤) (W : Given 𝓤 H A) → AllGo 𝓤 H A W 2 (f.signature .params) (f.ended .kept) stayed
-all-go 𝓤 H A W =
-    (goes-none-slice 𝓤 H A W 2 (0 ∷ []) tt (plain (λ _. u8)) yes,
-    (goes-none-slice 𝓤 H A W 2 (1 ∷ []) tt (plain (λ _. T.the-row)) yes, (goes-none 𝓤 H A W 2 (λ _. usize) yes (λ κs x f. refl), tt)))
+all-go 𝓤 H A W = (
+  goes-none-slice 𝓤 H A W 2 (0 ∷ []) tt (plain (λ _. u8)) yes,
+  (goes-none-slice 𝓤 H A W 2 (1 ∷ []) tt (plain (λ _. T.the-row)) yes, (goes-none 𝓤 H A W 2 (λ _. usize) yes (λ κs x f. refl), tt)),
+)
 
 abbrev pub spelled : (κ κ′ : Lft) → Spells (Code κ ∷ Blocks κ′ ∷ usize ∷ [])
 spelled κ κ′ = (slice-vals, (slice-vals, (uint-vals w64, tt)))
@@ -119,6 +121,10 @@ module _ {M : Type 1} {𝓤 : URA M} (c : Call) where
   abbrev pub all-owned : Item 𝓤
   all-owned = ‵ (owns (Code (c .κ) ∷ Blocks (c .κ′) ∷ usize ∷ []) (args c) (at c))
 
+  -- at entry: what each parameter owns, and what else there is
+  abbrev pub Held : List (Item 𝓤) → List (Item 𝓤)
+  Held Γ = own-code ∷ token ∷ token′ ∷ own-blocks ∷ own-k ∷ Γ
+
   -- at exit, with what the result owns
   abbrev pub Leaving : Fml → List (Item 𝓤)
   Leaving P = ‵ P ∷ (token ⊛ ‵ ftrue) ∷ own-code ∷ token′ ∷ own-blocks ∷ own-k ∷ []
@@ -129,8 +135,7 @@ module _ {M : Type 1} (𝓤 : URA M) (H : Heap 𝓤) (A : Atoms 𝓤) (W : Given
       qed W (Leaving c P) ∵ move ! (1 ∷ []) $ split ! $ move ! (4 ∷ 1 ∷ []) $ join ! $ move ! (1 ∷ 0 ∷ []) $ join ! $ frame ! $
       nothing ! $ move ! (4 ∷ 0 ∷ []) $ fjoin ! $ move ! (3 ∷ 0 ∷ []) $ fjoin ! $ move ! (2 ∷ 0 ∷ []) $ fjoin ! $ frame ! $ done !
 
-  -- at entry: what each parameter owns
-  pub enters : ent 𝓤 (⋆ 𝓤 H A (tokens c ∷ all-owned c ∷ [])) (⋆ 𝓤 H A (own-code c ∷ token c ∷ token′ c ∷ own-blocks c ∷ own-k c ∷ []))
+  pub enters : ent 𝓤 (⋆ 𝓤 H A (tokens c ∷ all-owned c ∷ [])) (⋆ 𝓤 H A (Held c []))
   enters =
       qed W (tokens c ∷ all-owned c ∷ []) ∵ split ! $ move ! (1 ∷ []) $ split ! $ move ! (1 ∷ []) $ drop ! $ move ! (2 ∷ []) $ fsplit ! $ frame ! $
       move ! (2 ∷ []) $ frame ! $ move ! (1 ∷ []) $ frame ! $ fsplit ! $ frame ! $ fsplit ! $ move ! (1 ∷ []) $ drop ! $ done !

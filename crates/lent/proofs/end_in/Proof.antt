@@ -45,7 +45,7 @@ use Rattle.ends.proofs.end_of.Symbol.{name as #ends·end-of}
 use Rattle.ends.proofs.end_of.Met as end-thm
 use Rattle.lent.specs.Lent.{lentBytes}
 use Rattle.lent.proofs.Params.{Code, Blocks, stayed, all-go, spelled, told, Call, called, bytes, table, code-val, blocks-val, k-val, lifetimes, shares, args, at}
-use Rattle.lent.proofs.Params.{token, token′, own-code, own-blocks, own-k, tokens, all-owned, leaves, enters}
+use Rattle.lent.proofs.Params.{token, token′, own-code, own-blocks, own-k, tokens, all-owned, Held, leaves, enters}
 use Rattle.lent.proofs.block_in as block
 use Rattle.lent.proofs.block_in.Symbol as block-def
 use Rattle.lent.proofs.block_in.Symbol.{name as #lent·block-in}
@@ -77,10 +77,10 @@ module _ {M : Type 1} (𝓤 : URA M) (H : Heap 𝓤) (A : Atoms 𝓤) (W : Given
   asked : ent 𝓤 (⋆ 𝓤 H A (tokens c ∷ all-owned c ∷ [])) (BlockIn 𝓤 H A mem run .pre to-block)
   asked = qed W (tokens c ∷ all-owned c ∷ []) ∵ join ! $ frame ! $ done !
 
-  goes-block : ent 𝓤 (⋆ 𝓤 H A (own-code c ∷ token c ∷ token′ c ∷ own-blocks c ∷ own-k c ∷ []))
+  goes-block : ent 𝓤 (⋆ 𝓤 H A (Held c []))
       (⋆ 𝓤 H A (raw (BlockIn 𝓤 H A mem run .pre to-block) ∷ kept ∷ []))
   goes-block =
-      qed W (own-code c ∷ token c ∷ token′ c ∷ own-blocks c ∷ own-k c ∷ []) ∵
+      qed W (Held c []) ∵
       use1 W (own-code c ⊛ own-code c) (shr-slice-copy 𝓤 H A W (named 0) (c .κ) u8 .twice (c .code) (code-val c ∷ [])) $ split ! $
       move ! (4 ∷ []) $ use1 W (own-blocks c ⊛ own-blocks c) (shr-slice-copy 𝓤 H A W (named 1) (c .κ′) T.the-row .twice (c .blocks) (blocks-val c ∷ [])) $ split ! $
       move ! (6 ∷ []) $ use1 W (own-k c ⊛ own-k c) (uint-copy 𝓤 H A W w64 .twice (c .k) (k-val c ∷ [])) $ split ! $
@@ -129,10 +129,10 @@ module _ {M : Type 1} (𝓤 : URA M) (H : Heap 𝓤) (A : Atoms 𝓤) (W : Given
   module _ (C : Calls 𝓤 H) (Λ : Loops 𝓤 H) (fm : FmC 𝓤 H (W .laws) C) (known-block : Triple 𝓤 (C #lent·block-in) (BlockIn 𝓤 H A mem run))
       (known-end : Triple 𝓤 (C #ends·end-of) (EndOf 𝓤 H A mem run)) where
     walk : Is (Code (c .κ)) (c .code) (code-val c ∷ []) → Is (Blocks (c .κ′)) (c .blocks) (blocks-val c ∷ []) → c .k < 2 ^ 64
-        → ent 𝓤 (⋆ 𝓤 H A (own-code c ∷ token c ∷ token′ c ∷ own-blocks c ∷ own-k c ∷ []))
+        → ent 𝓤 (⋆ 𝓤 H A (Held c []))
         (WpFn 𝓤 H C Λ code.function (code-val c ∷ blocks-val c ∷ k-val c ∷ []) Post)
     walk is-code is-blocks gk =
-        qed W (own-code c ∷ token c ∷ token′ c ∷ own-blocks c ∷ own-k c ∷ []) ∵ enter ! C Λ code.function (code-val c ∷ blocks-val c ∷ k-val c ∷ []) _ $
+        qed W (Held c []) ∵ enter ! C Λ code.function (code-val c ∷ blocks-val c ∷ k-val c ∷ []) _ $
         alloc1 ! (λ l₀. alloc1 ! (λ l₁. alloc1 ! (λ l₂. alloc1 ! (λ l₃. alloc1 ! (λ l₄. alloc0 ! $ params1 ! $
         pass1 ! (init ! 6 refl (shr-slice-lawful 𝓤 H A W (named 0) (c .κ) u8 .typed (c .code) _ is-code .0)) $
         pass1 ! (init ! 4 refl (shr-slice-lawful 𝓤 H A W (named 1) (c .κ′) T.the-row .typed (c .blocks) _ is-blocks .0)) $
