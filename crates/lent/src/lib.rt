@@ -1,14 +1,14 @@
 ghost use mathlib.Core.Path.{_≡_};
-ghost use Rattle.procedure.specs.Procedure.{codesOf};
-ghost use Rattle.blocks.specs.Blocks.{partBytes};
+ghost use mathlib.Core.List.{[]};
+ghost use lib.ListN.{getD};
 ghost use Rattle.ends.specs.Ends.{endOf};
-ghost use Rattle.lent.specs.Lent.{lentBytes};
+ghost use Rattle.lent.specs.Lent.{bytesOfLent, lentBytes, lentBlocks};
 use ends::End;
 use inst::Block;
 
 // The part of a code that a block holds.
 pub fn part_of<'a>(code: &'a [u8], b: Block) -> &'a [u8]
-    ensures { λ r. ⌜ now r ≡ partBytes (now (code .entry)) (b .start) (b .end) ⌝ }
+    ensures { λ r. ⌜ now r ≡ bytesOfLent (now (code .entry)) b ⌝ }
 {
     blocks::part(code, b.start, b.end)
 }
@@ -26,7 +26,7 @@ pub fn block_in<'a>(code: &'a [u8], blocks: &[Block], k: usize) -> &'a [u8]
 
 // How block k of a lent block table ends.
 pub fn end_in(code: &[u8], blocks: &[Block], k: usize) -> End
-    ensures { λ r. ⌜ r ≡ endOf (codesOf (lentBytes (now (code .entry)) (now (blocks .entry)) k)) ⌝ }
+    ensures { λ r. ⌜ r ≡ endOf (getD (lentBlocks (now (code .entry)) (now (blocks .entry))) k []) ⌝ }
 {
     ends::end_of(block_in(code, blocks, k))
 }

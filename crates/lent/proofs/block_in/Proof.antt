@@ -41,8 +41,7 @@ use denote.Triple.Walked.{says, walkOf, Walks, ends-at, walked, walk-meets}
 use Rattle.inst.specs.declared.Block.{Block}
 use Rattle.inst.proofs.Block as T
 use Rattle.inst.proofs.Block.Laws as T′
-use Rattle.blocks.specs.Blocks.{partBytes}
-use Rattle.lent.specs.Lent.{none, lentBytes}
+use Rattle.lent.specs.Lent.{bytesOfLent, none, lentBytes}
 use Rattle.lent.proofs.Params.{Code, Blocks, code-ty, blocks-ty, stayed, all-go, spelled, told, Call, called, bytes, table}
 use Rattle.lent.proofs.Params.{code-val, blocks-val, k-val, lifetimes, shares, args, at}
 use Rattle.lent.proofs.Params.{token, token′, own-code, own-blocks, own-k, Held, Leaving, leaves, enters}
@@ -106,7 +105,7 @@ module _ {M : Type 1} (𝓤 : URA M) (H : Heap 𝓤) (A : Atoms 𝓤) (W : Given
       nothing ! $ move ! (2 ∷ 0 ∷ []) $ join ! $ join ! $ frame ! $ done !
 
   abbrev Said : Block → RefT (List ℕ) → Type 0
-  Said d r = now r ≡ partBytes (bytes c) (d .start) (d .end)
+  Said d r = now r ≡ bytesOfLent (bytes c) d
 
   abbrev Ensured : Block → RefT (List ℕ) → SProp 𝓤
   Ensured d r = ensured 𝓤 H A part.ended (part.clauses 𝓤 H A mem run) (c .κ, tt) (c .code, (d, tt)) tt r
@@ -162,7 +161,7 @@ module _ {M : Type 1} (𝓤 : URA M) (H : Heap 𝓤) (A : Atoms 𝓤) (W : Given
           move ! (24 ∷ 25 ∷ []) $ free1 ! $ move ! (22 ∷ 23 ∷ []) $ free1 ! $ move ! (20 ∷ 21 ∷ []) $ free1 ! $ move ! (18 ∷ 19 ∷ []) $ free1 ! $
           move ! (16 ∷ 17 ∷ []) $ free1 ! $ move ! (14 ∷ 15 ∷ []) $ free1 ! $ move ! (12 ∷ 13 ∷ []) $ free1 ! $ move ! (10 ∷ 11 ∷ []) $ free1 ! $
           move ! (8 ∷ 9 ∷ []) $ free1 ! $ move ! (6 ∷ 7 ∷ []) $ free1 ! $ free0 ! $
-          by ! (exits r u (p ∙ ap (λ (x : Block). partBytes (bytes c) (x .start) (x .end)) (sym e)))))))
+          by ! (exits r u (p ∙ ap (bytesOfLent (bytes c)) (sym e)))))))
 
     walk : Is (Code (c .κ)) (c .code) (code-val c ∷ []) → Is (Blocks (c .κ′)) (c .blocks) (blocks-val c ∷ []) → c .k < 2 ^ 64
         → ent 𝓤 (⋆ 𝓤 H A (Held c [])) (WpFn 𝓤 H C Λ code.function (code-val c ∷ blocks-val c ∷ k-val c ∷ []) Post)
