@@ -7,10 +7,8 @@ use lib.ListN.{length, getD, take, drop, List·getD-map}
 use Rattle.format.specs.declared.Record.{Record}
 use Rattle.format.specs.Record.{firstRecords, recordsOf, blank}
 use Rattle.inst.specs.declared.Block.{Block}
-use Rattle.inst.specs.declared.Code.{Code}
 use Rattle.codec.specs.Codec.{codeOf}
 use Rattle.items.specs.Items.{blockOf, blockRecord}
-use Rattle.items.proofs.Laws.{block-read-back}
 use Rattle.procedure.specs.Procedure.{codesOf}
 use Rattle.read.specs.Structure.{codeOf as recordsOfBlock}
 use Rattle.blocks.specs.Blocks.{blocksOf, blockBytes}

@@ -7,7 +7,7 @@ use ends::End;
 use inst::Block;
 
 // The part of a code that a block holds.
-pub fn part_of<'a>(code: &'a [u8], b: Block) -> &'a [u8]
+fn part_of<'a>(code: &'a [u8], b: Block) -> &'a [u8]
     ensures { λ r. ⌜ now r ≡ bytesOfLent (now (code .entry)) b ⌝ }
 {
     blocks::part(code, b.start, b.end)

@@ -44,7 +44,7 @@ use Rattle.inst.proofs.Block.Laws as T′
 use Rattle.lent.specs.Lent.{bytesOfLent, none, lentBytes}
 use Rattle.lent.proofs.Params.{Code, Blocks, code-ty, blocks-ty, stayed, all-go, spelled, told, Call, called, bytes, table}
 use Rattle.lent.proofs.Params.{code-val, blocks-val, k-val, lifetimes, shares, args, at}
-use Rattle.lent.proofs.Params.{token, token′, own-code, own-blocks, own-k, Held, Leaving, leaves, enters}
+use Rattle.lent.proofs.Params.{token, own-code, Held, Leaving, leaves, enters}
 use Rattle.lent.proofs.part_of as part
 use Rattle.lent.proofs.part_of.Symbol as part-def
 use Rattle.lent.proofs.part_of.Symbol.{name as #lent·part-of}
@@ -176,7 +176,8 @@ module _ {M : Type 1} (𝓤 : URA M) (H : Heap 𝓤) (A : Atoms 𝓤) (W : Given
         assigns ! (agg ! (and-then ! (lit ! tt) (and-then ! (lit ! tt) (no-more !)))) (from ! (stop !)) (init ! 15 refl (typed none is-none)) $
         assigns ! (of-opd ! (load ! (from ! (fld ! refl (stop !))) (look-in ! 19 (sub ! 1 refl (whole !))))) (from ! (stop !))
         (init ! 13 refl (tt, record { fits = gn .0 })) $
-        assigns ! (bin ! (load ! (from ! (stop !)) (look ! 17 refl)) (load ! (from ! (stop !)) (look ! 13 refl)) tt) (from ! (stop !)) (init ! 11 refl (tt, tt)) $
+        assigns ! (bin ! (load ! (from ! (stop !)) (look ! 17 refl)) (load ! (from ! (stop !)) (look ! 13 refl)) tt) (from ! (stop !))
+        (init ! 11 refl (tt, tt)) $
         first ! $ branches ! (load ! (from ! (stop !)) (look ! 11 refl))
         (λ below.
         let l = ltb→lt (c .k) n below in
