@@ -31,6 +31,11 @@ use Rattle.opened.proofs.Laws.{registers-are, code-is, opened}
 use Rattle.output.specs.Filed.{outcome}
 use Rattle.shorten.specs.Storage.{Done}
 
+-- a test of a part's length, by the part that was cut
+pub by-part : (f : Parts → List ℕ) (b : List ℕ) {l : Layout} {y : List ℕ} → l ≡ startsIn (recordsOf b) → y ≡ f (partsOf b l)
+    → (P : ℕ → Type 0) → P (length y) → P (length (f (partsOf b (startsIn (recordsOf b)))))
+by-part f b e h P p = subst (λ (l : Layout). P (length (f (partsOf b l)))) e (subst (λ (y : List ℕ). P (length y)) h p)
+
 module _ (b out : List ℕ) where
   abbrev rs : List Record
   rs = recordsOf b
@@ -91,17 +96,25 @@ module _ (b out : List ℕ) (h : Bytes b) (a : Answer) (out′ : List ℕ) (e : 
   part : take (a .length) out′ ≡ take (shorten b out .answer .length) (shorten b out .output)
   part = ap (λ (o : Outcome). take (o .answer .length) (o .output)) e
 
-  pub result-accepted : a .number ≡ 0 → reading (take (a .length) out′) ≡ answer 0 0
+  result-accepted : a .number ≡ 0 → reading (take (a .length) out′) ≡ answer 0 0
   result-accepted z = ap reading part ∙ shortened-accepted b out h (sym number ∙ z)
 
-  pub never-nine : 61728 ≤ length out → a .number ≡ 9 → ⊥
+  never-nine : 61728 ≤ length out → a .number ≡ 9 → ⊥
   never-nine i z = room-enough b out h i (sym number ∙ z)
 
-  pub result-unmoved : a .number ≡ 0 → a .moved ≡ 0 → out′ ≡ b ++ drop (length b) out
+  result-unmoved : a .number ≡ 0 → a .moved ≡ 0 → out′ ≡ b ++ drop (length b) out
   result-unmoved z m =
       ap (λ (o : Outcome). o .output) e ∙ unmoved-same b out h (sym number ∙ z) (sym (ap (λ (o : Outcome). o .answer .moved) e) ∙ m)
 
-  pub result-promised : a .number ≡ 0 → Tidy (held b) → Demand3 (held b) (held (take (a .length) out′)) (a .rescued)
+  result-promised : a .number ≡ 0 → Tidy (held b) → Demand3 (held b) (held (take (a .length) out′)) (a .rescued)
   result-promised z t =
       subst (λ (o : Outcome). Demand3 (held b) (held (take (o .answer .length) (o .output))) (o .answer .rescued)) (sym e)
       (promise b out h (sym number ∙ z) t)
+
+  -- all of them, in the order of the contract
+  pub clauses : (outcome a out′ ≡ shorten b out)
+      × ((a .number ≡ 0 → reading (take (a .length) out′) ≡ answer 0 0)
+      × ((61728 ≤ length out → a .number ≡ 9 → ⊥)
+      × ((a .number ≡ 0 → a .moved ≡ 0 → out′ ≡ b ++ drop (length b) out)
+      × (a .number ≡ 0 → Tidy (held b) → Demand3 (held b) (held (take (a .length) out′)) (a .rescued)))))
+  clauses = (e, (result-accepted, (never-nine, (result-unmoved, result-promised))))
