@@ -1,0 +1,132 @@
+"""Reading a file as it stands, and writing one so that no half of it is ever seen."""
+
+from __future__ import annotations
+
+import errno
+import os
+import stat
+from typing import NamedTuple, Optional
+
+from .answers import LONGEST
+
+_READ = os.O_RDONLY | os.O_NOFOLLOW | os.O_NONBLOCK | os.O_CLOEXEC | getattr(os, "O_NOCTTY", 0)
+_WRITE = os.O_WRONLY | os.O_CREAT | os.O_TRUNC | os.O_NOFOLLOW | os.O_CLOEXEC
+
+#: Errors of writing that are of one name; with any other the whole run fails.
+_OF_A_NAME = frozenset((errno.ENAMETOOLONG, errno.EISDIR, errno.ENOTDIR, errno.EEXIST, errno.ELOOP))
+
+
+class Unreadable(Exception):
+    """A file that can't be read or filed, with the reason."""
+
+
+class Failed(Exception):
+    """The run itself can't go on, with the reason."""
+
+
+class Content(NamedTuple):
+    """A file's bytes, the first 65,537 of a longer one, and its length."""
+
+    data: bytes
+    length: int
+
+
+def _whole(fd: int) -> bytes:
+    data = os.read(fd, LONGEST + 1)
+    while data and len(data) <= LONGEST:
+        more = os.read(fd, LONGEST + 1 - len(data))
+        if not more:
+            break
+        data += more
+    return data
+
+
+def why(error: OSError) -> str:
+    """The system's reason."""
+    if error.errno == errno.ELOOP:
+        return "a symbolic link, not followed"
+    return error.strerror or str(error)
+
+
+def read(path: bytes) -> Content:
+    """A file as it stands; raises `Unreadable`, also where it changes meanwhile."""
+    try:
+        fd = os.open(path, _READ)
+        try:
+            before = os.fstat(fd)
+            if not stat.S_ISREG(before.st_mode):
+                raise Unreadable("not a regular file")
+            data = _whole(fd)
+            after = os.fstat(fd)
+        finally:
+            os.close(fd)
+    except OSError as error:
+        raise Unreadable(why(error)) from error
+    if (
+        before.st_mtime_ns != after.st_mtime_ns
+        or before.st_size != after.st_size
+        or len(data) != min(before.st_size, LONGEST + 1)
+    ):
+        raise Unreadable("changed while it was read")
+    return Content(data, before.st_size)
+
+
+def read_if_there(path: bytes) -> Optional[bytes]:
+    """A filed form's bytes, or None where there is no such file."""
+    try:
+        return read(path).data
+    except Unreadable as error:
+        cause = error.__cause__
+        if isinstance(cause, OSError) and cause.errno in (errno.ENOENT, errno.ENOTDIR):
+            return None
+        raise
+
+
+def write(path: bytes, data: bytes, temporary: bytes, flush: bool) -> None:
+    """Puts a file in its place at once: a new file beside it, flushed, then renamed over it."""
+    try:
+        fd = os.open(temporary, _WRITE, 0o666)
+        try:
+            rest = data
+            while True:
+                done = os.write(fd, rest)
+                if done == len(rest):
+                    break
+                rest = rest[done:]
+            if flush:
+                os.fsync(fd)
+        finally:
+            os.close(fd)
+        os.replace(temporary, path)
+    except OSError as error:
+        remove(temporary)
+        if error.errno in _OF_A_NAME:
+            raise Unreadable(f"cannot be filed: {error.strerror}") from error
+        raise Failed(f"{os.fsdecode(path)}: {why(error)}") from error
+
+
+def remove(path: bytes) -> None:
+    """Removes a file if it is there and can be removed."""
+    try:
+        os.unlink(path)
+    except OSError:
+        pass
+
+
+def flush_folder(path: bytes) -> None:
+    """Makes the names in a folder last."""
+    fd = os.open(path, os.O_RDONLY | os.O_DIRECTORY | os.O_CLOEXEC)
+    try:
+        os.fsync(fd)
+    finally:
+        os.close(fd)
+
+
+def make_folder(path: bytes) -> None:
+    """Makes a folder and those above it where they aren't there."""
+    try:
+        os.makedirs(path, exist_ok=True)
+    except OSError as error:
+        if error.errno in _OF_A_NAME:
+            raise Unreadable(f"cannot be filed: {error.strerror}") from error
+        raise Failed(f"{os.fsdecode(path)}: {why(error)}") from error
