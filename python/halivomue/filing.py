@@ -5,7 +5,7 @@ from __future__ import annotations
 import errno
 import os
 import stat
-from typing import NamedTuple, Optional
+from typing import NamedTuple, Optional, Sequence, Tuple
 
 from .answers import LONGEST
 
@@ -77,29 +77,35 @@ def read_if_there(path: bytes) -> Optional[bytes]:
         return read(path).data
     except Unreadable as error:
         cause = error.__cause__
-        if isinstance(cause, OSError) and cause.errno in (errno.ENOENT, errno.ENOTDIR):
+        if isinstance(cause, OSError) and cause.errno in (errno.ENOENT, errno.ENOTDIR, errno.ENAMETOOLONG):
             return None
         raise
 
 
-def write(path: bytes, data: bytes, temporary: bytes, flush: bool) -> None:
-    """Puts a file in its place at once: a new file beside it, flushed, then renamed over it."""
+def _stage(temporary: bytes, data: bytes, flush: bool) -> None:
+    """Writes a new file, flushed."""
+    fd = os.open(temporary, _WRITE, 0o666)
     try:
-        fd = os.open(temporary, _WRITE, 0o666)
-        try:
-            rest = data
-            while True:
-                done = os.write(fd, rest)
-                if done == len(rest):
-                    break
-                rest = rest[done:]
-            if flush:
-                os.fsync(fd)
-        finally:
-            os.close(fd)
-        os.replace(temporary, path)
+        done = os.write(fd, data)
+        while done < len(data):
+            done += os.write(fd, memoryview(data)[done:])
+        if flush:
+            os.fsync(fd)
+    finally:
+        os.close(fd)
+
+
+def write(files: Sequence[Tuple[bytes, bytes, bytes]], flush: bool) -> None:
+    """Puts files in their places, each at once: new files beside them (path, temporary and bytes of
+    each), flushed, then renamed over them. Where one can't be written, none is put."""
+    try:
+        for path, temporary, data in files:
+            _stage(temporary, data, flush)
+        for path, temporary, _ in files:
+            os.replace(temporary, path)
     except OSError as error:
-        remove(temporary)
+        for _, temporary, _ in files:
+            remove(temporary)
         if error.errno in _OF_A_NAME:
             raise Unreadable(f"cannot be filed: {error.strerror}") from error
         raise Failed(f"{os.fsdecode(path)}: {why(error)}") from error

@@ -168,7 +168,7 @@ def write(filed: bytes, out: str, patterns: Sequence[str], most: int) -> str:
     path = os.fsencode(out)
     own = os.path.join(os.path.dirname(path), b".%s.tmp" % os.path.basename(path)[:200])
     try:
-        filing.write(path, text.encode("utf-8"), own, flush=True)
+        filing.write([(path, own, text.encode("utf-8"))], flush=True)
     except Unreadable as error:
         raise Failed(f"{out}: {error}") from error
     return f"{out}: {len(rows)} files, {drawn} drawn" + ("" if dot else "; dot isn't installed (Debian: graphviz)")

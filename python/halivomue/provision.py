@@ -2,6 +2,7 @@
 
 from __future__ import annotations
 
+import errno
 import fcntl
 import fnmatch
 import hashlib
@@ -84,7 +85,7 @@ class Filer:
     def __init__(self, options: Options, number: int) -> None:
         self.sent, self.filed = options.sent + b"/", options.filed + b"/"
         self.strict, self.dry_run, self.flush = options.strict, options.dry_run, options.flush
-        self.temporary = b"/%s.%d.tmp" % (names.OWN, number)
+        self.temporary = b"/%s.%d.sent.tmp" % (names.OWN, number), b"/%s.%d.short.tmp" % (names.OWN, number)
         self.folder: Optional[bytes] = None
         self.touched: Set[bytes] = set()
         _library.functions()
@@ -142,7 +143,7 @@ class Filer:
             return False
 
     def put(self, name: bytes, sent: bytes, short: bytes) -> None:
-        """Files both forms, each at once."""
+        """Files both forms, each at once; the shortened one first, since its name is the longer."""
         path = self.filed + name
         folder = os.path.dirname(path)
         if folder != self.folder:
@@ -153,8 +154,10 @@ class Filer:
             while len(above) >= len(self.filed) - 1:
                 self.touched.add(above)
                 above = os.path.dirname(above)
-        filing.write(path, sent, folder + self.temporary, self.flush)
-        filing.write(path + names.SHORT, short, folder + self.temporary, self.flush)
+        of_sent, of_short = self.temporary
+        if os.path.isdir(path):
+            raise Unreadable("cannot be filed: " + os.strerror(errno.EISDIR))
+        filing.write(((path + names.SHORT, folder + of_short, short), (path, folder + of_sent, sent)), self.flush)
 
     def unfiled(self, name: bytes, row: Row) -> Row:
         """The row of a file that isn't filed now, with what an earlier run filed under its name."""
@@ -189,7 +192,7 @@ class Lock:
         except BlockingIOError:
             holder = os.read(self.fd, 64).decode("ascii", "replace")
             self.release()
-            raise Failed(f"another run{holder and ', process ' + holder} works on {os.fsdecode(filed)}") from None
+            raise Failed(f"another run{holder and f', process {holder},'} works on {os.fsdecode(filed)}") from None
         except OSError as error:
             raise Failed(f"{os.fsdecode(path)}: {filing.why(error)}") from error
         if not shared:
@@ -236,7 +239,7 @@ class State:
 
     `part` is the report in the making, in name order. When a run starts, the rows of a part that is
     there are merged into `before`, whose rows, and then those of the last whole report, tell what
-    is filed already.
+    is filed already. Of a report whose totals aren't those of its rows only the names are believed.
     """
 
     def __init__(self, filed: bytes) -> None:
@@ -247,8 +250,11 @@ class State:
         self.report = os.path.join(filed, names.REPORT)
         self.report_json = os.path.join(filed, names.REPORT_JSON)
 
-    def earlier(self) -> Iterator[Row]:
-        return report.merged(self.part, self.before, self.report)
+    def earlier(self) -> Iterator[Tuple[bytes, Row, bool]]:
+        """What is known from earlier: a name's key, its row, and whether the row is believed."""
+        sound = report.sound(self.report)
+        for at, source, row in report.merged(self.part, self.before, self.report):
+            yield at, row, sound or source < 2
 
     def take_up(self) -> None:
         """Cleans up after a run that was interrupted."""
@@ -257,11 +263,11 @@ class State:
         temporary = self.before + b".tmp"
         with open(temporary, "w", encoding="utf-8", newline="\n") as out:
             out.write(report.HEADER + "\n")
-            for row in report.merged(self.part, self.before):
+            for _, _, row in report.merged(self.part, self.before):
                 out.write(report.csv_line(row))
         os.replace(temporary, self.before)
         filing.remove(self.part)
-        pattern = re.compile(re.escape(names.OWN) + rb"\.\d+\.tmp")
+        pattern = re.compile(re.escape(names.OWN) + rb"\.\d+\.(sent|short)\.tmp")
         for entry in names.walk(self.filed):
             if pattern.fullmatch(os.path.basename(entry.name)):
                 filing.remove(os.path.join(self.filed, entry.name))
@@ -288,9 +294,9 @@ class State:
 class Walk:
     """The tasks of a run: SENT in name order, with what is known of each name from earlier."""
 
-    def __init__(self, options: Options, earlier: Iterator[Row]) -> None:
+    def __init__(self, options: Options, earlier: Iterator[Tuple[bytes, Row, bool]]) -> None:
         self.options = options
-        self.earlier = ((report.row_key(row), row) for row in earlier)
+        self.earlier = earlier
         self.matches = re.compile(fnmatch.translate(options.pattern)).match
         self.passed_over = 0
 
@@ -324,7 +330,7 @@ class Walk:
                 yield from self.gone(due[1])
                 due = next(self.earlier, None)
             if due is not None and due[0] == at:
-                if task.how == FILE:
+                if task.how == FILE and due[2]:
                     task = task._replace(earlier=due[1])
                 due = next(self.earlier, None)
             yield task
@@ -364,8 +370,7 @@ def _count(options: Options) -> int:
 
 def _take(options: Options, state: State, writer: report.Writer, say: Callable[[str], None]) -> Outcome:
     """Does all the tasks, with a row of the report for each."""
-    earlier = state.earlier()
-    walk = Walk(options, earlier)
+    walk = Walk(options, state.earlier())
     done = kept = 0
     with Progress(sys.stderr, lambda: _count(options)) as progress:
         for chunk in _rows(options, walk):

@@ -6,7 +6,6 @@ import csv
 import heapq
 import io
 import json
-import os
 from itertools import groupby
 from typing import IO, Any, Dict, Iterable, Iterator, List, NamedTuple, Optional, Tuple
 
@@ -160,11 +159,28 @@ def rows(path: bytes) -> Iterator[Row]:
             return
 
 
-def merged(*paths: bytes) -> Iterator[Row]:
-    """The rows of several reports in order; of a name's rows that of the first report."""
-    streams = [((row_key(row), at, row) for row in rows(path)) for at, path in enumerate(paths)]
+def _stream(path: bytes, at: int) -> Iterator[Tuple[bytes, int, Row]]:
+    for row in rows(path):
+        yield row_key(row), at, row
+
+
+def merged(*paths: bytes) -> Iterator[Tuple[bytes, int, Row]]:
+    """The rows of several reports in order, with their keys and which report has them; of a name's
+    rows that of the first report."""
+    streams = [_stream(path, at) for at, path in enumerate(paths)]
     for _, same in groupby(heapq.merge(*streams), key=lambda item: item[0]):
-        yield next(same)[2]
+        yield next(same)
+
+
+def sound(path: bytes) -> bool:
+    """Is this a whole report, with the totals of its rows?"""
+    try:
+        stream, wrong = checked(path)
+        for _ in stream:
+            pass
+        return not wrong
+    except OSError:
+        return False
 
 
 def write_json(source: bytes, out: IO[str]) -> None:
@@ -227,6 +243,3 @@ def checked(path: bytes) -> Tuple[Iterator[Row], List[str]]:
 
     return read(), wrong
 
-
-def exists(path: bytes) -> bool:
-    return os.path.lexists(path)
