@@ -54,19 +54,23 @@ def _serve(link: Any, others: List[Any], parent: int, make: Callable[[int], Work
     work = make(number)
     while True:
         try:
-            try:
-                link.send((True, work(link.recv())))
-            except Failed as error:
-                link.send((False, str(error)))
-                return
-        except (EOFError, ConnectionError):
+            chunk = link.recv()
+        except (EOFError, OSError):
+            return
+        try:
+            answer: Tuple[bool, Any] = True, work(chunk)
+        except (Failed, OSError) as error:
+            answer = False, str(error)
+        try:
+            link.send(answer)
+        except OSError:
             return
 
 
 def _received(link: Any) -> List[Any]:
     try:
         good, result = link.recv()
-    except (EOFError, ConnectionError):
+    except (EOFError, OSError):
         raise Failed("a process of the run ended by itself") from None
     if not good:
         raise Failed(result)
@@ -99,7 +103,7 @@ def ordered(
                 yield _received(waiting.popleft())
             try:
                 link.send(chunk)
-            except ConnectionError:
+            except OSError:
                 while True:
                     _received(link)
             waiting.append(link)
