@@ -1,19 +1,23 @@
-/* Halivomue: reading call procedure files, and asking whether they are tidy.
+/* Halivomue: reading call procedure files, asking whether they are tidy, and
+ * shortening their branches.
  *
  * Linking  `rt staticlib halivomue_c` writes target/staticlib/libhalivomue_c.a,
  *          for x86-64 Linux, position independent. It needs no other library
  *          than C's:  cc program.c libhalivomue_c.a
  * Memory   nothing is allocated, nothing is kept between calls, and there is no
  *          global state. A function reads the bytes it is given, while the call
- *          lasts, and writes nowhere but to its own stack and its answer.
+ *          lasts, and writes nowhere but to its own stack, its answer and, where
+ *          it has one, the output buffer.
  * Threads  every function may be called from any number of threads at once, on
- *          the same bytes too, as long as nobody changes them meanwhile.
- * Overlap  the bytes need no alignment. They must not be memory that another
- *          thread or a device changes during the call; nothing else is written,
- *          so nothing else can overlap them.
- * Stack    HALIVOMUE_READ_STACK and HALIVOMUE_TIDY_STACK bytes suffice below the
- *          caller's frame, for every file: there is no recursion. Signal handlers
- *          come on top.
+ *          the same bytes too, as long as nobody changes them meanwhile. Calls
+ *          at the same time need an output buffer each.
+ * Overlap  neither the bytes nor the buffer need any alignment. The bytes must
+ *          not be memory that another thread or a device changes during the
+ *          call, and the buffer none that one reads or changes. The bytes and
+ *          the buffer must not overlap: a file can't be shortened in place.
+ * Stack    HALIVOMUE_READ_STACK, HALIVOMUE_TIDY_STACK and HALIVOMUE_SHORTEN_STACK
+ *          bytes suffice below the caller's frame, for every file: there is no
+ *          recursion. Signal handlers come on top.
  * Errors   there are none: every function ends, on any bytes, with its answer.
  */
 #ifndef HALIVOMUE_H
@@ -26,11 +30,15 @@
 extern "C" {
 #endif
 
-#define HALIVOMUE_VERSION "0.2"
+#define HALIVOMUE_VERSION "0.3"
 
 /* Bytes of stack that suffice for a call. tests/stack/run measures them. */
 #define HALIVOMUE_READ_STACK 1024
 #define HALIVOMUE_TIDY_STACK 8192
+#define HALIVOMUE_SHORTEN_STACK 131072
+
+/* Bytes of output buffer that suffice for the shortened form of every file. */
+#define HALIVOMUE_ROOM 61728
 
 /* Why a file is refused: the first of these that applies, in this order.
  * docs/FORMAT.md describes the file, docs/MENDING.md how to mend one.
@@ -52,7 +60,13 @@ enum halivomue_refusal {
     /* case tables are misnumbered, or one has no default */
     HALIVOMUE_TABLE = 6,
     /* a record names a register, block, table or list that does not exist */
-    HALIVOMUE_NAME = 7
+    HALIVOMUE_NAME = 7,
+    /* more registers or instructions than shortening takes, 480 of each; given
+       by halivomue_shorten alone, with record 0 */
+    HALIVOMUE_SHORTENING_LIMIT = 8,
+    /* the output buffer is shorter than the shortened form; given by
+       halivomue_shorten alone, with record 0 */
+    HALIVOMUE_OUTPUT = 9
 };
 
 /* The answer of halivomue_read.
@@ -99,6 +113,50 @@ struct halivomue_tidiness {
 
 /* Asks of a whole file, given as to halivomue_read, whether it is tidy. */
 struct halivomue_tidiness halivomue_tidy(const uint8_t *bytes, size_t length);
+
+/* The answer of halivomue_shorten.
+ *
+ * number, record  as halivomue_read gives them, or one of the last two refusals;
+ *                 where number is not 0, all else is 0
+ * length          the bytes of the shortened form, which stand at `out`
+ * moved           1 where a branch was changed; where it is 0 the shortened form
+ *                 is the file, byte for byte
+ * grown           instructions that were appended by copying
+ * fresh           new registers
+ * rescued         constants that were moved to the front of block 0
+ */
+struct halivomue_shortening {
+    uint32_t number;
+    uint32_t record;
+    size_t length;
+    uint32_t moved;
+    uint32_t grown;
+    uint32_t fresh;
+    uint32_t rescued;
+};
+
+/* Shortens the branches of a whole file of `length` bytes that stands at `bytes`,
+ * and writes the shortened form to `out`, where there are `room` bytes.
+ *
+ * Any bytes, any length and any room are allowed. `bytes` may be a null pointer
+ * only where `length` is 0, and `out` only where `room` is 0. Where the file is
+ * refused, no byte of the buffer is changed; where it isn't, those past the
+ * answer's length are left. With HALIVOMUE_ROOM bytes of room the answer is never
+ * HALIVOMUE_OUTPUT.
+ *
+ * What is promised, and proved, for every file and every room: the answer and all
+ * bytes of the buffer are those that the definition of Shorten gives
+ * (docs/FORMAT.md has it in words), and halivomue_read accepts what is written.
+ * For every file that halivomue_tidy calls tidy, besides: the shortened form's
+ * whole run does the original's acts, in order, with their values and statements,
+ * within the original's instruction count plus the rescued constants for each
+ * entry into block 0; it does no other act; it ends if and only if the original
+ * does, and alike. Both runs start with the original's single constants loaded,
+ * that is the registers that one Const, ConstF or AddrOf alone writes, and meet
+ * the same outside; docs/FORMAT.md describes the machine.
+ */
+struct halivomue_shortening halivomue_shorten(const uint8_t *bytes, size_t length,
+                                              uint8_t *out, size_t room);
 
 #ifdef __cplusplus
 }

@@ -34,6 +34,13 @@ static void call_tidy(const uint8_t *bytes, size_t length)
     (void)halivomue_tidy(bytes, length);
 }
 
+static void call_shorten(const uint8_t *bytes, size_t length)
+{
+    static uint8_t out[HALIVOMUE_ROOM];
+
+    (void)halivomue_shorten(bytes, length, out, sizeof out);
+}
+
 static struct {
     const char *name;
     caller call;
@@ -42,6 +49,7 @@ static struct {
 } functions[] = {
     {"halivomue_read", call_read, HALIVOMUE_READ_STACK, 0},
     {"halivomue_tidy", call_tidy, HALIVOMUE_TIDY_STACK, 0},
+    {"halivomue_shorten", call_shorten, HALIVOMUE_SHORTEN_STACK, 0},
 };
 
 enum { FUNCTIONS = sizeof functions / sizeof functions[0] };

@@ -119,6 +119,7 @@ pub block-range : (code table : List ℕ) (k j : ℕ) → Bytes code → InRange
 block-range code table k j h =
     let n = length code / 32 in
     let r = recordAt table k in
-    let b = bytes-part (32 * endIn n r - 32 * startIn n r) (32 * startIn n r) code h in
+    let s = startIn n (r .p1) (r .p2) in
+    let b = bytes-part (32 * endIn n (r .p2) - 32 * s) (32 * s) code h in
     subst (λ (c : List Code). InRange (codeAt c j)) (block-codes code table k)
     (codes-range (blockBytes code table k) j b)

@@ -106,8 +106,8 @@ module _ (code : List ℕ) where
   pub records-in : (r : Record) → recordsOf (bytesOfBlock code r) ≡ recordsOfBlock (recordsOf code) r
   records-in r =
       let n = length code / 32 in
-      let e = endIn n r in
-      let s = startIn n r in
+      let e = endIn n (r .p2) in
+      let s = startIn n (r .p1) (r .p2) in
       let x : 32 * e - 32 * s ≡ 32 * (e - s) = omega arith in
       let m = length-records code in
       ap (λ (i : ℕ). recordsOf (take i (drop (32 * s) code))) x

@@ -22,17 +22,21 @@ abbrev pub Canonical : List ℕ → List ℕ → Type 0
 Canonical code table = blockRecordsIn code table ≡ map (map recordOf) (blocksOf code table)
 
 -- "p1 start, p2 end (exclusive)", kept within a code of n records
-abbrev pub endIn : ℕ → Record → ℕ
-endIn n r = min (r .p2) n
+abbrev pub endIn : ℕ → ℕ → ℕ
+endIn n end = min end n
 
-abbrev pub startIn : ℕ → Record → ℕ
-startIn n r = min (r .p1) (endIn n r)
+abbrev pub startIn : ℕ → ℕ → ℕ → ℕ
+startIn n start end = min start (endIn n end)
+
+-- the bytes of a part of a code
+abbrev pub partBytes : List ℕ → ℕ → ℕ → List ℕ
+partBytes code start end =
+    let n = length code / 32 in
+    take (32 * endIn n end - 32 * startIn n start end) (drop (32 * startIn n start end) code)
 
 -- the bytes of a block, by its record
 abbrev pub bytesOfBlock : List ℕ → Record → List ℕ
-bytesOfBlock code r =
-    let n = length code / 32 in
-    take (32 * endIn n r - 32 * startIn n r) (drop (32 * startIn n r) code)
+bytesOfBlock code r = partBytes code (r .p1) (r .p2)
 
 -- the bytes of block k; none past the last block
 abbrev pub blockBytes : List ℕ → List ℕ → ℕ → List ℕ

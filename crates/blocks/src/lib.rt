@@ -1,7 +1,7 @@
 ghost use mathlib.Core.Path.{_≡_};
 ghost use Prim.Native.Nat.{ℕ, min};
 ghost use Rattle.format.specs.Record.{recordAt};
-ghost use Rattle.blocks.specs.Blocks.{blockBytes};
+ghost use Rattle.blocks.specs.Blocks.{partBytes, blockBytes};
 ghost use Rattle.blocks.specs.Rewrite as spec;
 use inst::Inst;
 
@@ -12,14 +12,21 @@ pub fn least(a: usize, b: usize) -> usize
     if a <= b { a } else { b }
 }
 
+// The part of a code from start to end, kept within it.
+pub fn part<'a>(code: &'a [u8], start: u32, end: u32) -> &'a [u8]
+    ensures { λ r. ⌜ now r ≡ partBytes (now (code .entry)) start end ⌝ }
+{
+    let e = least(end as usize, code.len() / 32);
+    let s = least(start as usize, e);
+    &code[32 * s..32 * e]
+}
+
 // The code of block k; none past the last block.
 pub fn block<'a>(code: &'a [u8], table: &[u8], k: usize) -> &'a [u8]
     ensures { λ r. ⌜ now r ≡ blockBytes (now (code .entry)) (now (table .entry)) k ⌝ }
 {
     let r = format::record_at(table, k);
-    let end = least(r.p2 as usize, code.len() / 32);
-    let start = least(r.p1 as usize, end);
-    &code[32 * start..32 * end]
+    part(code, r.p1, r.p2)
 }
 
 // A block's code without its last instruction.

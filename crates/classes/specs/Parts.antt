@@ -1,7 +1,6 @@
 -- Storage, not the paper's: where the classes of a file start, by the classes of its records alone, and a part of its bytes.
 use Prim.Native.Nat.{ℕ, _+_, _*_, _-_, _/_, min}
 use mathlib.Core.List.{List}
-use mathlib.Core.Bool.{Bool}
 use lib.Dec.{ltb}
 use lib.ListN.{length, take, drop}
 use Rattle.format.specs.declared.Record.{Record}

@@ -1,6 +1,8 @@
+ghost use Prim.Native.Nat.{_+_, _≤_};
 ghost use mathlib.Core.Path.{_≡_};
 ghost use mathlib.Core.Bool.{true, cond};
 ghost use lib.ListN.{length, getD};
+ghost use lib.Seq.{paste};
 ghost use Rattle.format.specs.Record.{recordsOf};
 ghost use Rattle.procedure.specs.Lists.{joined};
 ghost use Rattle.procedure.specs.Procedure.{codesOf};
@@ -8,7 +10,7 @@ ghost use Rattle.blocks.specs.Blocks.{blockRecordsIn, blocksOf};
 ghost use Rattle.steps.specs.Emit as steps;
 ghost use Rattle.emit.specs.Emitted.{rescuedBy, staysBy, rescuedIn, branchRecord};
 ghost use Rattle.emit.specs.Emitted.{place, put as putOne, puts};
-ghost use Rattle.emit.specs.Emitted.{staysAt, lostAt, newAt, rescuesIn, emptyIn, endAfter, headsFrom};
+ghost use Rattle.emit.specs.Emitted.{staysAt, lostAt, newAt, rescuesIn, emptyIn, endAfter, headsFrom, counted};
 use ends::End;
 use format::Record;
 use inst::Block;
@@ -79,7 +81,7 @@ pub fn rescued_in(code: &[u8], facts: &[u64]) -> usize
 }
 
 // A record is written at a place, where there is one; returns the next place.
-fn put(out: &mut [u8], at: usize, r: Record) -> usize
+pub fn put(out: &mut [u8], at: usize, r: Record) -> usize
     ensures { λ z. ⌜ place (now (out .exit)) z ≡ putOne r (place (now (out .entry)) at) ⌝ }
 {
     if at < out.len() / 32 {
@@ -100,8 +102,8 @@ fn put_if(out: &mut [u8], at: usize, keep: bool, r: Record) -> usize
     at
 }
 
-// The records of a block are written from a place on; returns the next place.
-pub fn put_block(out: &mut [u8], at: usize, code: &[u8]) -> usize
+// Records are written one by one from a place on, while there is a place; returns the next place.
+fn put_each(out: &mut [u8], at: usize, code: &[u8]) -> usize
     ensures { λ z. ⌜ place (now (out .exit)) z ≡ puts (recordsOf (now (code .entry))) (place (now (out .entry)) at) ⌝ }
 {
     let n = code.len() / 32;
@@ -112,6 +114,31 @@ pub fn put_block(out: &mut [u8], at: usize, code: &[u8]) -> usize
         k += 1;
     }
     top
+}
+
+// n bytes of code are copied to a place.
+fn copy(out: &mut [u8], to: usize, code: &[u8], n: usize)
+    requires { ⌜ (to + n ≤ length (now out)) × (n ≤ length (now code)) ⌝ }
+    ensures { λ u. ⌜ now (out .exit) ≡ paste (now (out .entry)) to (now (code .entry)) n ⌝ }
+{
+    let mut i = 0;
+    while i < n {
+        out[to + i] = code[i];
+        i += 1;
+    }
+}
+
+// The records of a block are written from a place on, by their bytes where all have room; returns the next place.
+pub fn put_block(out: &mut [u8], at: usize, code: &[u8]) -> usize
+    ensures { λ z. ⌜ place (now (out .exit)) z ≡ puts (recordsOf (now (code .entry))) (place (now (out .entry)) at) ⌝ }
+{
+    let n = code.len() / 32;
+    let room = out.len() / 32;
+    if at <= room && n <= room - at {
+        copy(out, 32 * at, code, 32 * n);
+        return at + n;
+    }
+    put_each(out, at, code)
 }
 
 // The records of a block that are rescued are written from a place on; returns the next place.
@@ -282,4 +309,54 @@ pub fn put_heads(
         b += 1;
     }
     top
+}
+
+// The sum of two counts, no larger than a count can be.
+pub fn plus(a: usize, b: usize) -> usize
+    ensures { λ z. ⌜ z ≡ counted (a + b) ⌝ }
+{
+    if 18446744073709551615 - a < b {
+        return 18446744073709551615;
+    }
+    a + b
+}
+
+// How many records of block b are rescued: none where it stays.
+fn lost_at(work: &[u8], table: &[u8], seen: [bool; 160], facts: &[u64], b: usize) -> usize
+    ensures { λ z. ⌜ z ≡ length (lostAt (now (facts .entry)) seen (blockRecordsIn (now (work .entry)) (now (table .entry))) b) ⌝ }
+{
+    if keeps(work, table, seen, b) {
+        return 0;
+    }
+    rescued_in(blocks::block(work, table, b), facts)
+}
+
+// How many records are rescued.
+pub fn keep_count(work: &[u8], table: &[u8], seen: [bool; 160], facts: &[u64]) -> usize
+    ensures { λ z. ⌜ z
+        ≡ counted (length (rescuesIn (now (facts .entry)) seen (blockRecordsIn (now (work .entry)) (now (table .entry))))) ⌝ }
+{
+    let nb = table.len() / 32;
+    let mut n = 0;
+    let mut b = 0;
+    while b < nb {
+        n = plus(n, lost_at(work, table, seen, facts, b));
+        b += 1;
+    }
+    n
+}
+
+// How many records the emitted blocks have, without what is rescued.
+pub fn code_count(work: &[u8], table: &[u8], seen: [bool; 160]) -> usize
+    ensures { λ z. ⌜ z
+        ≡ counted (length (joined (emptyIn 0 seen (blockRecordsIn (now (work .entry)) (now (table .entry)))))) ⌝ }
+{
+    let nb = table.len() / 32;
+    let mut n = 0;
+    let mut b = 0;
+    while b < nb {
+        n = plus(n, size_at(work, table, seen, b));
+        b += 1;
+    }
+    n
 }

@@ -21,7 +21,7 @@ pub fn usage() -> Status {
 }
 
 pub fn version() -> Status {
-    status::of(line::say(b"halivomue 0.2\n"))
+    status::of(line::say(b"halivomue 0.3\n"))
 }
 
 pub fn help() -> Status {

@@ -1,5 +1,6 @@
 ghost use mathlib.Core.Path.{_≡_};
-ghost use Rattle.halivomue_c.specs.Answer.{readAnswer, tidyAnswer};
+ghost use Rattle.steps.specs.Shorten.{shorten};
+ghost use Rattle.halivomue_c.specs.Answer.{readAnswer, tidyAnswer, shortenAnswer};
 
 // struct halivomue_reading of include/halivomue.h: `place` is its member `record`.
 #[repr(C)]
@@ -38,5 +39,34 @@ pub extern "C" fn halivomue_tidy(bytes: &[u8]) -> HalivomueTidiness
         place: t.place,
         tidy: t.tidy,
         reg: t.reg,
+    }
+}
+
+// struct halivomue_shortening of include/halivomue.h: `place` is its member `record`.
+#[repr(C)]
+pub struct HalivomueShortening {
+    pub number: u32,
+    pub place: u32,
+    pub length: usize,
+    pub moved: u32,
+    pub grown: u32,
+    pub fresh: u32,
+    pub rescued: u32,
+}
+
+#[no_mangle]
+pub extern "C" fn halivomue_shorten(bytes: &[u8], out: &mut [u8]) -> HalivomueShortening
+    ensures answer { λ r. ⌜ r ≡ shortenAnswer (shorten (now (bytes .entry)) (now (out .entry)) .answer) ⌝ }
+    ensures output { λ r. ⌜ now (out .exit) ≡ shorten (now (bytes .entry)) (now (out .entry)) .output ⌝ }
+{
+    let s = shorten::shorten(bytes, out);
+    HalivomueShortening {
+        number: s.number,
+        place: s.place,
+        length: s.length,
+        moved: s.moved,
+        grown: s.grown,
+        fresh: s.fresh,
+        rescued: s.rescued,
     }
 }

@@ -1,5 +1,5 @@
 -- Storage, not the paper's: a file within the shortening limits, as parts of its bytes, and what is known of them.
-use Prim.Native.Nat.{ℕ, _*_, _/_, _≤_}
+use Prim.Native.Nat.{ℕ, _*_, _≤_}
 use mathlib.Core.Path.{_≡_}
 use mathlib.Core.List.{List, [], _++_, map}
 use lib.ListN.{length}
@@ -16,7 +16,7 @@ use Rattle.blocks.specs.Blocks.{blocksOf, Canonical}
 use Rattle.blocks.specs.Rewrite.{Tiled}
 use Rattle.steps.specs.Write.{blockRecords, bodyRecords, tableRecords}
 use Rattle.facts.specs.Storage.{kindsOf, operandsIn}
-use Rattle.round.specs.WellFormed.{WellFormed}
+use Rattle.round.specs.WellFormed.{WellFormed, armCount}
 use Rattle.classes.specs.Parts.{partOf}
 
 -- the bytes of each class
@@ -48,7 +48,10 @@ pub record Opened (p : Procedure) (x : Parts) : Type 0 where
   pub code-bytes : Bytes (x .code)
   pub registers-length : length (x .registers) ≡ 32 * length (p .registers)
   pub heads-length : length (x .heads) ≡ 32 * length (p .blocks)
+  pub body-length : length (x .body) ≡ 32 * length (bodyRecords (p .body))
   pub code-length : length (x .code) ≡ 32 * length (joined (p .blocks))
+  pub operands-length : length (x .operands) ≡ 32 * length (p .operands)
+  pub arms-length : length (x .arms) ≡ 32 * armCount (p .tables)
   -- what they hold
   pub kinds : kindsOf (x .registers) ≡ p .registers
   pub blocks : blocksOf (x .code) (x .heads) ≡ p .blocks
@@ -69,3 +72,13 @@ pub record Opened (p : Procedure) (x : Parts) : Type 0 where
 -- the parts in their order
 abbrev pub whole : Parts → List ℕ
 whole x = x .registers ++ (x .heads ++ (x .body ++ (x .code ++ (x .operands ++ x .arms))))
+
+-- how many bytes the parts have, for a caller that lends storage: 480 registers, 1 to 160 blocks, 1 body, 480 instructions, 128 operands, 128 arms
+pub record Few (x : Parts) : Type 0 where
+  pub registers : length (x .registers) ≤ 15360
+  pub some-head : 32 ≤ length (x .heads)
+  pub heads : length (x .heads) ≤ 5120
+  pub body : length (x .body) ≤ 32
+  pub code : length (x .code) ≤ 15360
+  pub operands : length (x .operands) ≤ 4096
+  pub arms : length (x .arms) ≤ 4096

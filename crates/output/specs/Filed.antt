@@ -9,6 +9,7 @@ use Rattle.format.specs.Record.{recordsOf}
 use Rattle.ops.specs.Ops.{regTyOf}
 use Rattle.items.specs.Items.{registerRecord}
 use Rattle.procedure.specs.Lists.{joined}
+use Rattle.word.specs.Word.{bit}
 use Rattle.blocks.specs.Blocks.{blockRecordsIn}
 use Rattle.steps.specs.declared.Answer.{Answer}
 use Rattle.steps.specs.Run.{Shortened}
@@ -38,6 +39,18 @@ abbrev pub sameRecords : List ℕ → List ℕ → List ℕ → List ℕ → Lis
 sameRecords registers heads body code operands arms =
     recordsOf registers ++ (recordsOf heads ++ (recordsOf body ++ (recordsOf code ++ (recordsOf operands ++ recordsOf arms))))
 
+-- the answer where so many bytes are written
+abbrev pub wrote : ℕ → Shortened → Answer
+wrote n s = record {
+  number = 0;
+  place = 0;
+  length = n;
+  moved = bit (s .moved);
+  grown = s .grown;
+  fresh = s .fresh;
+  rescued = s .rescued;
+}
+
 -- a count, no larger than a 32-bit field can say
 abbrev pub short : ℕ → ℕ
 short n = min n 4294967295
@@ -46,25 +59,37 @@ short n = min n 4294967295
 abbrev pub kindRecords : List ℕ → List Record
 kindRecords kinds = map (λ k. registerRecord (regTyOf k)) kinds
 
--- what Emit leaves, over the bytes of code, block table and arms, and the facts
-module _ (work table arms facts : List ℕ) where
-  abbrev pub keptIn : List Record
-  keptIn = rescuesIn facts (seenIn work table arms) (blockRecordsIn work table)
+-- what Emit leaves, over the bytes of code and block table, the facts, and the marks of reached blocks
+module _ (work table facts : List ℕ) (marks : List Bool) where
+  abbrev pub keptBy : List Record
+  keptBy = rescuesIn facts marks (blockRecordsIn work table)
 
-  abbrev pub leftIn : List (List Record)
-  leftIn = emptyIn 0 (seenIn work table arms) (blockRecordsIn work table)
+  abbrev pub leftBy : List (List Record)
+  leftBy = emptyIn 0 marks (blockRecordsIn work table)
 
-  -- the records of the result, with those sent of the other classes and the kinds of the new registers
-  abbrev pub emitRecords : List ℕ → List ℕ → List ℕ → List ℕ → List Record
-  emitRecords registers kinds body operands =
+  -- the records of the result, with those sent of the other classes and the kinds of the new registers; block 0 has some records more
+  abbrev pub recordsBy : ℕ → List ℕ → List ℕ → List ℕ → List ℕ → List ℕ → List Record
+  recordsBy front registers kinds body operands arms =
       recordsOf registers
       ++ (kindRecords kinds
-      ++ (headsFrom 0 (short (length keptIn)) leftIn
+      ++ (headsFrom 0 front leftBy
       ++ (recordsOf body
-      ++ (keptIn
-      ++ (joined leftIn
+      ++ (keptBy
+      ++ (joined leftBy
       ++ (recordsOf operands
       ++ recordsOf arms))))))
+
+-- the same, where the arms tell which blocks are reached
+module _ (work table arms facts : List ℕ) where
+  abbrev pub keptIn : List Record
+  keptIn = keptBy work table facts (seenIn work table arms)
+
+  abbrev pub leftIn : List (List Record)
+  leftIn = leftBy work table facts (seenIn work table arms)
+
+  abbrev pub emitRecords : List ℕ → List ℕ → List ℕ → List ℕ → List Record
+  emitRecords registers kinds body operands =
+      recordsBy work table facts (seenIn work table arms) (short (length keptIn)) registers kinds body operands arms
 
   abbrev pub emittedIn : List ℕ → List ℕ → List ℕ → List ℕ → ℕ → List ℕ → Outcome
   emittedIn registers kinds body operands grown out =

@@ -201,7 +201,7 @@ module _ (code table arms : List ℕ) (few : length table / 32 ≤ 160) (right :
   mark-is k = ap (λ (m : List Bool). getD m k false) seen-is ∙ ⊎-elim (λ (h : k < length wanted). List·getD-append wanted past false k h)
       (λ (h : length wanted ≤ k). clear-past wanted (160 - length table / 32) k h ∙ sym (List·getD-eq-default wanted false h)) (order k (length wanted))
 
-  wanted-length : length wanted ≡ length table / 32
+  pub wanted-length : length wanted ≡ length table / 32
   unfolding reached
   wanted-length =
       length-reached (edgesOf (tablesFrom [] (recordsOf arms)) (blocksOf code table)) 0

@@ -24,8 +24,8 @@ pub record Left : Type 0 where
 abbrev pub left : List ℕ → List ℕ → List ℕ → List ℕ → Ran → Left
 left work table kinds facts r = record { store = store work table kinds (r .at); facts = facts; joined = r .joined }
 
--- the lengths of the slices for known values and copies, the records of operands and registers, and how many instructions there are
-module _ (body : Option ℕ) (known copy : ℕ) (operands registers : List ℕ) (n : ℕ) where
+-- how many instructions there are
+module _ (n : ℕ) where
   -- nothing is threaded
   abbrev pub still : Threaded
   still = record { top = n; grown = 0; fresh = 0; edited = false }
@@ -34,27 +34,35 @@ module _ (body : Option ℕ) (known copy : ℕ) (operands registers : List ℕ) 
   abbrev pub budgetIn : ℕ
   budgetIn = min (n / 2 + 32) 4294967295
 
-  -- "Definitions (saturating at 255) and uses are counted then.": of the first n instructions
-  abbrev pub countedIn : List ℕ → List ℕ → List ℕ
-  countedIn facts work = tableOf facts (kindsOf registers) (operandsIn operands) (codesOf (take (32 * min n (length work / 32)) work))
+  -- "Definitions (saturating at 255) and uses are counted then.": of the first n instructions, with the records of operands and registers
+  abbrev pub countedIn : List ℕ → List ℕ → List ℕ → List ℕ → List ℕ
+  countedIn operands registers facts work =
+      tableOf facts (kindsOf registers) (operandsIn operands) (codesOf (take (32 * min n (length work / 32)) work))
 
+-- "Gate."
+abbrev pub opensIn : Option ℕ → List ℕ → List ℕ → Bool
+opensIn body work table = hasBackEdge (blocksOf work table) && mayThread (present body) (blocksOf work table)
+
+-- the lengths of the slices for known values and copies, the records of operands and registers, and how many instructions there are
+module _ (body : Option ℕ) (known copy : ℕ) (operands registers : List ℕ) (n : ℕ) where
   abbrev pub threadedIn : List ℕ → List ℕ → List ℕ → List ℕ → Bool → Left
   threadedIn work table kinds facts joined =
-      record { store = threadIn facts body budgetIn known copy work table kinds n; facts = facts; joined = joined }
+      record { store = threadIn facts body (budgetIn n) known copy work table kinds n; facts = facts; joined = joined }
 
-  -- "Gate."
-  abbrev pub gateIn : Bool → List ℕ → List ℕ → List ℕ → List ℕ → Bool → Left
-  gateIn true work table kinds facts joined = threadedIn work table kinds (countedIn facts work) joined
-  gateIn false work table kinds facts joined = record { store = store work table kinds still; facts = facts; joined = joined }
+  -- with the facts as they were and once they are counted
+  abbrev pub gateIn : Bool → List ℕ → List ℕ → List ℕ → List ℕ → List ℕ → Bool → Left
+  gateIn true work table kinds facts counted joined = threadedIn work table kinds counted joined
+  gateIn false work table kinds facts counted joined = record { store = store work table kinds (still n); facts = facts; joined = joined }
 
-  abbrev pub armsIn : Joined → List ℕ → List ℕ → List ℕ → Left
-  armsIn z table kinds facts =
-      gateIn (hasBackEdge (blocksOf (z .code) table) && mayThread (present body) (blocksOf (z .code) table)) (z .code) table kinds facts (z .edited)
+  abbrev pub armsIn : Joined → List ℕ → List ℕ → List ℕ → List ℕ → Left
+  armsIn z table kinds facts counted = gateIn (opensIn body (z .code) table) (z .code) table kinds facts counted (z .edited)
 
   -- "Fewer than 6 instructions: unchanged."
   abbrev pub runIf : Bool → List ℕ → List ℕ → List ℕ → List ℕ → Left
-  runIf true work table kinds facts = record { store = store work table kinds still; facts = facts; joined = false }
-  runIf false work table kinds facts = armsIn (equalArmsIn table work) table kinds facts
+  runIf true work table kinds facts = record { store = store work table kinds (still n); facts = facts; joined = false }
+  runIf false work table kinds facts =
+      let z = equalArmsIn table work in
+      armsIn z table kinds facts (countedIn n operands registers facts (z .code))
 
   unfoldable pub ranIn : List ℕ → List ℕ → List ℕ → List ℕ → Left
   ranIn work table kinds facts = runIf (ltb n 6) work table kinds facts

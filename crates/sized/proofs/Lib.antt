@@ -1,4 +1,5 @@
 pub mod Names
+pub mod Registers
 pub mod Exchange
 pub mod Blocks
 pub mod Arms

@@ -47,7 +47,7 @@ goes z rest = cond (z .more) (rest (workOf (z .to))) (workOf (z .to))
 abbrev pub arenaOf : Store → Arena
 arenaOf s = arena (s .work) (s .table) (s .at .top)
 
-abbrev isStay : Turn → Bool
+abbrev pub isStay : Turn → Bool
 isStay u.Stay = true
 isStay u.Last = false
 isStay u.Next = false
@@ -66,7 +66,7 @@ module _ (table : List ℕ) (a : ℕ) (code : List ℕ) (body : Option ℕ) (c t
       let e′ = armIn table a code body c′ false e in
       stay-if (eqb c′ c && eqb t′ t && eqb e′ e) c′ t′ e′ h
 
-  stay-turned : (facts : List ℕ) (z : Bool)
+  pub stay-turned : (facts : List ℕ) (z : Bool)
       → isStay (turnedIn table a facts body code c t e z .turn) ≡ true → turnedIn table a facts body code c t e z .code ≡ code
   unfolding turnedIn
   stay-turned facts false h = refl

@@ -74,14 +74,22 @@ block-le (x ∷ P) (suc a) =
 both : {x y : Bool} → x ≡ true → y ≡ true → (x && y) ≡ true
 both p q = rw (p, q) refl
 
--- C: the top at first, and the places of all blocks; W, K: bytes of code and kinds; nb: blocks
-module _ (C W K nb : ℕ) where
+-- lengths that stay, and the new registers that have a kind
+pub record Long (W T K : ℕ) (s : Store) : Type 0 where
+  pub work : length (s .work) ≡ W
+  pub table : length (s .table) ≡ T
+  pub kinds : length (s .kinds) ≡ K
+  pub fresh : s .at .fresh ≤ K
+
+-- C: the top at first, and the places of all blocks; W, T, K: bytes of code, block table and kinds
+module _ (C W T K : ℕ) where
+  -- blocks
+  abbrev nb : ℕ
+  nb = T / 32
+
   -- block a is where it was, or was moved
   pub record Sizes (a : ℕ) (s : Store) : Type 0 where
-    pub work : length (s .work) ≡ W
-    pub table : length (s .table) / 32 ≡ nb
-    pub kinds : length (s .kinds) ≡ K
-    pub fresh : s .at .fresh ≤ K
+    pub long : Long W T K s
     pub top : (sizesFrom (nb - a) a (s .table) + s .at .top ≤ C + s .at .grown)
         ⊎ ((isLast (recordAt (s .table) a) (s .at .top) ≡ true) × (sizesFrom (nb - suc a) (suc a) (s .table) + s .at .top ≤ C + s .at .grown))
 
@@ -95,7 +103,7 @@ module _ (C W K nb : ℕ) where
       by (inr h) = let i = h .1 in omega arith
 
   sizes-lead : (a : ℕ) (s : Store) → Sizes a s → Sizes (suc a) s
-  sizes-lead a s g = record { work = g .work; table = g .table; kinds = g .kinds; fresh = g .fresh; top = inl (by (g .top)) }
+  sizes-lead a s g = record { long = g .long; top = inl (by (g .top)) }
     where
       by : (sizesFrom (nb - a) a (s .table) + s .at .top ≤ C + s .at .grown)
           ⊎ ((isLast (recordAt (s .table) a) (s .at .top) ≡ true) × (sizesFrom (nb - suc a) (suc a) (s .table) + s .at .top ≤ C + s .at .grown))
@@ -103,10 +111,14 @@ module _ (C W K nb : ℕ) where
       by (inl h) = let n = sizes-next nb a (s .table) in omega arith
       by (inr h) = h .1
 
+  long-turned : (s : Store) (code : List ℕ) (b : Bool) → length code ≡ length (s .work) → Long W T K s
+      → Long W T K (store code (s .table) (s .kinds) (record { top = s .at .top; grown = s .at .grown; fresh = s .at .fresh; edited = b }))
+  long-turned s code b h g = record { work = h ∙ g .work; table = g .table; kinds = g .kinds; fresh = g .fresh }
+
   sizes-turned : (a : ℕ) (s : Store) (z : Turn) (code : List ℕ) → length code ≡ length (s .work) → Sizes a s → Sizes a (turnedAt s (turned code z) .to)
-  sizes-turned a s u.Stay code h g = record { work = h ∙ g .work; table = g .table; kinds = g .kinds; fresh = g .fresh; top = g .top }
-  sizes-turned a s u.Last code h g = record { work = h ∙ g .work; table = g .table; kinds = g .kinds; fresh = g .fresh; top = g .top }
-  sizes-turned a s u.Next code h g = record { work = h ∙ g .work; table = g .table; kinds = g .kinds; fresh = g .fresh; top = g .top }
+  sizes-turned a s u.Stay code h g = record { long = long-turned s code (s .at .edited) h (g .long); top = g .top }
+  sizes-turned a s u.Last code h g = record { long = long-turned s code true h (g .long); top = g .top }
+  sizes-turned a s u.Next code h g = record { long = long-turned s code true h (g .long); top = g .top }
 
   module _ (facts : List ℕ) (body : Option ℕ) (budget known copy : ℕ) (s : Store) (a : ℕ) (w : Fine facts body budget known copy s a) (g : Sizes a s) where
     module _ (l : ℕ) (r : Room facts body budget s a l) where
@@ -128,12 +140,16 @@ module _ (C W K nb : ℕ) where
       sizes-joined =
           let far = replaced-far a c (arenaOf s) in
           let few = r .kinds in
-          let k = g .kinds in
+          let o = g .long in
+          let k = o .kinds in
           record {
-            work = far .work ∙ g .work;
-            table = ap (λ (n : ℕ). n / 32) (far .table) ∙ g .table;
-            kinds = kinds-long (s .kinds) (s .at .fresh) (givenIn facts body budget (targetIn (arenaOf s) l)) ∙ g .kinds;
-            fresh = omega arith;
+            long =
+                record {
+                  work = far .work ∙ o .work;
+                  table = far .table ∙ o .table;
+                  kinds = kinds-long (s .kinds) (s .at .fresh) (givenIn facts body budget (targetIn (arenaOf s) l)) ∙ o .kinds;
+                  fresh = omega arith;
+                };
             top = inr (is-last, by (g .top));
           }
         where
@@ -143,7 +159,7 @@ module _ (C W K nb : ℕ) where
           by (inl h) =
               let far = replaced-far a c (arenaOf s) in
               let there = r .there in
-              let blocks = g .table in
+              let blocks = g .long .table in
               let first = sizes-first nb a (s .table) (omega arith) in
               let rest = behind far in
               let top = far .top in
@@ -209,16 +225,16 @@ module _
     record Good (a : ℕ) (s : Store) : Type 0 where
       pub stored-at : Stored s
       pub edits : Edits (factsIn facts body budget) (unthreaded (blocksOf work table)) (workOf s)
-      pub sizes : Sizes C (length work) (length kinds) (length table / 32) a s
+      pub sizes : Sizes C (length work) (length table) (length kinds) a s
 
     good-fine : (a : ℕ) (s : Store) → Good a s → Fine facts body budget known copy s a
     good-fine a s g =
         let v = inv (workOf s) (g .edits) in
         let z = g .sizes in
-        let few = z .fresh in
-        let long = z .kinds in
-        let bytes = z .work in
-        let high = top-le C (length work) (length kinds) (length table / 32) a s z in
+        let few = z .long .fresh in
+        let long = z .long .kinds in
+        let bytes = z .long .work in
+        let high = top-le C (length work) (length table) (length kinds) a s z in
         let block = block-le (workOf s .blocks) a in
         let all = v .code in
         let more = v .grown in
@@ -239,14 +255,14 @@ module _
         record {
           stored-at = hop-kept facts body budget known copy s a w (g .stored-at .canonical);
           edits = edits-join (factsIn facts body budget) (g .edits) (hop-edits facts body budget known copy s a w);
-          sizes = sizes-hop C (length work) (length kinds) (length table / 32) facts body budget known copy s a w (g .sizes);
+          sizes = sizes-hop C (length work) (length table) (length kinds) facts body budget known copy s a w (g .sizes);
         }
 
     good-leads : (a : ℕ) (s : Store) → Good a s → Good (suc a) s
     good-leads a s g = record {
       stored-at = g .stored-at;
       edits = g .edits;
-      sizes = sizes-lead C (length work) (length kinds) (length table / 32) a s (g .sizes);
+      sizes = sizes-lead C (length work) (length table) (length kinds) a s (g .sizes);
     }
 
     good-start : Good 0 (store work table kinds (record { top = top; grown = 0; fresh = 0; edited = false }))
@@ -256,7 +272,7 @@ module _
         record {
           stored-at = stored;
           edits = nil (unthreaded (blocksOf work table));
-          sizes = record { work = refl; table = refl; kinds = refl; fresh = omega arith; top = inl (omega arith) };
+          sizes = record { long = record { work = refl; table = refl; kinds = refl; fresh = omega arith }; top = inl (omega arith) };
         }
 
     -- what is left is what Thread leaves
@@ -267,3 +283,9 @@ module _
     pub thread-stored : Stored (threadIn facts body budget known copy work table kinds top)
     thread-stored =
         thread-holds facts body budget known copy Good good-fine good-keeps good-leads Stored (λ a s g. g .stored-at) work table kinds top good-start
+
+    -- and as long as it was
+    pub thread-long : Long (length work) (length table) (length kinds) (threadIn facts body budget known copy work table kinds top)
+    thread-long =
+        thread-holds facts body budget known copy Good good-fine good-keeps good-leads (Long (length work) (length table) (length kinds))
+        (λ a s g. g .sizes .long) work table kinds top good-start

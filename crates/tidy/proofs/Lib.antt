@@ -8,4 +8,3 @@ pub mod Verdicts
 pub mod Answers
 pub mod Accepted
 pub mod Clauses
-pub mod Starts

@@ -7,7 +7,6 @@ ghost use Rattle.tidy.specs.Work.Parts.{Fit};
 use layout::Layout;
 
 mod lead;
-mod parts;
 mod reads;
 mod targets;
 mod writers;
@@ -50,6 +49,6 @@ pub fn tidy(b: &[u8]) -> Tidiness
             reg: 0,
         };
     }
-    let l = parts::layout_in(b);
+    let l = classes::starts(b);
     judge(b, l)
 }

@@ -38,8 +38,23 @@ impl Rng {
     }
 }
 
-pub const FAMILIES: [&str; 10] =
-    ["small", "chains", "process", "kinds", "known", "tidy", "large", "tidy-large", "budget", "damaged"];
+pub const FAMILIES: [&str; 15] = [
+    "small",
+    "chains",
+    "process",
+    "kinds",
+    "known",
+    "tidy",
+    "tidy-acts",
+    "tidy-chains",
+    "tidy-process",
+    "tidy-known",
+    "tidy-budget",
+    "large",
+    "tidy-large",
+    "budget",
+    "damaged",
+];
 
 /// File `seed` of a family.
 pub fn file(family: &str, seed: u64) -> Vec<u8> {
@@ -49,16 +64,21 @@ pub fn file(family: &str, seed: u64) -> Vec<u8> {
         "chains" => Shape::chains(&mut g).draft(&mut g).bytes(),
         "process" => Shape { body: 100, ..Shape::small(&mut g) }.draft(&mut g).bytes(),
         "kinds" => Shape { acts: 35, ..Shape::small(&mut g) }.draft(&mut g).bytes(),
-        "tidy" => {
-            let shape = Shape { acts: 12, ..Shape::small(&mut g) };
-            tidied(&mut g, shape).bytes()
+        "tidy" => tidied(Shape { acts: 12, ..Shape::small(&mut g) }.draft(&mut g), &mut g).bytes(),
+        "tidy-acts" => {
+            let shape = Shape { acts: g.pick(&[25, 40, 60]), ..Shape::small(&mut g) };
+            tidied(told(shape.draft(&mut g), &mut g, 60), &mut g).bytes()
         }
+        "tidy-chains" => tidied(told(Shape::chains(&mut g).draft(&mut g), &mut g, 20), &mut g).bytes(),
+        "tidy-process" => {
+            let shape = Shape { acts: 25, body: 100, ..Shape::small(&mut g) };
+            tidied(told(shape.draft(&mut g), &mut g, 50), &mut g).bytes()
+        }
+        "tidy-known" => tidied(known(&mut g).with_statements(10), &mut g).bytes(),
+        "tidy-budget" => tidied(budget(&mut g), &mut g).bytes(),
         "known" => known(&mut g).with_statements(10).bytes(),
         "large" => Shape::large(&mut g).draft(&mut g).bytes(),
-        "tidy-large" => {
-            let shape = Shape { most: 400, ..Shape::large(&mut g) };
-            tidied(&mut g, shape).bytes()
-        }
+        "tidy-large" => tidied(Shape { most: 400, ..Shape::large(&mut g) }.draft(&mut g), &mut g).bytes(),
         "budget" => budget(&mut g).bytes(),
         "damaged" => damaged(&mut g),
         _ => panic!("no family {family}"),
@@ -329,9 +349,18 @@ fn latch_step(g: &mut Rng, d: &mut Draft, b: usize, blocks: usize) -> Vec<Record
     code
 }
 
-/// A tidy draft: each offending register gets one more write somewhere.
-pub fn tidied(g: &mut Rng, shape: Shape) -> Draft {
-    let mut d = shape.draft(g);
+/// The draft with a Stmt, which is an act, before so many percent of its blocks.
+fn told(mut d: Draft, g: &mut Rng, percent: usize) -> Draft {
+    for block in &mut d.blocks {
+        if g.chance(percent) {
+            block.insert(0, Record { statement: g.below(90) as u32, ..stmt() });
+        }
+    }
+    d
+}
+
+/// The draft made tidy: each offending register gets one more write somewhere.
+fn tidied(mut d: Draft, g: &mut Rng) -> Draft {
     while let Some(r) = tidy::offender(&d.procedure()) {
         let b = g.below(d.blocks.len());
         let at = g.below(d.blocks[b].len());

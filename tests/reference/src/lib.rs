@@ -6,6 +6,7 @@ pub mod answer;
 pub mod answers;
 pub mod buffer;
 pub mod cases;
+pub mod cores;
 pub mod draft;
 pub mod generate;
 pub mod library;

@@ -160,10 +160,20 @@ pub fn start(original: &Procedure, g: &mut Rng) -> Vec<u64> {
     words
 }
 
+/// What a pair of runs met.
+pub struct Met {
+    /// How the original ended within its instructions, if it did.
+    pub end: Option<End>,
+    pub acts: usize,
+    pub entries: usize,
+    /// An act of the shortened run came with the last instruction that the bound allows.
+    pub at_bound: bool,
+}
+
 /// Demand 3 for one start and one outside, up to `n` instructions of the original: within `n`
 /// plus the rescued constants for each of its entries into block 0 the shortened run has done
 /// the same acts and ended alike; and it does nothing else.
-pub fn demand_3(original: &Procedure, shortened: &Procedure, rescued: u32, seed: u64, n: usize) -> Result<(), String> {
+pub fn demand_3(original: &Procedure, shortened: &Procedure, rescued: u32, seed: u64, n: usize) -> Result<Met, String> {
     let mut g = Rng::new(seed);
     let outside = Outside { seed: g.draw(), patience: g.pick(&[8, 40, 1000]) };
     let words = start(original, &mut g);
@@ -171,22 +181,33 @@ pub fn demand_3(original: &Procedure, shortened: &Procedure, rescued: u32, seed:
     longer.resize_with(shortened.registers.len(), || word(&mut g));
     let mut sent = Run::new(original, outside, words);
     let mut short = Run::new(shortened, outside, longer);
-    let mut used = 0;
+    let (mut used, mut compared, mut last_act, mut at_bound) = (0, 0, 0, false);
     for done in 0..=n {
         let bound = done + rescued as usize * sent.entries;
         while used < bound && short.end.is_none() {
+            let acts = short.acts.len();
             short.step();
             used += 1;
+            if short.acts.len() > acts {
+                last_act = used;
+            }
         }
-        if !short.acts.starts_with(&sent.acts) {
+        if !short.acts[compared.min(short.acts.len())..].starts_with(&sent.acts[compared..]) {
             return Err(format!("after {done} instructions the acts aren't a first part"));
         }
-        if sent.end.is_some() && (short.end != sent.end || short.acts != sent.acts) {
+        at_bound |= compared < sent.acts.len() && short.acts.len() == sent.acts.len() && last_act == bound;
+        compared = sent.acts.len();
+        if sent.end.is_some() && (short.end != sent.end || short.acts.len() != sent.acts.len()) {
             return Err(format!("after {done} instructions the ends differ"));
         }
         sent.step();
     }
+    let met = Met { end: sent.end, acts: sent.acts.len(), entries: sent.entries, at_bound };
+    let behind = |sent: &Run| sent.acts.len() < short.acts.len() || short.end.is_some() && sent.end.is_none();
     for _ in 0..64 * n {
+        if !behind(&sent) {
+            break;
+        }
         sent.step();
     }
     if !sent.acts.starts_with(&short.acts) {
@@ -195,5 +216,5 @@ pub fn demand_3(original: &Procedure, shortened: &Procedure, rescued: u32, seed:
     if short.end.is_some() && (sent.end != short.end || sent.acts != short.acts) {
         return Err("the shortened run ends by itself".into());
     }
-    Ok(())
+    Ok(met)
 }

@@ -23,6 +23,12 @@ pub fn reduced(bytes: &[u8], keeps: impl Fn(&[u8]) -> bool) -> Vec<u8> {
     }
 }
 
+/// A file's first records, one a line: class, kind, op, statement, places.
+pub fn told(bytes: &[u8]) -> String {
+    let records = bytes.chunks_exact(RECORD).take(60).map(Record::from_bytes);
+    records.map(|r| format!("  {} {} {} {} {:?}\n", r.class, r.kind, r.op, r.statement, r.p)).collect()
+}
+
 /// What is taken away: of a refused file single records, of an accepted one a part of the
 /// procedure, with all else renumbered.
 #[derive(Clone, Copy, PartialEq, Eq)]

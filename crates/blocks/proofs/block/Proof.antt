@@ -1,7 +1,5 @@
-use Prim.Native.Nat.{ℕ, _*_, _-_, min}
 use mathlib.Core.Path.{ap, _∙_}
 use denote.Ref.{now}
-use lib.ListN.{take, drop}
 use Rattle.blocks.specs.Blocks.{bytesOfBlock}
 use borrow.Author.Needs.{needs}
 use Rattle.blocks.proofs.block.Statement.{statement}
@@ -10,55 +8,13 @@ use Rattle.blocks.proofs.block.Tie as tie
 record-at-requires : tie.Need-record-at-requires
 record-at-requires c κs = search needs
 
-cast-least : tie.Need-cast-least
-cast-least c = search needs
-
-least-requires : tie.Need-least-requires
-least-requires c κs = search needs
-
-cast-least-2 : tie.Need-cast-least-2
-cast-least-2 c = search needs
-
-least-requires-2 : tie.Need-least-requires-2
-least-requires-2 c κs = search needs
-
-mul-result : tie.Need-mul-result
-mul-result c = search needs
-
-mul-result-2 : tie.Need-mul-result-2
-mul-result-2 c = search needs
-
-sub-result : tie.Need-sub-result
-sub-result c = search needs
-
-part-result-start : tie.Need-part-result-start
-part-result-start c = search needs
-
-part-result-end : tie.Need-part-result-end
-part-result-end c = search needs
+part-requires : tie.Need-part-requires
+part-requires c κs = search needs
 
 returns : tie.Need-returns
 returns c =
-    let a = c .before .before .before .before .before .before .before .before .args in
-    let code = now (a .code) in
-    let e = c .before .before .before .least in
-    let r = c .before .before .before .before .before .record-at in
-    ap (λ (s : ℕ). take (32 * e .result - 32 * s) (drop (32 * s) code)) (c .before .least2 .ensures)
-    ∙ ap (λ (m : ℕ). take (32 * m - 32 * min (r .result .p1) m) (drop (32 * min (r .result .p1) m) code)) (e .ensures)
-    ∙ ap (bytesOfBlock code) (r .ensures)
+    c .part .ensures
+    ∙ ap (bytesOfBlock (now (c .before .before .before .before .args .code))) (c .before .record-at .ensures)
 
 pub block-spec : {M : Type 1} → statement M
-block-spec =
-    tie.close
-    (tie.spec
-    record-at-requires
-    cast-least
-    least-requires
-    cast-least-2
-    least-requires-2
-    mul-result
-    mul-result-2
-    sub-result
-    part-result-start
-    part-result-end
-    returns)
+block-spec = tie.close (tie.spec record-at-requires part-requires returns)

@@ -1,68 +1,70 @@
-use Prim.Native.Nat.{_+_, _-_, _/_, _≤_}
 use native.Mathlib.Omega.{arith}
-use mathlib.Core.Path.{_≡_, refl, sym, ap, _∙_}
+use mathlib.Core.Path.{ap, _∙_}
+use mathlib.Core.List.{List}
+use Prim.Native.Nat.{ℕ, _+_, _-_, _/_, _≤_}
 use denote.Ref.{now}
 use borrow.Author.Needs.{needs}
-use lib.ListN.{length, drop}
-use Rattle.format.specs.declared.Record.{Record}
-use Rattle.format.specs.Record.{recordsOf}
-use Rattle.format.proofs.Laws.{length-records}
-use Rattle.emit.specs.Emitted.{place, put, puts}
-use Rattle.emit.proofs.Laws.{puts-one, puts-end}
+use borrow.Author.Tests.{leb-true}
+use lib.ListN.{length}
+use Rattle.store.specs.Store.{Bytes}
+use Rattle.emit.specs.Emitted.{place}
+use Rattle.emit.proofs.Bytes.{puts-copied}
 use Rattle.emit.proofs.put_block.Statement.{statement}
 use Rattle.emit.proofs.put_block.Tie as tie
 
-abbrev Inv-loop : tie.InvT-loop
-Inv-loop out₀ at code n top₀ k₀ out top k =
-    (k ≤ n)
-    × (n ≡ length code / 32)
-    × (length out ≡ length out₀)
-    × (puts (drop k (recordsOf code)) (place out top) ≡ puts (recordsOf code) (place out₀ at))
+mul-copy : tie.Need-mul-copy
+mul-copy c = search needs
 
-abbrev μ-loop : tie.MeasureT-loop
-μ-loop out₀ at code n top₀ k₀ out top k = n - k
+mul-copy-2 : tie.Need-mul-copy-2
+mul-copy-2 c = search needs
 
-loop-holds : tie.Need-loop-holds Inv-loop μ-loop
-loop-holds c = (omega arith, refl, refl, refl)
+copy-requires : tie.Need-copy-requires
+copy-requires c κs =
+    let i = c .before in
+    let a = i .before .before .before .before .args in
+    let o = length (now (a .out)) / 32 in
+    let n = length (now (a .code)) / 32 in
+    let h : n ≤ o - a .at = leb-true _ _ (i .if2 .taken) in
+    let g : a .at ≤ o = i .before .if1 .taken in
+    (omega arith, omega arith)
 
-record-at-requires : tie.Need-record-at-requires Inv-loop μ-loop
-record-at-requires c κs = search needs
+add-result : tie.Need-add-result
+add-result c = search needs
 
-put-requires : tie.Need-put-requires Inv-loop μ-loop
-put-requires c κs = search needs
-
-add-k : tie.Need-add-k Inv-loop μ-loop
-add-k c = search needs
-
-loop-less : tie.Need-loop-less Inv-loop μ-loop
-loop-less c = search needs
-
-loop-again : tie.Need-loop-again Inv-loop μ-loop
-loop-again c =
-    let p = c .before .before .put in
-    let l = c .before .before .before .before .before .before in
-    let rs = recordsOf (now (l .before .before .before .args .code)) in
-    let k = l .loop .k in
-    let s = place (l .loop .out) (l .loop .top) in
-    let n = length-records (now (l .before .before .before .args .code)) in (
-      omega arith,
-      l .loop .inv .1,
-      p .kept .0 ∙ l .loop .inv .2,
-      ap (puts (drop (k + 1) rs)) (p .ensures ∙ ap (λ (r : Record). put r s) (c .before .before .before .record-at .ensures))
-          ∙ sym (puts-one rs k s (omega arith))
-          ∙ l .loop .inv .3,
-    )
-
-same-length : tie.Need-same-length Inv-loop μ-loop
+same-length : tie.Need-same-length
 same-length c = search needs
 
-returns : tie.Need-returns Inv-loop μ-loop
+returns : tie.Need-returns
 returns c =
-    let l = c .before in
-    let b = now (l .before .before .before .args .code) in
-    let n = length-records b in
-    sym (puts-end (recordsOf b) (l .loop .k) (place (l .loop .out) (l .loop .top)) (omega arith)) ∙ l .loop .inv .3
+    let p = c .before .before in
+    let i = p .before .before in
+    let k = i .before .before in
+    let a = k .before .before .args in
+    let n = length (now (a .code)) / 32 in
+    let h : n ≤ length (now (a .out)) / 32 - a .at = leb-true _ _ (i .if2 .taken) in
+    let b : Bytes (now (a .code)) = λ (j : ℕ). omega (arith, k .shared-slice-known .given j) in
+    ap (λ (x : List ℕ). place x (a .at + n)) (p .copy .ensures)
+    ∙ puts-copied (now (a .code)) (now (a .out)) (a .at) b (omega (arith, i .before .if1 .taken))
+
+put-each-requires : tie.Need-put-each-requires
+put-each-requires c κs = search needs
+
+same-length-2 : tie.Need-same-length-2
+same-length-2 c = search needs
+
+returns-2 : tie.Need-returns-2
+returns-2 c = search needs
 
 pub put-block-spec : {M : Type 1} → statement M
 put-block-spec =
-    tie.close (tie.spec Inv-loop μ-loop loop-holds record-at-requires put-requires add-k loop-less loop-again same-length returns)
+    tie.close
+    (tie.spec
+    mul-copy
+    mul-copy-2
+    copy-requires
+    add-result
+    same-length
+    returns
+    put-each-requires
+    same-length-2
+    returns-2)

@@ -1,5 +1,9 @@
+use mathlib.Core.Path.{sym, subst}
 use denote.Ref.{now}
 use borrow.Author.Needs.{needs}
+use Rattle.format.specs.Record.{recordsOf}
+use Rattle.read.specs.Work.{LaidOut}
+use Rattle.classes.proofs.Laws.{starts-laid}
 use Rattle.tidy.proofs.Accepted.{in-order, accepted, refused-is, number-is, accepted-is}
 use Rattle.tidy.proofs.tidy.Statement.{statement}
 use Rattle.tidy.proofs.tidy.Tie as tie
@@ -10,14 +14,15 @@ read-requires c κs = search needs
 returns : tie.Need-returns
 returns c = refused-is (now (c .before .before .before .before .args .b)) (c .before .before .read .ensures) (c .if1 .taken)
 
-layout-in-requires : tie.Need-layout-in-requires
-layout-in-requires c κs = let b = now (c .before .before .before .before .args .b) in in-order b (number-is b (c .before .before .read .ensures) (c .if1 .left))
+starts-requires : tie.Need-starts-requires
+starts-requires c κs = search needs
 
 judge-requires : tie.Need-judge-requires
 judge-requires c κs =
     let b = now (c .before .before .before .before .before .args .b) in
     let e = number-is b (c .before .before .before .read .ensures) (c .before .if1 .left) in
-    (c .layout-in .ensures, accepted b e (c .layout-in .ensures))
+    let l = subst (LaidOut (recordsOf b)) (sym (c .starts .ensures)) (starts-laid (recordsOf b) (in-order b e)) in
+    (l, accepted b e l)
 
 returns-2 : tie.Need-returns-2
 returns-2 c = accepted-is (now (c .before .before .before .before .before .before .args .b)) (c .before .before .before .before .read .ensures)
@@ -29,6 +34,6 @@ tidy-spec =
     (tie.spec
     read-requires
     returns
-    layout-in-requires
+    starts-requires
     judge-requires
     returns-2)

@@ -112,6 +112,8 @@ fn table(library: Library) {
         "files", "instr.", "library", "Rust", "", "library at", "run", ""
     );
     println!("{:>57} {:>6}", "", "most");
+    // The smallest ratios of (a) and (b), and the largest growth of (c).
+    let mut worst = [f64::INFINITY, f64::INFINITY, 0.0];
     for sort in SORTS {
         let mut by_size = Vec::new();
         for n in SIZES {
@@ -128,12 +130,20 @@ fn table(library: Library) {
                 r.run,
                 steps.1
             );
+            worst[0] = worst[0].min(r.rust / r.library);
+            worst[1] = worst[1].min(r.library_steps.map_or(f64::INFINITY, |s| r.run / s));
             by_size.push(r);
         }
         let grows = |f: &dyn Fn(&Row) -> f64| f(&by_size[4]) / f(&by_size[3]);
         println!("{:>8} (c) from 240 to 480: library {:.2}, Rust {:.2}", "", grows(&|r| r.library), grows(&|r| r.rust));
+        worst[2] = worst[2].max(grows(&|r| r.library));
     }
     println!("A ratio is above 1 where the library is the faster.");
+    let [bytes, steps, grows] = worst;
+    let steps = if steps.is_finite() { format!("{steps:.2} or more") } else { "not told".into() };
+    println!(
+        "smallest ratio of (a) {bytes:.2}, asked 2.0; of (b) {steps}, asked 1.0; largest of (c) {grows:.2}, asked at most 2.2"
+    );
 }
 
 /// The call that callgrind counts.

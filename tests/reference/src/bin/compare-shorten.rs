@@ -1,20 +1,21 @@
 //! Asks a library's `halivomue_shorten` and the reference for the same generated files.
-//! Usage: compare-shorten [files] [first seed]
-//! HALIVOMUE_LIBRARY names the shared object. Every named case comes first, with all rooms.
+//! Usage: compare-shorten [files] [first seed] [all]
+//! HALIVOMUE_LIBRARY names the shared object. Every named case is asked for too, with all rooms. From a hundred
+//! thousand files on, or with the word `all`, it fails where something of the tally was not reached.
 
 use halivomue_reference::answers::packed;
 use halivomue_reference::buffer::{Buffer, Finding, ask};
+use halivomue_reference::cores::{argument, on_all_cores};
 use halivomue_reference::generate::{self, Rng};
 use halivomue_reference::library::Library;
-use halivomue_reference::record::{RECORD, Record};
-use halivomue_reference::reduce::reduced;
+use halivomue_reference::record::RECORD;
+use halivomue_reference::reduce::{reduced, told};
 use halivomue_reference::tally::Tally;
 use halivomue_reference::{Answer, Shorten, cases, limits, probe, reference};
 use std::process::ExitCode;
-use std::thread;
 
-/// For each thread, far more than a call needs.
-const STACK: usize = 64 << 20;
+/// So many files reach all of the tally.
+const ENOUGH: u64 = 100_000;
 
 /// Of 1000 files, how many of each family.
 const SHARES: [(&str, usize); 12] = [
@@ -127,9 +128,7 @@ fn print(library: Library, shorten: Shorten, (seed, bytes, room): &(u64, Vec<u8>
     let less = reduced(bytes, |less| differs(less, at(less)).is_some());
     println!("reduced:");
     tell(&less, at(&less), differs(&less, at(&less)));
-    for r in less.chunks_exact(RECORD).take(60).map(Record::from_bytes) {
-        println!("  {} {} {} {} {:?}", r.class, r.kind, r.op, r.statement, r.p);
-    }
+    print!("{}", told(&less));
 }
 
 fn tell(bytes: &[u8], room: usize, finding: Option<Finding>) {
@@ -138,10 +137,6 @@ fn tell(bytes: &[u8], room: usize, finding: Option<Finding>) {
         Some(f) => println!("  library {:?}\n  due     {:?}\n  {}", f.told, f.due, f.buffer),
         None => println!("  not seen again"),
     }
-}
-
-fn argument(place: usize, otherwise: u64) -> u64 {
-    std::env::args().nth(place).map_or(otherwise, |text| text.parse().expect("a number is due"))
 }
 
 fn main() -> ExitCode {
@@ -158,17 +153,8 @@ fn main() -> ExitCode {
         }
     };
     probe::tally();
-    let threads = thread::available_parallelism().map_or(1, |n| n.get());
-    let found = thread::scope(|scope| {
-        let share = |t: usize| (first + t as u64..first + files).step_by(threads);
-        let start = |t: usize| {
-            let work = move || compared(library, shorten, share(t));
-            thread::Builder::new().stack_size(STACK).spawn_scoped(scope, work).expect("a thread")
-        };
-        let running: Vec<_> = (0..threads).map(start).collect();
-        let all = named(library, shorten);
-        running.into_iter().fold(all, |all, one| all.with(one.join().expect("a thread that ends")))
-    });
+    let shares = on_all_cores(first, files, |seeds| compared(library, shorten, seeds));
+    let found = shares.into_iter().fold(named(library, shorten), Found::with);
     println!(
         "compare-shorten: {files} files and the named ones, {} calls, {} differ",
         found.tally.calls(),
@@ -177,6 +163,11 @@ fn main() -> ExitCode {
     found.tally.print();
     if let Some(smallest) = &found.smallest {
         print(library, shorten, smallest);
+        return ExitCode::FAILURE;
+    }
+    let missing = found.tally.missing();
+    if !missing.is_empty() && (files >= ENOUGH || std::env::args().any(|word| word == "all")) {
+        println!("compare-shorten: not reached: {}", missing.join(", "));
         return ExitCode::FAILURE;
     }
     ExitCode::SUCCESS

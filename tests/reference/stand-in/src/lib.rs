@@ -1,20 +1,30 @@
 //! `halivomue_shorten` over the reference, to try the comparison and the benchmark with. STAND_IN_FAULT names
 //! a fault that it then has, which the comparison must notice.
 
+use halivomue_reference::draft::mov;
 use halivomue_reference::library::Shortening;
+use halivomue_reference::procedure::Procedure;
+use halivomue_reference::record::kind;
 use halivomue_reference::reference;
 use std::sync::LazyLock;
 
 static FAULT: LazyLock<String> = LazyLock::new(|| std::env::var("STAND_IN_FAULT").unwrap_or_default());
 
 /// # Safety
-/// `length` bytes stand at `bytes`, and `room` bytes at `out` are the caller's to write.
+/// `length` bytes stand at `bytes`, and `room` bytes at `out` are the caller's to write; a null pointer has none.
 #[unsafe(no_mangle)]
 pub unsafe extern "C" fn halivomue_shorten(bytes: *const u8, length: usize, out: *mut u8, room: usize) -> Shortening {
-    let (bytes, out) =
-        unsafe { (std::slice::from_raw_parts(bytes, length), std::slice::from_raw_parts_mut(out, room)) };
+    let bytes = if length == 0 { &[] } else { unsafe { std::slice::from_raw_parts(bytes, length) } };
+    let beyond = unsafe { out.add(room) };
+    let out = if room == 0 { &mut [] } else { unsafe { std::slice::from_raw_parts_mut(out, room) } };
     let shorten = reference().expect("the papers were there when this was built");
-    let a = shorten(bytes, room);
+    let mut a = shorten(bytes, room);
+    if a.number == 0 {
+        a.output = spoiled(a.output, a.moved > 0);
+        if a.output.len() > room {
+            return refused(9);
+        }
+    }
     let mut told = Shortening::from(&a);
     out[..a.output.len()].copy_from_slice(&a.output);
     match FAULT.as_str() {
@@ -27,6 +37,7 @@ pub unsafe extern "C" fn halivomue_shorten(bytes: *const u8, length: usize, out:
         "record" => told.record += u32::from(told.number == 5),
         "byte" if told.fresh > 2 => out[told.length - 1] ^= 1,
         "past" if told.grown > 0 && room > told.length => out[told.length] ^= 1,
+        "beyond" if told.number == 0 && told.length == room => unsafe { *beyond = 0 },
         "refusal" if told.number == 9 && room > 0 => out[room - 1] ^= 1,
         "room" if told.number == 0 && told.length == room => told = refused(9),
         "limit" if told.number == 8 && bytes.iter().step_by(32).filter(|&&class| class == 4).count() == 481 => {
@@ -38,6 +49,38 @@ pub unsafe extern "C" fn halivomue_shorten(bytes: *const u8, length: usize, out:
         _ => {}
     }
     told
+}
+
+/// A shortened form with a fault that a run of it shows, where it was changed at all.
+fn spoiled(output: Vec<u8>, moved: bool) -> Vec<u8> {
+    let fault = FAULT.as_str();
+    if !moved {
+        return output;
+    }
+    let mut f = Procedure::from_bytes(&output);
+    if fault == "slow" {
+        f.code.insert(0, mov(0, 0));
+        f.blocks.iter_mut().for_each(|b| *b = (b.0 + 1, b.1 + 1));
+        f.blocks[0].0 = 0;
+        return f.bytes();
+    }
+    let first = f.code.iter_mut().find(|i| match fault {
+        "arms" => i.kind == kind::COND_BR,
+        "statement" => i.kind >= kind::BIN,
+        "value" => i.kind == kind::CONST,
+        "act" => i.kind == kind::STMT,
+        "result" => i.kind == kind::RET,
+        _ => false,
+    });
+    match (fault, first) {
+        (_, None) => return output,
+        ("arms", Some(i)) => i.p.swap(1, 2),
+        ("statement", Some(i)) => i.statement ^= 1,
+        ("value", Some(i)) => i.p[1] ^= 1,
+        ("act", Some(i)) => i.kind = kind::MOVE,
+        (_, Some(i)) => (i.op, i.p[0]) = (1 - i.op, 0),
+    }
+    f.bytes()
 }
 
 fn refused(number: u32) -> Shortening {

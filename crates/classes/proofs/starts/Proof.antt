@@ -1,0 +1,44 @@
+use mathlib.Core.Path.{sym}
+use denote.Ref.{now}
+use borrow.Author.Needs.{needs}
+use Rattle.format.specs.Record.{recordsOf}
+use Rattle.format.proofs.Laws.{length-records}
+use Rattle.classes.proofs.Laws.{starts-are}
+use Rattle.classes.proofs.starts.Statement.{statement}
+use Rattle.classes.proofs.starts.Tie as tie
+
+start-of-requires : tie.Need-start-of-requires
+start-of-requires c κs = search needs
+
+start-of-requires-2 : tie.Need-start-of-requires-2
+start-of-requires-2 c κs = search needs
+
+start-of-requires-3 : tie.Need-start-of-requires-3
+start-of-requires-3 c κs = search needs
+
+start-of-requires-4 : tie.Need-start-of-requires-4
+start-of-requires-4 c κs = search needs
+
+start-of-requires-5 : tie.Need-start-of-requires-5
+start-of-requires-5 c κs = search needs
+
+returns : tie.Need-returns
+returns c =
+    let c4 = c .before in
+    let c3 = c4 .before in
+    let c2 = c3 .before in
+    let c1 = c2 .before in
+    let b = now (c1 .before .before .args .b) in
+    starts-are (recordsOf b) (c1 .start-of .ensures) (c2 .start-of2 .ensures) (c3 .start-of3 .ensures) (c4 .start-of4 .ensures)
+    (c .start-of5 .ensures) (sym (length-records b))
+
+pub starts-spec : {M : Type 1} → statement M
+starts-spec =
+    tie.close
+    (tie.spec
+    start-of-requires
+    start-of-requires-2
+    start-of-requires-3
+    start-of-requires-4
+    start-of-requires-5
+    returns)

@@ -1,0 +1,68 @@
+use Prim.Native.Nat.{_+_, _-_, _/_, _≤_}
+use native.Mathlib.Omega.{arith}
+use mathlib.Core.Path.{_≡_, refl, sym, ap, _∙_}
+use denote.Ref.{now}
+use borrow.Author.Needs.{needs}
+use lib.ListN.{length, drop}
+use Rattle.format.specs.declared.Record.{Record}
+use Rattle.format.specs.Record.{recordsOf}
+use Rattle.format.proofs.Laws.{length-records}
+use Rattle.emit.specs.Emitted.{place, put, puts}
+use Rattle.emit.proofs.Laws.{puts-one, puts-end}
+use Rattle.emit.proofs.put_each.Statement.{statement}
+use Rattle.emit.proofs.put_each.Tie as tie
+
+abbrev Inv-loop : tie.InvT-loop
+Inv-loop out₀ at code n top₀ k₀ out top k =
+    (k ≤ n)
+    × (n ≡ length code / 32)
+    × (length out ≡ length out₀)
+    × (puts (drop k (recordsOf code)) (place out top) ≡ puts (recordsOf code) (place out₀ at))
+
+abbrev μ-loop : tie.MeasureT-loop
+μ-loop out₀ at code n top₀ k₀ out top k = n - k
+
+loop-holds : tie.Need-loop-holds Inv-loop μ-loop
+loop-holds c = (omega arith, refl, refl, refl)
+
+record-at-requires : tie.Need-record-at-requires Inv-loop μ-loop
+record-at-requires c κs = search needs
+
+put-requires : tie.Need-put-requires Inv-loop μ-loop
+put-requires c κs = search needs
+
+add-k : tie.Need-add-k Inv-loop μ-loop
+add-k c = search needs
+
+loop-less : tie.Need-loop-less Inv-loop μ-loop
+loop-less c = search needs
+
+loop-again : tie.Need-loop-again Inv-loop μ-loop
+loop-again c =
+    let p = c .before .before .put in
+    let l = c .before .before .before .before .before .before in
+    let rs = recordsOf (now (l .before .before .before .args .code)) in
+    let k = l .loop .k in
+    let s = place (l .loop .out) (l .loop .top) in
+    let n = length-records (now (l .before .before .before .args .code)) in (
+      omega arith,
+      l .loop .inv .1,
+      p .kept .0 ∙ l .loop .inv .2,
+      ap (puts (drop (k + 1) rs)) (p .ensures ∙ ap (λ (r : Record). put r s) (c .before .before .before .record-at .ensures))
+          ∙ sym (puts-one rs k s (omega arith))
+          ∙ l .loop .inv .3,
+    )
+
+same-length : tie.Need-same-length Inv-loop μ-loop
+same-length c = search needs
+
+returns : tie.Need-returns Inv-loop μ-loop
+returns c =
+    let l = c .before in
+    let b = now (l .before .before .before .args .code) in
+    let n = length-records b in
+    sym (puts-end (recordsOf b) (l .loop .k) (place (l .loop .out) (l .loop .top)) (omega arith)) ∙ l .loop .inv .3
+
+pub put-each-spec : {M : Type 1} → statement M
+put-each-spec =
+    tie.close (tie.spec Inv-loop μ-loop loop-holds record-at-requires put-requires add-k loop-less loop-again same-length returns)

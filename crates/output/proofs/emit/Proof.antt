@@ -1,0 +1,120 @@
+use Prim.Native.Nat.{ℕ, _*_}
+use mathlib.Core.Path.{ap, _∙_}
+use mathlib.Core.Bool.{true}
+use lib.ListN.{length}
+use denote.Ref.{now}
+use borrow.Author.Needs.{needs}
+use Rattle.output.specs.Filed.{counts, wrote}
+use Rattle.output.proofs.Laws.{room, under, emit-refused, emit-written}
+use Rattle.output.proofs.emit.Statement.{statement}
+use Rattle.output.proofs.emit.Tie as tie
+
+reached-requires : tie.Need-reached-requires
+reached-requires c κs = search needs
+
+keep-count-requires : tie.Need-keep-count-requires
+keep-count-requires c κs = search needs
+
+code-count-requires : tie.Need-code-count-requires
+code-count-requires c κs = search needs
+
+count-all-requires : tie.Need-count-all-requires
+count-all-requires c κs = search needs
+
+refused-requires : tie.Need-refused-requires
+refused-requires c κs = search needs
+
+returns : tie.Need-returns
+returns c =
+    let i = c .before in
+    let n = i .before in
+    let d = n .before in
+    let k = d .before in
+    let r = k .before in
+    let a = r .before .before .before .before .before .before .before .before .before .before .args in
+    emit-refused
+    (now (a .work))
+    (now (a .table))
+    (now (a .arms))
+    (now (a .facts))
+    (now (a .registers))
+    (now (a .kinds))
+    (now (a .body))
+    (now (a .operands))
+    (a .grown)
+    (now (a .out))
+    (r .reached .result)
+    (r .reached .ensures)
+    (k .keep-count .ensures)
+    (d .code-count .ensures)
+    (n .count-all .ensures)
+    (i .if1 .taken)
+    (c .refused .ensures)
+
+short-requires : tie.Need-short-requires
+short-requires c κs = search needs
+
+write-all-requires : tie.Need-write-all-requires
+write-all-requires c κs = search needs
+
+short-requires-2 : tie.Need-short-requires-2
+short-requires-2 c κs = search needs
+
+answered-requires : tie.Need-answered-requires
+answered-requires c κs =
+    let i = c .before .before .before .before .before .before in
+    let o = i .before .before .before .before .before .before .before .before .before .before .before .before .before .before in
+    room (length (now (o .args .out))) _ (i .if1 .left) (o .good .0 .0)
+
+same-length : tie.Need-same-length
+same-length c = search needs
+
+returns-2 : tie.Need-returns-2
+returns-2 c =
+    let w = c .before .before .before .before in
+    let s = w .before .before in
+    let i = s .before in
+    let n = i .before in
+    let d = n .before in
+    let k = d .before in
+    let r = k .before in
+    let o = r .before .before .before .before .before .before .before .before .before .before in
+    let a = o .args in
+    emit-written
+    (now (a .work))
+    (now (a .table))
+    (now (a .arms))
+    (now (a .facts))
+    (now (a .registers))
+    (now (a .kinds))
+    (now (a .body))
+    (now (a .operands))
+    (a .grown)
+    (now (a .out))
+    (r .reached .result)
+    (r .reached .ensures)
+    (k .keep-count .ensures)
+    (d .code-count .ensures)
+    (n .count-all .ensures)
+    (i .if1 .left)
+    (under (length (now (a .out))) (n .count-all .result) (i .if1 .left) (o .good .0 .0))
+    (s .short .ensures)
+    (c .answered .ensures ∙ ap (λ (x : ℕ). wrote (32 * n .count-all .result) (counts true (a .grown) x (s .short .result))) (c .before .short2 .ensures))
+    (w .write-all .ensures)
+
+pub emit-spec : {M : Type 1} → statement M
+emit-spec =
+    tie.close
+    (tie.spec
+    reached-requires
+    keep-count-requires
+    code-count-requires
+    count-all-requires
+    refused-requires
+    returns
+    short-requires
+    write-all-requires
+    short-requires-2
+    answered-requires
+    same-length
+    returns-2)

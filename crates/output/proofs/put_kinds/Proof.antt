@@ -1,0 +1,89 @@
+use Prim.Native.Nat.{_+_, _-_, _≤_}
+use native.Mathlib.Omega.{arith}
+use mathlib.Core.Path.{_≡_, refl, sym, ap, _∙_}
+use denote.Ref.{now}
+use borrow.Author.Needs.{needs}
+use lib.ListN.{length, drop}
+use Rattle.format.specs.declared.Record.{Record}
+use Rattle.items.specs.Items.{registerRecord}
+use Rattle.emit.specs.Emitted.{place, put, puts}
+use Rattle.output.specs.Filed.{kindRecords}
+use Rattle.output.proofs.Laws.{kinds-one, kinds-end}
+use Rattle.output.proofs.put_kinds.Statement.{statement}
+use Rattle.output.proofs.put_kinds.Tie as tie
+
+abbrev Inv-loop : tie.InvT-loop
+Inv-loop out₀ at kinds top₀ k₀ out top k =
+    (k ≤ length kinds)
+    × (length out ≡ length out₀)
+    × (puts (kindRecords (drop k kinds)) (place out top) ≡ puts (kindRecords kinds) (place out₀ at))
+
+abbrev μ-loop : tie.MeasureT-loop
+μ-loop out₀ at kinds top₀ k₀ out top k = length kinds - k
+
+loop-holds : tie.Need-loop-holds Inv-loop μ-loop
+loop-holds c = (omega arith, refl, refl)
+
+shared-slice-read-reg-ty-of : tie.Need-shared-slice-read-reg-ty-of Inv-loop μ-loop
+shared-slice-read-reg-ty-of c = search needs
+
+cast-reg-ty-of : tie.Need-cast-reg-ty-of Inv-loop μ-loop
+cast-reg-ty-of c = omega (arith, c .shared-slice-known2 .given (c .before .before .loop .k))
+
+reg-ty-of-requires : tie.Need-reg-ty-of-requires Inv-loop μ-loop
+reg-ty-of-requires c κs = search needs
+
+record-of-register-requires : tie.Need-record-of-register-requires Inv-loop μ-loop
+record-of-register-requires c κs = search needs
+
+put-requires : tie.Need-put-requires Inv-loop μ-loop
+put-requires c κs = search needs
+
+add-k : tie.Need-add-k Inv-loop μ-loop
+add-k c = search needs
+
+loop-less : tie.Need-loop-less Inv-loop μ-loop
+loop-less c = search needs
+
+loop-again : tie.Need-loop-again Inv-loop μ-loop
+loop-again c =
+    let p = c .before .before in
+    let r = p .before .before in
+    let l = r .before .before .before .before in
+    let kinds = now (l .before .before .before .args .kinds) in
+    let k = l .loop .k in
+    let s = place (l .loop .out) (l .loop .top) in (
+      omega arith,
+      p .put .kept .0 ∙ l .loop .inv .1,
+      ap (puts (kindRecords (drop (k + 1) kinds)))
+          (p .put .ensures ∙ ap (λ (x : Record). put x s) (r .record-of-register .ensures ∙ ap registerRecord (r .before .reg-ty-of .ensures)))
+          ∙ sym (kinds-one kinds k s (omega arith))
+          ∙ l .loop .inv .2,
+    )
+
+same-length : tie.Need-same-length Inv-loop μ-loop
+same-length c = search needs
+
+returns : tie.Need-returns Inv-loop μ-loop
+returns c =
+    let l = c .before in
+    let kinds = now (l .before .before .before .args .kinds) in
+    sym (kinds-end kinds (l .loop .k) (place (l .loop .out) (l .loop .top)) (omega arith)) ∙ l .loop .inv .2
+
+pub put-kinds-spec : {M : Type 1} → statement M
+put-kinds-spec =
+    tie.close
+    (tie.spec
+    Inv-loop
+    μ-loop
+    loop-holds
+    shared-slice-read-reg-ty-of
+    cast-reg-ty-of
+    reg-ty-of-requires
+    record-of-register-requires
+    put-requires
+    add-k
+    loop-less
+    loop-again
+    same-length
+    returns)

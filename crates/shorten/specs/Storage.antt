@@ -1,0 +1,21 @@
+-- Storage, not the paper's: a file whose storage is of some size, and its shortening over that storage.
+use Prim.Native.Nat.{ℕ, _*_, _≤_}
+use mathlib.Core.Path.{_≡_}
+use mathlib.Core.List.{List}
+use lib.ListN.{length}
+use Rattle.procedure.specs.Procedure.{Procedure}
+use Rattle.steps.specs.declared.Answer.{Answer}
+use Rattle.steps.specs.Run.{run}
+use Rattle.steps.specs.Shorten.{shortened}
+use Rattle.opened.specs.Opened.{Parts, Opened}
+use Rattle.output.specs.Filed.{outcome}
+
+-- no more than so many registers and instructions, and so many blocks
+pub record Fits (most blocks : ℕ) (x : Parts) : Type 0 where
+  pub registers : length (x .registers) ≤ 32 * most
+  pub heads : length (x .heads) ≤ 32 * blocks
+  pub code : length (x .code) ≤ 32 * most
+
+-- the answer and the output buffer at exit are those of the procedure that the parts hold
+abbrev pub Done : Parts → Answer → List ℕ → List ℕ → Type 0
+Done x r out out′ = (p : Procedure) → Opened p x → outcome r out′ ≡ shortened (run p) out

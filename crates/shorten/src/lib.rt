@@ -1,0 +1,156 @@
+// Document 01's Shorten: bytes in, bytes out.
+ghost use mathlib.Core.Path.{_≡_};
+ghost use mathlib.Core.Bool.{true};
+ghost use mathlib.Core.List.{List, _++_};
+ghost use Prim.Native.Nat.{ℕ, _≤_};
+ghost use lib.ListN.{length, take, drop};
+ghost use Rattle.read.specs.Reading.{reading, answer};
+ghost use Rattle.tidy.specs.Tidy.{Tidy};
+ghost use Rattle.steps.specs.Shorten as spec;
+ghost use Rattle.machine.specs.Demand.{Demand3};
+ghost use Rattle.promise.specs.Promise.{held};
+ghost use Rattle.opened.specs.Opened.{partsOf};
+ghost use Rattle.output.specs.Filed.{outcome};
+ghost use Rattle.shorten.specs.Storage.{Fits, Done};
+use layout::Layout;
+use steps::Answer;
+
+// Zero counts.
+fn refused(number: u32, place: u32) -> Answer
+    ensures { λ r. ⌜ ((out : List ℕ) → outcome r out ≡ spec.refusal number place out) ⌝ }
+{
+    Answer {
+        number,
+        place,
+        length: 0,
+        moved: 0,
+        grown: 0,
+        fresh: 0,
+        rescued: 0,
+    }
+}
+
+// A file of at most 24 registers, blocks and instructions: clearing more storage would take longer than its steps.
+fn shorten_small(b: &[u8], l: Layout, out: &mut [u8]) -> Answer
+    ensures { λ r. ⌜ (Fits 24 24 (partsOf (now (b .entry)) l) → Done (partsOf (now (b .entry)) l) r (now (out .entry)) (now (out .exit))) ⌝ }
+{
+    let mut work = [0u8; 5504];
+    let mut table = [0u8; 768];
+    let mut kinds = [0u8; 52];
+    let mut known = [0u64; 144];
+    let mut copy = [0u32; 144];
+    let mut facts = [0u64; 120];
+    let nb = blocks::least(classes::part(b, l.blocks, l.bodies).len() / 32, 24);
+    let nr = blocks::least(classes::part(b, 0, l.blocks).len() / 32, 24);
+    shortening::shorten_in(
+        b,
+        l,
+        out,
+        &mut work,
+        &mut table[..32 * nb],
+        &mut kinds,
+        &mut known,
+        &mut copy,
+        &mut facts[..5 * nr],
+    )
+}
+
+// At most 120 of each.
+fn shorten_medium(b: &[u8], l: Layout, out: &mut [u8]) -> Answer
+    ensures { λ r. ⌜ (Fits 120 120 (partsOf (now (b .entry)) l) → Done (partsOf (now (b .entry)) l) r (now (out .entry)) (now (out .exit))) ⌝ }
+{
+    let mut work = [0u8; 17792];
+    let mut table = [0u8; 3840];
+    let mut kinds = [0u8; 100];
+    let mut known = [0u64; 432];
+    let mut copy = [0u32; 432];
+    let mut facts = [0u64; 600];
+    let nb = blocks::least(classes::part(b, l.blocks, l.bodies).len() / 32, 120);
+    let nr = blocks::least(classes::part(b, 0, l.blocks).len() / 32, 120);
+    shortening::shorten_in(
+        b,
+        l,
+        out,
+        &mut work,
+        &mut table[..32 * nb],
+        &mut kinds,
+        &mut known,
+        &mut copy,
+        &mut facts[..5 * nr],
+    )
+}
+
+// At most 480 registers and instructions, and 160 blocks.
+fn shorten_large(b: &[u8], l: Layout, out: &mut [u8]) -> Answer
+    ensures { λ r. ⌜ (Fits 480 160 (partsOf (now (b .entry)) l) → Done (partsOf (now (b .entry)) l) r (now (out .entry)) (now (out .exit))) ⌝ }
+{
+    let mut work = [0u8; 63872];
+    let mut table = [0u8; 5120];
+    let mut kinds = [0u8; 280];
+    let mut known = [0u64; 1512];
+    let mut copy = [0u32; 1512];
+    let mut facts = [0u64; 2400];
+    let nb = blocks::least(classes::part(b, l.blocks, l.bodies).len() / 32, 160);
+    let nr = blocks::least(classes::part(b, 0, l.blocks).len() / 32, 480);
+    shortening::shorten_in(
+        b,
+        l,
+        out,
+        &mut work,
+        &mut table[..32 * nb],
+        &mut kinds,
+        &mut known,
+        &mut copy,
+        &mut facts[..5 * nr],
+    )
+}
+
+// Parts of so many bytes have at most n records.
+fn fits(b: &[u8], l: Layout, n: usize) -> bool
+    ensures { λ z. ⌜ (z ≡ true → Fits n n (partsOf (now (b .entry)) l)) ⌝ }
+{
+    if n < classes::part(b, 0, l.blocks).len() / 32 {
+        return false;
+    }
+    if n < classes::part(b, l.blocks, l.bodies).len() / 32 {
+        return false;
+    }
+    classes::part(b, l.code, l.operands).len() / 32 <= n
+}
+
+// A file that is read and within the limits.
+fn shorten_read(b: &[u8], l: Layout, out: &mut [u8]) -> Answer
+    ensures { λ r. ⌜ Done (partsOf (now (b .entry)) l) r (now (out .entry)) (now (out .exit)) ⌝ }
+{
+    if fits(b, l, 24) {
+        return shorten_small(b, l, out);
+    }
+    if fits(b, l, 120) {
+        return shorten_medium(b, l, out);
+    }
+    shorten_large(b, l, out)
+}
+
+// Shortens a file into the output buffer, or refuses it.
+pub fn shorten(bytes: &[u8], out: &mut [u8]) -> Answer
+    ensures is { λ r. ⌜ outcome r (now (out .exit)) ≡ spec.shorten (now (bytes .entry)) (now (out .entry)) ⌝ }
+    ensures accepted { λ r. ⌜ (r .number ≡ 0 → reading (take (r .length) (now (out .exit))) ≡ answer 0 0) ⌝ }
+    ensures room { λ r. ⌜ (61728 ≤ length (now (out .entry)) → r .number ≡ 9 → ⊥) ⌝ }
+    ensures unmoved { λ r. ⌜ (r .number ≡ 0 → r .moved ≡ 0
+        → now (out .exit) ≡ now (bytes .entry) ++ drop (length (now (bytes .entry))) (now (out .entry))) ⌝ }
+    ensures demand3 { λ r. ⌜ (r .number ≡ 0 → Tidy (held (now (bytes .entry)))
+        → Demand3 (held (now (bytes .entry))) (held (take (r .length) (now (out .exit)))) (r .rescued)) ⌝ }
+{
+    let r = read::read(bytes);
+    if r.number != 0 {
+        return refused(r.number, r.place);
+    }
+    let l = classes::starts(bytes);
+    if 480 < classes::part(bytes, 0, l.blocks).len() / 32 {
+        return refused(8, 0);
+    }
+    if 480 < classes::part(bytes, l.code, l.operands).len() / 32 {
+        return refused(8, 0);
+    }
+    shorten_read(bytes, l, out)
+}
