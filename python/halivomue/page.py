@@ -95,7 +95,7 @@ def _cards(totals: report.Totals) -> str:
         return f'<div class="card {kind}"><b>{value}</b><span>{title}</span><i>{more}</i></div>'
 
     def change(now: int, before: int) -> str:
-        return f"{100 * (now - before) / before:+.1f}%" if before else ""
+        return f"from {before:,} ({100 * (now - before) / before:+.1f}%)" if before else ""
 
     cards = [
         card("files sent", f"{totals.files:,}", f"{a['not sent']:,} not sent any more" if a["not sent"] else ""),
@@ -103,8 +103,8 @@ def _cards(totals: report.Totals) -> str:
         card("refused", f"{a['refused']:,}", "", "bad" if a["refused"] else ""),
         card("unreadable", f"{a['unreadable']:,}", "", "bad" if a["unreadable"] else ""),
         card("shortened", f"{s['moved']:,}", f"of {a['accepted']:,}"),
-        card("instructions", f"{s['instructions_short']:,}", f"from {s['instructions_sent']:,} {change(s['instructions_short'], s['instructions_sent'])}"),
-        card("bytes", f"{s['bytes_short']:,}", f"from {s['bytes_sent']:,} {change(s['bytes_short'], s['bytes_sent'])}"),
+        card("instructions", f"{s['instructions_short']:,}", change(s["instructions_short"], s["instructions_sent"])),
+        card("bytes", f"{s['bytes_short']:,}", change(s["bytes_short"], s["bytes_sent"])),
         card("grown", f"{s['grown']:,}", "instructions copied"),
         card("fresh", f"{s['fresh']:,}", "new registers"),
         card("rescued", f"{s['rescued']:,}", "constants"),
