@@ -144,9 +144,14 @@ def read(data: Data) -> Reading:
     return Reading(answer.number, answer.record)
 
 
+def tidied(data: Data) -> Any:
+    """The C answer of Tidy."""
+    return _call(functions().tidy, data)
+
+
 def tidy(data: Data) -> Tidiness:
     """Is this procedure tidy, so that its shortened form is promised to do what it does?"""
-    answer = _call(functions().tidy, data)
+    answer = tidied(data)
     return Tidiness(answer.number, answer.record, answer.tidy == 1, answer.reg)
 
 
@@ -168,4 +173,4 @@ def shorten(data: Data) -> Shortening:
     return Shortening(short, answer.moved, answer.grown, answer.fresh, answer.rescued)
 
 
-__all__ = ["Data", "LONGEST", "LibraryError", "functions", "path", "read", "shorten", "shortened", "tidy"]
+__all__ = ["Data", "LONGEST", "LibraryError", "functions", "path", "read", "shorten", "shortened", "tidied", "tidy"]

@@ -69,7 +69,7 @@ def findings(filed: bytes, row: Row) -> List[str]:
         return [*found, f"altered: the sent form is refused {shortening.number} {shortening.record} ({why})"]
     if short is None:
         return found
-    now = described(row.name, row.answer, row.filed, sent, short, shortening, _library.tidy(sent))
+    now = described(row.name, row.answer, row.filed, sent, short, shortening, _library.tidied(sent))
     if short != due:
         found.append("altered: the shortened form is not what the sent form is shortened to")
     for column in _COMPARED:

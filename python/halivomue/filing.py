@@ -31,10 +31,12 @@ class Content(NamedTuple):
     length: int
 
 
-def _whole(fd: int) -> bytes:
-    data = os.read(fd, LONGEST + 1)
-    while data and len(data) <= LONGEST:
-        more = os.read(fd, LONGEST + 1 - len(data))
+def _whole(fd: int, length: int) -> bytes:
+    """The bytes of a file of that length, and one more if there is one; at most 65,537."""
+    due = min(length, LONGEST + 1)
+    data = os.read(fd, min(length, LONGEST) + 1)
+    while data and len(data) < due:
+        more = os.read(fd, due - len(data))
         if not more:
             break
         data += more
@@ -56,7 +58,7 @@ def read(path: bytes) -> Content:
             before = os.fstat(fd)
             if not stat.S_ISREG(before.st_mode):
                 raise Unreadable("not a regular file")
-            data = _whole(fd)
+            data = _whole(fd, before.st_size)
             after = os.fstat(fd)
         finally:
             os.close(fd)

@@ -9,7 +9,7 @@ import hashlib
 import os
 import re
 import sys
-from typing import Any, Callable, Iterator, List, NamedTuple, Optional, Set, Tuple
+from typing import IO, Any, Callable, Iterator, List, NamedTuple, Optional, Set, Tuple
 
 from . import _library, filing, names, report, work
 from .answers import reason, untidy_reason
@@ -46,6 +46,16 @@ class Options(NamedTuple):
     json: bool = False
 
 
+class Done(NamedTuple):
+    """What became of a chunk of tasks: the report's lines, their totals, and what is to be told."""
+
+    text: str
+    totals: report.Totals
+    filed_now: int
+    told: List[str]
+    tasks: int
+
+
 class Outcome(NamedTuple):
     """What a run came to; `done` and `kept` count the files filed now and found filed already."""
 
@@ -79,6 +89,17 @@ def described(name: str, answer: str, filed: str, sent: bytes, short: bytes, sho
     )
 
 
+def line_of(row: Row) -> Optional[str]:
+    """What is printed of a file, if anything."""
+    spoiled = "; what is filed under this name is not as a run files it" if row.filed == "spoiled" else ""
+    if row.answer == "refused":
+        numbers = "" if row.number is None else f" {row.number} {row.record}"
+        return f"{row.name}: refused{numbers} ({row.reason}){spoiled}"
+    if row.answer == "unreadable":
+        return f"{row.name}: unreadable: {row.reason}{spoiled}"
+    return f"{row.name}: {row.answer}{spoiled}" if spoiled else None
+
+
 class Filer:
     """Files one task after the other, in one process."""
 
@@ -90,15 +111,26 @@ class Filer:
         self.touched: Set[bytes] = set()
         _library.functions()
 
-    def chunk(self, tasks: List[Task]) -> List[Tuple[Row, bool]]:
-        """The rows of some tasks, each with whether its file was filed now."""
-        rows = [self.row(task) for task in tasks]
+    def chunk(self, tasks: List[Task]) -> Done:
+        """Does some tasks."""
+        totals, rows, told, now = report.Totals(), [], [], 0
+        for task in tasks:
+            row, filed_now = self.row(task)
+            if row.answer == "not sent" and row.filed == "no":
+                continue
+            rows.append(row)
+            totals.add(row)
+            now += filed_now
+            line = line_of(row)
+            if line is not None:
+                told.append(line)
         for folder in self.touched:
             filing.flush_folder(folder)
         self.touched.clear()
-        return rows
+        return Done(report.csv_lines(rows), totals, now, told, len(tasks))
 
     def row(self, task: Task) -> Tuple[Row, bool]:
+        """The row of a task, and whether its file was filed now."""
         name = names.quote(task.name)
         if task.how == GONE:
             return self.unfiled(task.name, Row(name, "not sent")), False
@@ -115,7 +147,7 @@ class Filer:
         if shortening.number:
             number, record = shortening.number, shortening.record
             return self.unfiled(task.name, Row(name, "refused", number, record, reason(number, record))), False
-        tidiness = _library.tidy(sent)
+        tidiness = _library.tidied(sent)
         if self.strict and not tidiness.tidy:
             why = untidy_reason(tidiness.reg) + " (--strict)"
             return self.unfiled(task.name, Row(name, "refused", reason=why)), False
@@ -173,7 +205,7 @@ class Filer:
         if sent is not None:
             shortening, due = _library.shortened(sent)
             if shortening.number == 0 and due == short:
-                of_filed = described(row.name, row.answer, "earlier", sent, due, shortening, _library.tidy(sent))
+                of_filed = described(row.name, row.answer, "earlier", sent, due, shortening, _library.tidied(sent))
                 return of_filed._replace(number=row.number, record=row.record, reason=row.reason)
         return row._replace(filed="spoiled")
 
@@ -344,18 +376,7 @@ class Walk:
             yield Task(GONE, names.unquote(row.name))
 
 
-def line_of(row: Row) -> Optional[str]:
-    """What is printed of a file, if anything."""
-    spoiled = "; what is filed under this name is not as a run files it" if row.filed == "spoiled" else ""
-    if row.answer == "refused":
-        numbers = "" if row.number is None else f" {row.number} {row.record}"
-        return f"{row.name}: refused{numbers} ({row.reason}){spoiled}"
-    if row.answer == "unreadable":
-        return f"{row.name}: unreadable: {row.reason}{spoiled}"
-    return f"{row.name}: {row.answer}{spoiled}" if spoiled else None
-
-
-def _rows(options: Options, walk: Walk) -> Iterator[List[Tuple[Row, bool]]]:
+def _chunks(options: Options, walk: Walk) -> Iterator[Done]:
     def make(number: int) -> work.Worker:
         return Filer(options, number).chunk
 
@@ -368,26 +389,23 @@ def _count(options: Options) -> int:
     return sum(1 for _ in walk)
 
 
-def _take(options: Options, state: State, writer: report.Writer, say: Callable[[str], None]) -> Outcome:
+def _take(options: Options, state: State, out: IO[str], say: Callable[[str], None]) -> Outcome:
     """Does all the tasks, with a row of the report for each."""
-    walk = Walk(options, state.earlier())
-    done = kept = 0
+    walk, totals, now = Walk(options, state.earlier()), report.Totals(), 0
+    out.write(report.HEADER + "\n")
     with Progress(sys.stderr, lambda: _count(options)) as progress:
-        for chunk in _rows(options, walk):
-            for row, now in chunk:
-                if row.answer == "not sent" and row.filed == "no":
-                    continue
-                writer.add(row)
-                done += now
-                kept += row.answer == "accepted" and not now
-                line = line_of(row)
-                if line is not None:
-                    progress.clear()
-                    say(line)
-            writer.out.flush()
-            progress.add(len(chunk))
-    writer.finish()
-    return Outcome(writer.totals, done, kept, walk.passed_over)
+        for done in _chunks(options, walk):
+            out.write(done.text)
+            out.flush()
+            totals.join(done.totals)
+            now += done.filed_now
+            for line in done.told:
+                progress.clear()
+                say(line)
+            progress.add(done.tasks)
+    out.write(report.csv_line(totals.row()))
+    out.flush()
+    return Outcome(totals, now, totals.answers["accepted"] - now, walk.passed_over)
 
 
 def provision(options: Options, say: Callable[[str], None]) -> Outcome:
@@ -397,7 +415,7 @@ def provision(options: Options, say: Callable[[str], None]) -> Outcome:
     _library.functions()
     state = State(options.filed)
     if options.dry_run:
-        return _take(options, state, report.Writer(sys.stdout), say)
+        return _take(options, state, sys.stdout, say)
     try:
         os.makedirs(os.path.join(options.filed, names.OWN), exist_ok=True)
     except OSError as error:
@@ -406,7 +424,7 @@ def provision(options: Options, say: Callable[[str], None]) -> Outcome:
     try:
         state.take_up()
         with open(state.part, "w", encoding="utf-8", newline="\n") as out:
-            outcome = _take(options, state, report.Writer(out), say)
+            outcome = _take(options, state, out, say)
         state.end(options.flush, options.json)
         lock.release(empty=True)
         return outcome

@@ -7,7 +7,7 @@ import heapq
 import io
 import json
 from itertools import groupby
-from typing import IO, Any, Dict, Iterable, Iterator, List, NamedTuple, Optional, Tuple
+from typing import IO, Dict, Iterable, Iterator, List, NamedTuple, Optional, Tuple
 
 from . import names
 
@@ -55,15 +55,9 @@ class Damaged(ValueError):
     """A line that is no row of a report."""
 
 
-def _line(values: Iterable[Any]) -> str:
-    out = io.StringIO()
-    csv.writer(out, lineterminator="\n").writerow(values)
-    return out.getvalue()
-
-
 def csv_line(row: Row) -> str:
     """A row as a line of CSV; no field has a line end in it."""
-    return _line(row)
+    return csv_lines((row,))
 
 
 def json_line(row: Row) -> str:
@@ -90,23 +84,37 @@ def row_key(row: Row) -> bytes:
     return names.key(names.unquote(row.name))
 
 
+_SUMMED_AT = slice(COLUMNS.index(SUMMED[0]), COLUMNS.index(SUMMED[-1]) + 1)
+
+
 class Totals:
     """Sums over the rows of a report."""
 
     def __init__(self) -> None:
         self.answers: Dict[str, int] = {"accepted": 0, "refused": 0, "unreadable": 0, "not sent": 0}
-        self.sums: Dict[str, int] = dict.fromkeys(SUMMED, 0)
+        self._sums: List[int] = [0] * len(SUMMED)
         self.untidy = 0
         self.spoiled = 0
 
     def add(self, row: Row) -> None:
         self.answers[row.answer] = self.answers.get(row.answer, 0) + 1
-        self.spoiled += row.filed == "spoiled"
         if row.filed == "yes":
             self.untidy += row.tidy == "no"
-            sums = self.sums
-            for name, value in zip(SUMMED, row[8:16]):
-                sums[name] += value  # type: ignore[operator]
+            self._sums = [total + (value or 0) for total, value in zip(self._sums, row[_SUMMED_AT])]
+        elif row.filed == "spoiled":
+            self.spoiled += 1
+
+    def join(self, other: "Totals") -> None:
+        """Adds the sums over other rows."""
+        for answer, count in other.answers.items():
+            self.answers[answer] = self.answers.get(answer, 0) + count
+        self._sums = [total + value for total, value in zip(self._sums, other._sums)]
+        self.untidy += other.untidy
+        self.spoiled += other.spoiled
+
+    @property
+    def sums(self) -> Dict[str, int]:
+        return dict(zip(SUMMED, self._sums))
 
     @property
     def files(self) -> int:
@@ -191,22 +199,11 @@ def write_json(source: bytes, out: IO[str]) -> None:
             out.write(json_line(parse_line(line)))
 
 
-class Writer:
-    """Writes a report row by row."""
-
-    def __init__(self, out: IO[str]) -> None:
-        self.out = out
-        self.totals = Totals()
-        self._writer = csv.writer(out, lineterminator="\n")
-        out.write(HEADER + "\n")
-
-    def add(self, row: Row) -> None:
-        self.totals.add(row)
-        self._writer.writerow(row)
-
-    def finish(self) -> None:
-        self._writer.writerow(self.totals.row())
-        self.out.flush()
+def csv_lines(some: Iterable[Row]) -> str:
+    """Rows as lines of CSV."""
+    out = io.StringIO()
+    csv.writer(out, lineterminator="\n").writerows(some)
+    return out.getvalue()
 
 
 def checked(path: bytes) -> Tuple[Iterator[Row], List[str]]:

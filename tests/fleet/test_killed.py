@@ -28,9 +28,9 @@ class Killed(Case):
 
     def test_a_fault_would_be_noticed(self):
         """A run that writes files in place is seen half-written by the same trial."""
-        trial = self.make(5)
+        trial = self.make(3)
         seen = 0
-        for at in range(1, trial.calls(), 3):
+        for at in range(1, trial.calls()):
             filed = trial.fresh()
 
             def in_place(files, flush):

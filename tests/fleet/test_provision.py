@@ -87,7 +87,7 @@ class Samples(Case):
         def never(*_):
             raise AssertionError("the library was asked again")
 
-        with replaced(provision._library, "tidy", never):
+        with replaced(provision._library, "tidied", never):
             outcome, _ = provision_here(self.sent, self.filed)
         self.assertEqual((outcome.done, outcome.kept), (0, 3))
         self.assertEqual(tree(self.filed), first)
@@ -371,8 +371,8 @@ class Changing(Case):
             self.put("a.call", sample("forwarding"))
             os.utime(path, (1, 1))
 
-            def late(fd, change=change):
-                data = before(fd)
+            def late(fd, length, change=change):
+                data = before(fd, length)
                 change()
                 return data
 
