@@ -1,0 +1,157 @@
+"""The commands: provision, audit and page."""
+
+from __future__ import annotations
+
+import argparse
+import os
+import signal
+import sys
+from typing import List, Optional
+
+from . import __version__, audit, page, provision, work
+from ._library import LibraryError
+from .filing import Failed
+
+_PROVISION = """\
+Every procedure under SENT is filed under FILED, in the same tree: the sent bytes under the same name and
+the shortened form beside them, with .short after the name. FILED/report.csv has a line for each file and the
+totals. A file that is refused or unreadable is told and files nothing; the others go on. A run that was
+interrupted is taken up again by the same command: what is filed and unchanged isn't done again.
+
+examples:
+  python3 -m halivomue provision sent filed
+  python3 -m halivomue provision --strict --json --jobs 4 sent filed
+  python3 -m halivomue provision --dry-run sent filed >would-be.csv
+
+ends with 0; 1 where a file was refused or unreadable, or untidy with --strict; 2 where the run itself failed"""
+
+_AUDIT = """\
+Every sent form under FILED is shortened again and compared with what is filed beside it, and with its line in
+the report. What is altered, missing or foreign is named, a line each.
+
+example:
+  python3 -m halivomue audit filed
+
+ends with 0; 1 where something was named; 2 where the audit itself failed"""
+
+_PAGE = """\
+Writes a page to look at: the totals, a table of the files, and for a file its control flow as sent and as
+shortened, drawn by graphviz's dot. It is one file and opens without a network.
+
+examples:
+  python3 -m halivomue page filed --out page.html
+  python3 -m halivomue page filed --out page.html --draw 'north/*' --draw '*/lift-7.call'
+
+ends with 0, or 2 where the page could not be made"""
+
+
+def _jobs(text: str) -> int:
+    number = int(text)
+    if not 1 <= number <= 256:
+        raise argparse.ArgumentTypeError("from 1 to 256")
+    return number
+
+
+def parser() -> argparse.ArgumentParser:
+    raw = argparse.RawDescriptionHelpFormatter
+    top = argparse.ArgumentParser(prog="halivomue", description="Call procedures, filed with their shortened forms.")
+    top.add_argument("--version", action="version", version=f"halivomue {__version__}")
+    commands = top.add_subparsers(dest="command", metavar="COMMAND", required=True)
+    run = commands.add_parser("provision", help="file what is sent, with shortened forms", epilog=_PROVISION, formatter_class=raw)
+    run.add_argument("sent", metavar="SENT", help="the folder of the files as sent")
+    run.add_argument("filed", metavar="FILED", help="the folder to file them in; it is made where it isn't there")
+    run.add_argument("--pattern", default="*.call", metavar="P", help="names that are procedures (default: %(default)s)")
+    run.add_argument("--strict", action="store_true", help="refuse untidy files")
+    run.add_argument("--dry-run", action="store_true", help="file nothing; the report goes to standard output")
+    run.add_argument("--json", action="store_true", help="write FILED/report.jsonl too, a line of JSON for each file")
+    run.add_argument("--no-flush", action="store_true", help="don't wait for the disk: faster, but not safe from a power cut")
+    check = commands.add_parser("audit", help="hold what is filed to the sent forms", epilog=_AUDIT, formatter_class=raw)
+    check.add_argument("filed", metavar="FILED")
+    for command in (run, check):
+        command.add_argument(
+            "--jobs", type=_jobs, default=work.default_jobs(), metavar="N", help="processes (default: %(default)s, the processors)"
+        )
+    show = commands.add_parser("page", help="make a page of what is filed", epilog=_PAGE, formatter_class=raw)
+    show.add_argument("filed", metavar="FILED")
+    show.add_argument("--out", required=True, metavar="FILE", help="the page")
+    show.add_argument("--draw", action="append", metavar="P", help="names to be drawn (default: all)")
+    show.add_argument("--most", type=int, default=300, metavar="N", help="files to be drawn at most (default: %(default)s)")
+    return top
+
+
+class _Lines:
+    """Lines on standard output, as long as somebody reads them."""
+
+    def __init__(self, out: object) -> None:
+        self.out = out
+
+    def __call__(self, line: str) -> None:
+        try:
+            print(line.encode("utf-8", "replace").decode("utf-8"), file=self.out, flush=True)
+        except BrokenPipeError:
+            self.out = open(os.devnull, "w")
+
+
+def _provision(arguments: argparse.Namespace) -> int:
+    options = provision.Options(
+        os.fsencode(arguments.sent).rstrip(b"/") or b"/",
+        os.fsencode(arguments.filed).rstrip(b"/") or b"/",
+        arguments.pattern,
+        arguments.jobs,
+        arguments.strict,
+        arguments.dry_run,
+        not arguments.no_flush,
+        arguments.json,
+    )
+    say = _Lines(sys.stderr if options.dry_run else sys.stdout)
+    outcome = provision.provision(options, say)
+    say(outcome.totals.answers_text())
+    say(outcome.totals.sums_text())
+    if outcome.passed_over:
+        say(f"{outcome.passed_over} other files under SENT don't match {options.pattern}")
+    if options.dry_run:
+        say("nothing was filed (--dry-run)")
+    else:
+        kept = f", {outcome.kept} were filed already" if outcome.kept else ""
+        say(f"{outcome.done} filed{kept}; report: {arguments.filed.rstrip('/')}/report.csv")
+    return 1 if outcome.totals.failed else 0
+
+
+def _audit(arguments: argparse.Namespace) -> int:
+    say = _Lines(sys.stdout)
+    outcome = audit.audit(os.fsencode(arguments.filed).rstrip(b"/") or b"/", arguments.jobs, say)
+    say(outcome.text())
+    return 1 if outcome.findings else 0
+
+
+def _page(arguments: argparse.Namespace) -> int:
+    told = page.write(os.fsencode(arguments.filed).rstrip(b"/") or b"/", arguments.out, arguments.draw or ["*"], arguments.most)
+    print(told)
+    return 0
+
+
+class _Stopped(Exception):
+    pass
+
+
+def _stop(*_: object) -> None:
+    raise _Stopped
+
+
+def main(words: Optional[List[str]] = None) -> int:
+    arguments = parser().parse_args(words)
+    signal.signal(signal.SIGTERM, _stop)
+    try:
+        return {"provision": _provision, "audit": _audit, "page": _page}[arguments.command](arguments)
+    except (Failed, LibraryError) as error:
+        why = str(error)
+    except (KeyboardInterrupt, _Stopped):
+        why = "interrupted; the same command goes on where it stopped"
+    except OSError as error:
+        why = str(error)
+    print(f"halivomue {arguments.command}: {why.encode('utf-8', 'backslashreplace').decode()}", file=sys.stderr)
+    return 2
+
+
+if __name__ == "__main__":
+    sys.exit(main())

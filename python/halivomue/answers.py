@@ -1,0 +1,124 @@
+"""The library's answers as small frozen classes, and its refusals in words."""
+
+from __future__ import annotations
+
+from dataclasses import dataclass
+
+#: Bytes of room in which every shortened form fits.
+ROOM = 61_728
+
+#: Bytes of a record, and of the longest file that is read.
+RECORD = 32
+LONGEST = 65_536
+
+_REASONS = {
+    1: "the file is not a multiple of 32 bytes long, or is longer than 65536",
+    2: "record {} is wrong in itself, or its class is below that of the record before",
+    3: "the file has more records of a class than its limit, or no block",
+    4: "record {}: the block is empty, starts elsewhere than the one before ends, ends past the code, "
+    "or is the last and leaves code over",
+    5: "record {}: the block ends without a terminator, or has one before its end",
+    6: "record {}: the arm's table is not the one due, or the last default is missing",
+    7: "record {} names a register, block, table or list that does not exist",
+    8: "the file has more than 480 registers or more than 480 instructions",
+    9: "the buffer is too short for the shortened form",
+}
+
+
+def reason(number: int, record: int = 0) -> str:
+    """What a refusal means, in the words of `halivomue --words`; nothing for 0."""
+    return _REASONS[number].format(record) if number else ""
+
+
+def untidy_reason(reg: int) -> str:
+    """What an untidy register means, in words."""
+    return f"register {reg} is written once, and read elsewhere than later in the same block"
+
+
+class Refused(ValueError):
+    """A file that the library refuses, with `number`, `record` and `reason`."""
+
+    def __init__(self, number: int, record: int = 0) -> None:
+        super().__init__(number, record)
+        self.number = number
+        self.record = record
+        self.reason = reason(number, record)
+
+    def __str__(self) -> str:
+        return f"refused {self.number} {self.record} ({self.reason})"
+
+
+class _Frozen:
+    """Lets a frozen class with slots be pickled and copied."""
+
+    __slots__ = ()
+
+    def __reduce__(self):
+        return type(self), tuple(getattr(self, name) for name in self.__slots__)
+
+
+@dataclass(frozen=True)
+class Reading(_Frozen):
+    """The answer of `read`: 0 and 0 where the file is accepted, else the refusal and its record."""
+
+    __slots__ = ("number", "record")
+    number: int
+    record: int
+
+    @property
+    def accepted(self) -> bool:
+        return self.number == 0
+
+    @property
+    def reason(self) -> str:
+        """The refusal in words; empty where the file is accepted."""
+        return reason(self.number, self.record)
+
+
+@dataclass(frozen=True)
+class Tidiness(_Frozen):
+    """The answer of `tidy`: number and record as `read` gives them, and of an accepted file
+    whether it is tidy; `reg` is the lowest register that offends where it isn't, else 0."""
+
+    __slots__ = ("number", "record", "tidy", "reg")
+    number: int
+    record: int
+    tidy: bool
+    reg: int
+
+    @property
+    def accepted(self) -> bool:
+        return self.number == 0
+
+    @property
+    def reason(self) -> str:
+        """The refusal, or what offends, in words; empty where the file is tidy."""
+        if self.number or self.tidy:
+            return reason(self.number, self.record)
+        return untidy_reason(self.reg)
+
+
+@dataclass(frozen=True)
+class Shortening(_Frozen):
+    """The answer of `shorten`: the shortened form's bytes and the counts."""
+
+    __slots__ = ("data", "moved", "grown", "fresh", "rescued")
+    data: bytes
+    moved: int
+    grown: int
+    fresh: int
+    rescued: int
+
+    @property
+    def length(self) -> int:
+        return len(self.data)
+
+    @property
+    def counts(self) -> str:
+        return f"moved {self.moved} grown {self.grown} fresh {self.fresh} rescued {self.rescued}"
+
+    def listing(self) -> str:
+        """Document 01's listing: the counts, then registers, blocks and code in decimal."""
+        from .procedure import Procedure
+
+        return f"{self.counts}\n{Procedure.parse(self.data).numeric()}"

@@ -1,0 +1,217 @@
+"""The audit: every sent form shortened again, and compared with what is filed."""
+
+from __future__ import annotations
+
+import os
+import sys
+from typing import Callable, Iterator, List, NamedTuple, Optional
+
+from . import _library, filing, names, report, work
+from .answers import reason
+from .filing import Failed, Unreadable
+from .progress import Progress
+from .provision import Lock, State, described
+from .report import Row
+
+_COMPARED = report.COLUMNS[report.COLUMNS.index("tidy") :]
+_FORMS = {"sha256_sent": "the sent form is not the one that was filed", "sha256_short": "the shortened form is not the one that was filed"}
+
+
+class Task(NamedTuple):
+    """A row to be held to its files, or a finding that is known already."""
+
+    name: bytes
+    row: Optional[Row]
+    finding: str = ""
+
+
+class Outcome:
+    """What the audit found: files compared, and findings by kind."""
+
+    def __init__(self) -> None:
+        self.compared = 0
+        self.kinds = {"altered": 0, "missing": 0, "foreign": 0, "report": 0}
+
+    @property
+    def findings(self) -> int:
+        return sum(self.kinds.values())
+
+    def text(self) -> str:
+        told = ", ".join(f"{count} {kind}" for kind, count in self.kinds.items() if count)
+        return f"{self.compared} files compared: {told or 'all as filed'}"
+
+
+def _form(path: bytes, what: str, found: List[str]) -> Optional[bytes]:
+    """A filed form's bytes; what is wrong with it is added to `found`."""
+    try:
+        data = filing.read_if_there(path)
+    except Unreadable as error:
+        found.append(f"altered: the {what} form: {error}")
+        return None
+    if data is None:
+        found.append(f"missing: the {what} form")
+    return data
+
+
+def findings(filed: bytes, row: Row) -> List[str]:
+    """What is wrong with the files of a row, or with the row."""
+    if row.filed == "spoiled":
+        return ["altered: the run found there what no run had filed"]
+    found: List[str] = []
+    path = os.path.join(filed, names.unquote(row.name))
+    sent = _form(path, "sent", found)
+    short = _form(path + names.SHORT, "shortened", found)
+    if sent is None:
+        return found
+    shortening, due = _library.shortened(sent)
+    if shortening.number:
+        why = reason(shortening.number, shortening.record)
+        return [*found, f"altered: the sent form is refused {shortening.number} {shortening.record} ({why})"]
+    if short is None:
+        return found
+    now = described(row.name, row.answer, row.filed, sent, short, shortening, _library.tidied(sent))
+    if short != due:
+        found.append("altered: the shortened form is not what the sent form is shortened to")
+    for column in _COMPARED:
+        told, is_now = getattr(row, column), getattr(now, column)
+        if told == is_now:
+            continue
+        if column in _FORMS:
+            found.append(f"altered: {_FORMS[column]} (its digest is not the report's)")
+        elif not found:
+            found.append(f"report: {column} is {_shown(told)} in the report and {_shown(is_now)} by the library")
+    return found
+
+
+def _shown(value: object) -> str:
+    return "nothing" if value is None or value == "" else str(value)
+
+
+def _wrong_row(row: Row) -> Optional[str]:
+    """Why no run writes such a row, if so."""
+    if row.answer not in ("accepted", "refused", "unreadable", "not sent"):
+        return f"there is no answer {row.answer!r}"
+    if row.filed not in ("yes", "no", "earlier", "spoiled") or (row.answer == "accepted") != (row.filed == "yes"):
+        return f"{row.answer} and filed {row.filed!r} don't go together"
+    if row.answer == "refused" and row.number is not None and row.reason != _reason(row):
+        return "number, record and reason of the refusal don't go together"
+    return None
+
+
+def _reason(row: Row) -> str:
+    try:
+        return reason(row.number or 0, row.record or 0)
+    except KeyError:
+        return ""
+
+
+def _own(name: bytes) -> bool:
+    """Is this one of the run's own files that stay?"""
+    return name in (names.REPORT, names.REPORT_JSON, names.OWN + b"/lock")
+
+
+def _base(name: bytes) -> bytes:
+    return name[: -len(names.SHORT)] if name.endswith(names.SHORT) else name
+
+
+def tasks(filed: bytes, rows: Iterator[Row]) -> Iterator[Task]:
+    """The rows and what else is found under FILED, in name order."""
+    keyed = ((names.unquote(row.name), row) for row in rows)
+    due = next(keyed, None)
+    for name, kind in names.walk(filed, names.by_pair):
+        if _own(name) or not name:
+            continue
+        base = _base(name)
+        while due is not None and names.key(due[0]) < names.key(base):
+            yield Task(*due)
+            due = next(keyed, None)
+        if due is not None and due[0] == base and due[1].filed != "no" and kind != "empty":
+            continue
+        yield Task(name, None, _foreign(name, kind))
+    while due is not None:
+        yield Task(*due)
+        due = next(keyed, None)
+
+
+def _foreign(name: bytes, kind: str) -> str:
+    if os.path.basename(name).startswith(names.OWN) or name.startswith(names.OWN + b"/"):
+        return "foreign: left over by a run that was interrupted; start it again"
+    kinds = {"file": "no report has it", "link": "a symbolic link", "other": "no regular file", "empty": "an empty folder"}
+    return f"foreign: {kinds.get(kind, 'a folder that cannot be read: ' + kind)}"
+
+
+def _json_differs(state: State, rows: Iterator[Row], wrong: List[str]) -> Iterator[Row]:
+    """Hands the rows on, and holds the report in JSON to them where there is one."""
+    try:
+        file = open(state.report_json, encoding="utf-8", errors="surrogateescape", newline="\n")
+    except FileNotFoundError:
+        yield from rows
+        return
+    totals = report.Totals()
+    with file:
+        differs = False
+        for row in rows:
+            totals.add(row)
+            differs = differs or file.readline() != report.json_line(row)
+            yield row
+        differs = differs or file.readline() != report.json_line(totals.row()) or file.read(1) != ""
+    if differs:
+        wrong.append("report.jsonl: report: it differs from report.csv")
+
+
+def audit(filed: bytes, jobs: int, say: Callable[[str], None]) -> Outcome:
+    """Compares everything under FILED; each finding is told by `say`. Raises `Failed`."""
+    try:
+        os.scandir(filed).close()
+    except OSError as error:
+        raise Failed(f"{os.fsdecode(filed)}: {filing.why(error)}") from error
+    _library.functions()
+    outcome = Outcome()
+    lock = Lock(filed, shared=True)
+    try:
+        _compare(filed, jobs, outcome, say)
+    except OSError as error:
+        raise Failed(str(error)) from error
+    finally:
+        lock.release()
+    return outcome
+
+
+def _compare(filed: bytes, jobs: int, outcome: Outcome, say: Callable[[str], None]) -> None:
+    def tell(name: str, finding: str) -> None:
+        outcome.kinds[finding.partition(":")[0]] += 1
+        progress.clear()
+        say(f"{name}: {finding}")
+
+    def make(number: int) -> work.Worker:
+        return lambda chunk: [_checked(filed, task) for task in chunk]
+
+    state = State(filed)
+    with Progress(sys.stderr, lambda: sum(1 for _ in report.rows(state.report))) as progress:
+        if not os.path.isfile(state.report):
+            tell("report.csv", "missing: the report; start the run again")
+            return
+        rows, wrong = report.checked(state.report)
+        wrong_json: List[str] = []
+        all_tasks = tasks(filed, _json_differs(state, rows, wrong_json))
+        for chunk in work.ordered(all_tasks, make, jobs, lambda task: len(task.name)):
+            for name, compared, found in chunk:
+                outcome.compared += compared
+                for finding in found:
+                    tell(name, finding)
+            progress.add(len(chunk))
+        for text in wrong:
+            tell("report.csv", "report: " + text)
+        for text in wrong_json:
+            tell(*text.split(": ", 1))
+
+
+def _checked(filed: bytes, task: Task) -> "tuple[str, int, List[str]]":
+    if task.row is None:
+        return names.quote(task.name), 0, [task.finding]
+    wrong = _wrong_row(task.row)
+    if wrong is not None:
+        return task.row.name, 0, ["report: " + wrong]
+    if task.row.filed == "no":
+        return task.row.name, 0, []
+    return task.row.name, 1, findings(filed, task.row)

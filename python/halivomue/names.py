@@ -1,0 +1,148 @@
+"""Names of files: how they are quoted, in which order they come, and how a tree is walked in it.
+
+A name is the path below the tree's top, in bytes. Names are in the order of their parts: the order
+in which a tree is walked with each folder's entries sorted by their bytes.
+"""
+
+from __future__ import annotations
+
+import heapq
+import os
+import re
+from typing import Callable, Iterator, List, NamedTuple, Optional, Tuple
+
+#: What a shortened form's name has after the sent form's.
+SHORT = b".short"
+#: The run's own folder at the top of FILED, and the start of its temporary files' names.
+OWN = b".halivomue"
+#: The reports at the top of FILED.
+REPORT, REPORT_JSON = b"report.csv", b"report.jsonl"
+
+#: Names of a folder that are held at once.
+_BATCH = 20_000
+# Control characters (C0, DEL and C1), backslashes, and bytes that are no UTF-8 (as surrogates).
+_TO_QUOTE = re.compile("[\x00-\x1f\\\\\x7f-\x9f\ud800-\udfff]")
+_QUOTED = re.compile(r"\\(\\|x[0-9a-f]{2})")
+
+
+def _quoted(found: "re.Match[str]") -> str:
+    if found[0] == "\\":
+        return "\\\\"
+    return "".join(f"\\x{byte:02x}" for byte in found[0].encode("utf-8", "surrogateescape"))
+
+
+def quote(name: bytes) -> str:
+    """A name in one line of text: a backslash as two, and bytes that a terminal would obey or that
+    are no UTF-8 as backslash, x and two digits."""
+    return _TO_QUOTE.sub(_quoted, name.decode("utf-8", "surrogateescape"))
+
+
+def unquote(text: str) -> bytes:
+    """The name that was quoted."""
+
+    def plain(found: "re.Match[str]") -> str:
+        if found[1] == "\\":
+            return "\\"
+        return bytes([int(found[1][1:], 16)]).decode("latin-1")
+
+    parts = []
+    end = 0
+    for found in _QUOTED.finditer(text):
+        parts += [text[end : found.start()].encode("utf-8"), plain(found).encode("latin-1")]
+        end = found.end()
+    return b"".join([*parts, text[end:].encode("utf-8")])
+
+
+def key(name: bytes) -> bytes:
+    """Names are in the order of their keys."""
+    return name.replace(b"/", b"\0")
+
+
+def reserved(name: bytes) -> Optional[str]:
+    """Why nothing can be filed under this name, if so."""
+    if name.endswith(SHORT):
+        return "a name that ends in .short is kept for shortened forms"
+    if name in (REPORT, REPORT_JSON):
+        return "this name is kept for the report"
+    if any(part.startswith(OWN) for part in name.split(b"/")):
+        return "a name that starts with .halivomue is kept for the run's own files"
+    return None
+
+
+class Entry(NamedTuple):
+    """What a walk finds: `kind` is file, link, other, empty (a folder without entries) or the
+    system's reason why a folder can't be read."""
+
+    name: bytes
+    kind: str
+
+
+def _kind(entry: "os.DirEntry[bytes]") -> str:
+    if entry.is_symlink():
+        return "link"
+    if entry.is_dir(follow_symlinks=False):
+        return "folder"
+    return "file" if entry.is_file(follow_symlinks=False) else "other"
+
+
+Sorting = Callable[[bytes, str], bytes]
+
+
+def by_name(name: bytes, kind: str) -> bytes:
+    return name
+
+
+def by_pair(name: bytes, kind: str) -> bytes:
+    """Puts a shortened form right after its sent form."""
+    if kind != "folder" and name.endswith(SHORT):
+        return name[: -len(SHORT)] + b"\0"
+    return name
+
+
+def _entries(folder: bytes, sorting: Sorting) -> Iterator[Tuple[bytes, bytes, str]]:
+    """A folder's entries in order; of a large one it is read again for each batch."""
+    last: Optional[bytes] = None
+    while True:
+        batch: List[Tuple[bytes, bytes, str]] = []
+        with os.scandir(folder) as entries:
+            for entry in entries:
+                kind = _kind(entry)
+                order = sorting(entry.name, kind)
+                if last is None or order > last:
+                    batch.append((order, entry.name, kind))
+                if len(batch) == 2 * _BATCH:
+                    batch = heapq.nsmallest(_BATCH, batch)
+        batch.sort()
+        yield from batch[:_BATCH]
+        if len(batch) < _BATCH:
+            return
+        last = batch[_BATCH - 1][0]
+
+
+def walk(top: bytes, sorting: Sorting = by_name) -> Iterator[Entry]:
+    """Everything under a folder but folders, in name order. No symbolic link is followed."""
+    with os.scandir(top):
+        pass
+    open_folders = [(b"", _entries(top, sorting))]
+    entered = True
+    while open_folders:
+        below, entries = open_folders[-1]
+        try:
+            _, name, kind = next(entries)
+        except StopIteration:
+            open_folders.pop()
+            if entered:
+                yield Entry(below, "empty")
+            entered = False
+            continue
+        except OSError as error:
+            open_folders.pop()
+            entered = False
+            yield Entry(below, error.strerror or str(error))
+            continue
+        path = below + b"/" + name if below else name
+        entered = kind == "folder"
+        if entered:
+            open_folders.append((path, _entries(os.path.join(top, path), sorting)))
+        else:
+            yield Entry(path, kind)

@@ -1,0 +1,435 @@
+"""The provisioning run: every procedure under SENT is filed under FILED, as sent and shortened."""
+
+from __future__ import annotations
+
+import errno
+import fcntl
+import fnmatch
+import hashlib
+import os
+import re
+import sys
+from typing import IO, Any, Callable, Iterator, List, NamedTuple, Optional, Set, Tuple
+
+from . import _library, filing, names, report, work
+from .answers import reason, untidy_reason
+from .filing import Failed, Unreadable
+from .progress import Progress
+from .report import Row
+
+_sha256 = hashlib.sha256
+
+#: How a task is to be done: a file to be filed, a row whose reason is known, a row of an earlier
+#: report whose file isn't sent any more.
+FILE, TOLD, GONE = range(3)
+
+
+class Task(NamedTuple):
+    how: int
+    name: bytes
+    earlier: Optional[Row] = None
+    reason: str = ""
+
+
+def task_size(task: Task) -> int:
+    return len(task.name)
+
+
+class Options(NamedTuple):
+    sent: bytes
+    filed: bytes
+    pattern: str = "*.call"
+    jobs: int = 1
+    strict: bool = False
+    dry_run: bool = False
+    flush: bool = True
+    json: bool = False
+
+
+class Done(NamedTuple):
+    """What became of a chunk of tasks: the report's lines, their totals, and what is to be told."""
+
+    text: str
+    totals: report.Totals
+    filed_now: int
+    told: List[str]
+    tasks: int
+
+
+class Outcome(NamedTuple):
+    """What a run came to; `done` and `kept` count the files filed now and found filed already."""
+
+    totals: report.Totals
+    done: int
+    kept: int
+    passed_over: int
+
+
+def described(name: str, answer: str, filed: str, sent: bytes, short: bytes, shortening: Any, tidiness: Any) -> Row:
+    """The row of a filed file, from its two forms and the library's answers."""
+    return Row(
+        name,
+        answer,
+        None,
+        None,
+        "",
+        filed,
+        "yes" if tidiness.tidy else "no",
+        None if tidiness.tidy else tidiness.reg,
+        sent[::32].count(4),
+        short[::32].count(4),
+        len(sent),
+        len(short),
+        shortening.moved,
+        shortening.grown,
+        shortening.fresh,
+        shortening.rescued,
+        _sha256(sent).hexdigest(),
+        _sha256(short).hexdigest(),
+    )
+
+
+def line_of(row: Row) -> Optional[str]:
+    """What is printed of a file, if anything."""
+    spoiled = "; what is filed under this name is not as a run files it" if row.filed == "spoiled" else ""
+    if row.answer == "refused":
+        numbers = "" if row.number is None else f" {row.number} {row.record}"
+        return f"{row.name}: refused{numbers} ({row.reason}){spoiled}"
+    if row.answer == "unreadable":
+        return f"{row.name}: unreadable: {row.reason}{spoiled}"
+    return f"{row.name}: {row.answer}{spoiled}" if spoiled else None
+
+
+class Filer:
+    """Files one task after the other, in one process."""
+
+    def __init__(self, options: Options, number: int) -> None:
+        self.sent, self.filed = options.sent + b"/", options.filed + b"/"
+        self.strict, self.dry_run, self.flush = options.strict, options.dry_run, options.flush
+        self.temporary = b"/%s.%d.sent.tmp" % (names.OWN, number), b"/%s.%d.short.tmp" % (names.OWN, number)
+        self.folder: Optional[bytes] = None
+        self.touched: Set[bytes] = set()
+        _library.functions()
+
+    def chunk(self, tasks: List[Task]) -> Done:
+        """Does some tasks."""
+        totals, rows, told, now = report.Totals(), [], [], 0
+        for task in tasks:
+            row, filed_now = self.row(task)
+            if row.answer == "not sent" and row.filed == "no":
+                continue
+            rows.append(row)
+            totals.add(row)
+            now += filed_now
+            line = line_of(row)
+            if line is not None:
+                told.append(line)
+        for folder in self.touched:
+            filing.flush_folder(folder)
+        self.touched.clear()
+        return Done(report.csv_lines(rows), totals, now, told, len(tasks))
+
+    def row(self, task: Task) -> Tuple[Row, bool]:
+        """The row of a task, and whether its file was filed now."""
+        name = names.quote(task.name)
+        if task.how == GONE:
+            return self.unfiled(task.name, Row(name, "not sent")), False
+        if task.how == TOLD:
+            return self.unfiled(task.name, Row(name, "unreadable", reason=task.reason)), False
+        try:
+            content = filing.read(self.sent + task.name)
+        except Unreadable as error:
+            return self.unfiled(task.name, Row(name, "unreadable", reason=str(error))), False
+        sent = content.data
+        if task.earlier is not None and self.stands(task.name, sent, task.earlier):
+            return task.earlier, False
+        shortening, short = _library.shortened(sent)
+        if shortening.number:
+            number, record = shortening.number, shortening.record
+            return self.unfiled(task.name, Row(name, "refused", number, record, reason(number, record))), False
+        tidiness = _library.tidied(sent)
+        if self.strict and not tidiness.tidy:
+            why = untidy_reason(tidiness.reg) + " (--strict)"
+            return self.unfiled(task.name, Row(name, "refused", reason=why)), False
+        if not self.dry_run:
+            try:
+                self.put(task.name, sent, short)
+            except Unreadable as error:
+                return self.unfiled(task.name, Row(name, "unreadable", reason=str(error))), False
+        return described(name, "accepted", "yes", sent, short, shortening, tidiness), True
+
+    def stands(self, name: bytes, sent: bytes, earlier: Row) -> bool:
+        """Was this file filed before, and are both forms still there as they were filed?"""
+        if earlier.answer != "accepted" or self.strict and earlier.tidy != "yes":
+            return False
+        if _sha256(sent).hexdigest() != earlier.sha256_sent:
+            return False
+        try:
+            short = filing.read_if_there(self.filed + name + names.SHORT)
+            return (
+                short is not None
+                and filing.read_if_there(self.filed + name) == sent
+                and _sha256(short).hexdigest() == earlier.sha256_short
+            )
+        except Unreadable:
+            return False
+
+    def put(self, name: bytes, sent: bytes, short: bytes) -> None:
+        """Files both forms, each at once; the shortened one first, since its name is the longer."""
+        path = self.filed + name
+        folder = os.path.dirname(path)
+        if folder != self.folder:
+            filing.make_folder(folder)
+            self.folder = folder
+        if self.flush and folder not in self.touched:
+            above = folder
+            while len(above) >= len(self.filed) - 1:
+                self.touched.add(above)
+                above = os.path.dirname(above)
+        of_sent, of_short = self.temporary
+        if os.path.isdir(path):
+            raise Unreadable("cannot be filed: " + os.strerror(errno.EISDIR))
+        filing.write(((path + names.SHORT, folder + of_short, short), (path, folder + of_sent, sent)), self.flush)
+
+    def unfiled(self, name: bytes, row: Row) -> Row:
+        """The row of a file that isn't filed now, with what an earlier run filed under its name."""
+        if names.reserved(name):
+            return row
+        path = self.filed + name
+        try:
+            sent, short = filing.read_if_there(path), filing.read_if_there(path + names.SHORT)
+            if sent is None and short is None:
+                return row
+        except Unreadable:
+            return row if os.path.isdir(path) else row._replace(filed="spoiled")
+        if sent is not None:
+            shortening, due = _library.shortened(sent)
+            if shortening.number == 0 and due == short:
+                of_filed = described(row.name, row.answer, "earlier", sent, due, shortening, _library.tidied(sent))
+                return of_filed._replace(number=row.number, record=row.record, reason=row.reason)
+        return row._replace(filed="spoiled")
+
+
+class Lock:
+    """FILED's lock: one run at a time, or any number that only read."""
+
+    def __init__(self, filed: bytes, shared: bool) -> None:
+        self.fd = -1
+        path = os.path.join(filed, names.OWN, b"lock")
+        try:
+            self.fd = os.open(path, os.O_RDONLY if shared else os.O_RDWR | os.O_CREAT, 0o666)
+            fcntl.flock(self.fd, (fcntl.LOCK_SH if shared else fcntl.LOCK_EX) | fcntl.LOCK_NB)
+        except FileNotFoundError:
+            return
+        except BlockingIOError:
+            holder = os.read(self.fd, 64).decode("ascii", "replace")
+            self.release()
+            raise Failed(f"another run{holder and f', process {holder},'} works on {os.fsdecode(filed)}") from None
+        except OSError as error:
+            raise Failed(f"{os.fsdecode(path)}: {filing.why(error)}") from error
+        if not shared:
+            os.ftruncate(self.fd, 0)
+            os.write(self.fd, b"%d" % os.getpid())
+
+    def release(self, empty: bool = False) -> None:
+        if self.fd >= 0:
+            if empty:
+                os.ftruncate(self.fd, 0)
+            os.close(self.fd)
+            self.fd = -1
+
+
+def _within(inner: bytes, outer: bytes) -> bool:
+    """Is a folder, which need not be there yet, another or below it?"""
+    at = os.path.realpath(inner)
+    while True:
+        try:
+            if os.path.samefile(at, outer):
+                return True
+        except OSError:
+            pass
+        above = os.path.dirname(at)
+        if above == at:
+            return False
+        at = above
+
+
+def check_folders(sent: bytes, filed: bytes) -> None:
+    """Raises `Failed` where the run can't be made between these two."""
+    try:
+        os.scandir(sent).close()
+    except OSError as error:
+        raise Failed(f"{os.fsdecode(sent)}: {filing.why(error)}") from error
+    if _within(filed, sent):
+        raise Failed("FILED stands inside SENT: what is filed would be taken for sent files by the next run")
+    if _within(sent, filed):
+        raise Failed("SENT stands inside FILED: the sent files would be taken for filed ones by the audit")
+
+
+class State:
+    """The files by which an interrupted run is taken up again, in FILED's own folder.
+
+    `part` is the report in the making, in name order. When a run starts, the rows of a part that is
+    there are merged into `before`, whose rows, and then those of the last whole report, tell what
+    is filed already. Of a report whose totals aren't those of its rows only the names are believed.
+    """
+
+    def __init__(self, filed: bytes) -> None:
+        own = os.path.join(filed, names.OWN)
+        self.filed = filed
+        self.part = os.path.join(own, b"part.csv")
+        self.before = os.path.join(own, b"before.csv")
+        self.report = os.path.join(filed, names.REPORT)
+        self.report_json = os.path.join(filed, names.REPORT_JSON)
+
+    def earlier(self) -> Iterator[Tuple[bytes, Row, bool]]:
+        """What is known from earlier: a name's key, its row, and whether the row is believed."""
+        sound = report.sound(self.report)
+        for at, source, row in report.merged(self.part, self.before, self.report):
+            yield at, row, sound or source < 2
+
+    def take_up(self) -> None:
+        """Cleans up after a run that was interrupted."""
+        if not os.path.exists(self.part) and not os.path.exists(self.before):
+            return
+        temporary = self.before + b".tmp"
+        with open(temporary, "w", encoding="utf-8", newline="\n") as out:
+            out.write(report.HEADER + "\n")
+            for _, _, row in report.merged(self.part, self.before):
+                out.write(report.csv_line(row))
+        os.replace(temporary, self.before)
+        filing.remove(self.part)
+        pattern = re.compile(re.escape(names.OWN) + rb"\.\d+\.(sent|short)\.tmp")
+        for entry in names.walk(self.filed):
+            if pattern.fullmatch(os.path.basename(entry.name)):
+                filing.remove(os.path.join(self.filed, entry.name))
+
+    def end(self, flush: bool, json: bool) -> None:
+        """Puts the finished report in its place."""
+        if json or os.path.exists(self.report_json):
+            temporary = self.part + b".json"
+            with open(temporary, "w", encoding="utf-8", newline="\n") as out:
+                report.write_json(self.part, out)
+                out.flush()
+                if flush:
+                    os.fsync(out.fileno())
+            os.replace(temporary, self.report_json)
+        if flush:
+            with open(self.part, "rb") as file:
+                os.fsync(file.fileno())
+        os.replace(self.part, self.report)
+        filing.remove(self.before)
+        if flush:
+            filing.flush_folder(self.filed)
+
+
+class Walk:
+    """The tasks of a run: SENT in name order, with what is known of each name from earlier."""
+
+    def __init__(self, options: Options, earlier: Iterator[Tuple[bytes, Row, bool]]) -> None:
+        self.options = options
+        self.earlier = earlier
+        self.matches = re.compile(fnmatch.translate(options.pattern)).match
+        self.passed_over = 0
+
+    def wanted(self, name: bytes) -> bool:
+        return self.matches(os.fsdecode(os.path.basename(name))) is not None
+
+    def told(self, entry: names.Entry) -> Optional[Task]:
+        """The task of what is found under SENT; none where it is no procedure by its name."""
+        name, kind = entry
+        if kind == "empty":
+            return None
+        if kind in ("file", "link", "other") and not self.wanted(name):
+            if kind == "link" and os.path.isdir(os.path.join(self.options.sent, name)):
+                return Task(TOLD, name, None, "a symbolic link to a folder, not followed")
+            self.passed_over += 1
+            return None
+        why = names.reserved(name)
+        if why is None and kind == "file":
+            return Task(FILE, name)
+        kinds = {"link": "a symbolic link, not followed", "other": "not a regular file"}
+        return Task(TOLD, name, None, why or kinds.get(kind, kind))
+
+    def __iter__(self) -> Iterator[Task]:
+        due = next(self.earlier, None)
+        for entry in names.walk(self.options.sent):
+            task = self.told(entry)
+            if task is None:
+                continue
+            at = names.key(task.name)
+            while due is not None and due[0] < at:
+                yield from self.gone(due[1])
+                due = next(self.earlier, None)
+            if due is not None and due[0] == at:
+                if task.how == FILE and due[2]:
+                    task = task._replace(earlier=due[1])
+                due = next(self.earlier, None)
+            yield task
+        while due is not None:
+            yield from self.gone(due[1])
+            due = next(self.earlier, None)
+
+    @staticmethod
+    def gone(row: Row) -> Iterator[Task]:
+        if row.filed != "no":
+            yield Task(GONE, names.unquote(row.name))
+
+
+def _chunks(options: Options, walk: Walk) -> Iterator[Done]:
+    def make(number: int) -> work.Worker:
+        return Filer(options, number).chunk
+
+    return work.ordered(walk, make, options.jobs, task_size)
+
+
+def _count(options: Options) -> int:
+    """How many files there are under SENT, for the time left."""
+    walk = Walk(options, iter(()))
+    return sum(1 for _ in walk)
+
+
+def _take(options: Options, state: State, out: IO[str], say: Callable[[str], None]) -> Outcome:
+    """Does all the tasks, with a row of the report for each."""
+    walk, totals, now = Walk(options, state.earlier()), report.Totals(), 0
+    out.write(report.HEADER + "\n")
+    with Progress(sys.stderr, lambda: _count(options)) as progress:
+        for done in _chunks(options, walk):
+            out.write(done.text)
+            out.flush()
+            totals.join(done.totals)
+            now += done.filed_now
+            for line in done.told:
+                progress.clear()
+                say(line)
+            progress.add(done.tasks)
+    out.write(report.csv_line(totals.row()))
+    out.flush()
+    return Outcome(totals, now, totals.answers["accepted"] - now, walk.passed_over)
+
+
+def provision(options: Options, say: Callable[[str], None]) -> Outcome:
+    """Makes the run. Files that are refused or unreadable are told by `say`, a line each; raises
+    `Failed` where the run itself fails."""
+    check_folders(options.sent, options.filed)
+    _library.functions()
+    state = State(options.filed)
+    if options.dry_run:
+        return _take(options, state, sys.stdout, say)
+    try:
+        os.makedirs(os.path.join(options.filed, names.OWN), exist_ok=True)
+    except OSError as error:
+        raise Failed(f"{os.fsdecode(options.filed)}: {filing.why(error)}") from error
+    lock = Lock(options.filed, shared=False)
+    try:
+        state.take_up()
+        with open(state.part, "w", encoding="utf-8", newline="\n") as out:
+            outcome = _take(options, state, out, say)
+        state.end(options.flush, options.json)
+        lock.release(empty=True)
+        return outcome
+    except OSError as error:
+        name = error.filename if isinstance(error.filename, (str, bytes)) else options.filed
+        raise Failed(f"{os.fsdecode(name)}: {filing.why(error)}") from error
+    finally:
+        lock.release()
