@@ -18,7 +18,7 @@ class Browser:
     """One page in a headless browser without a network."""
 
     def __init__(self, width=1400, height=1000):
-        self.profile = tempfile.TemporaryDirectory(ignore_cleanup_errors=True)
+        self.profile = tempfile.mkdtemp()
         to_read, self.write_end = os.pipe()
         self.read_end, to_write = os.pipe()
 
@@ -29,7 +29,7 @@ class Browser:
             os.dup2(64, 4)
 
         words = [chromium(), "--headless", "--no-sandbox", "--disable-gpu", "--hide-scrollbars", "--remote-debugging-pipe",
-                 "--proxy-server=127.0.0.1:1", f"--user-data-dir={self.profile.name}", f"--window-size={width},{height}"]
+                 "--proxy-server=127.0.0.1:1", f"--user-data-dir={self.profile}", f"--window-size={width},{height}"]
         self.process = subprocess.Popen(words, preexec_fn=pipes, close_fds=False, stdout=subprocess.DEVNULL, stderr=subprocess.DEVNULL)
         os.close(to_read)
         os.close(to_write)
@@ -48,7 +48,7 @@ class Browser:
         self.process.wait()
         os.close(self.write_end)
         os.close(self.read_end)
-        self.profile.cleanup()
+        shutil.rmtree(self.profile, ignore_errors=True)
 
     def message(self):
         while b"\0" not in self.buffer:

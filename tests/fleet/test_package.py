@@ -7,6 +7,7 @@ import os
 import pickle
 import random
 import re
+import shutil
 import subprocess
 import sys
 import tempfile
@@ -338,6 +339,17 @@ class Library(unittest.TestCase):
             subprocess.run(["gcc", "-shared", "-fPIC", "-x", "c", "/dev/null", "-o", stub], check=True)
             _, said = run("audit", ".", status=2, env={"HALIVOMUE_LIBRARY": stub})
             self.assertIn("halivomue_read", said)
+
+    def test_the_folder_alone(self):
+        """The package's folder with the shared object in it works anywhere, without gcc and toolchain."""
+        with tempfile.TemporaryDirectory() as folder:
+            shutil.copytree(ROOT / "python/halivomue", os.path.join(folder, "halivomue"), ignore=shutil.ignore_patterns("*.so"))
+            built = subprocess.run([ROOT / "python/build", os.path.join(folder, "halivomue/libhalivomue.so")], capture_output=True, check=True)
+            self.assertEqual(built.stdout.decode().strip(), os.path.join(folder, "halivomue/libhalivomue.so"))
+            done = subprocess.run([sys.executable, "-m", "halivomue", "provision", str(ROOT / "samples"), "filed"], cwd=folder,
+                                  env={"PYTHONPATH": folder, "PATH": "/nonexistent"}, capture_output=True, check=False)
+            self.assertEqual((done.returncode, done.stderr), (1, b""))
+            self.assertIn(b"3 filed; report: filed/report.csv", done.stdout)
 
     def test_importing_needs_no_library(self):
         code = "import halivomue\ntry:\n    halivomue.read(b'')\nexcept halivomue.LibraryError as e:\n    print('told')"

@@ -8,6 +8,7 @@ import re
 import shutil
 import subprocess
 import sys
+import warnings
 
 from common import Case, ROOT, SAMPLES, unittest
 
@@ -66,7 +67,8 @@ class Pages(Case):
                 for line in re.sub("^    ", "", block, flags=re.M).splitlines():
                     (given if line.startswith((">>> ", "... ")) else due).append(line[4:] if line.startswith((">>> ", "... ")) else line)
                 out = io.StringIO()
-                with contextlib.redirect_stdout(out):
+                with contextlib.redirect_stdout(out), warnings.catch_warnings():
+                    warnings.simplefilter("ignore", ResourceWarning)
                     before = os.getcwd()
                     os.chdir(self.folder)
                     try:
