@@ -6,6 +6,7 @@ in which a tree is walked with each folder's entries sorted by their bytes.
 
 from __future__ import annotations
 
+import fnmatch
 import heapq
 import os
 import re
@@ -64,9 +65,18 @@ def reserved(name: bytes) -> Optional[str]:
         return "a name that ends in .short is kept for shortened forms"
     if name in (REPORT, REPORT_JSON):
         return "this name is kept for the report"
-    if any(part.startswith(OWN) for part in name.split(b"/")):
+    if OWN in name and b"/" + OWN in b"/" + name:
         return "a name that starts with .halivomue is kept for the run's own files"
     return None
+
+
+def matcher(pattern: str) -> Callable[[bytes], bool]:
+    """Does the last part of a name match a shell's pattern?"""
+    if pattern[:1] == "*" and not set(pattern[1:]) & set("*?["):
+        ending = os.fsencode(pattern[1:])
+        return lambda name: name.endswith(ending)
+    matches = re.compile(fnmatch.translate(pattern)).match
+    return lambda name: matches(os.fsdecode(os.path.basename(name))) is not None
 
 
 class Entry(NamedTuple):

@@ -4,7 +4,6 @@ from __future__ import annotations
 
 import errno
 import fcntl
-import fnmatch
 import hashlib
 import os
 import re
@@ -108,6 +107,7 @@ class Filer:
         self.strict, self.dry_run, self.flush = options.strict, options.dry_run, options.flush
         self.temporary = b"/%s.%d.sent.tmp" % (names.OWN, number), b"/%s.%d.short.tmp" % (names.OWN, number)
         self.folder: Optional[bytes] = None
+        self.folders: Set[bytes] = set()
         self.touched: Set[bytes] = set()
         _library.functions()
 
@@ -174,21 +174,30 @@ class Filer:
         except Unreadable:
             return False
 
+    def enter(self, folder: bytes) -> None:
+        """Makes a folder of FILED ready, and learns which folders it has: none can become a file."""
+        filing.make_folder(folder)
+        try:
+            with os.scandir(folder) as entries:
+                self.folders = {entry.name for entry in entries if entry.is_dir()}
+        except OSError as error:
+            raise Failed(f"{os.fsdecode(folder)}: {filing.why(error)}") from error
+        self.folder = folder
+
     def put(self, name: bytes, sent: bytes, short: bytes) -> None:
         """Files both forms, each at once; the shortened one first, since its name is the longer."""
         path = self.filed + name
-        folder = os.path.dirname(path)
+        folder, _, base = path.rpartition(b"/")
         if folder != self.folder:
-            filing.make_folder(folder)
-            self.folder = folder
+            self.enter(folder)
+        if base in self.folders or base + names.SHORT in self.folders:
+            raise Unreadable("cannot be filed: " + os.strerror(errno.EISDIR))
         if self.flush and folder not in self.touched:
             above = folder
             while len(above) >= len(self.filed) - 1:
                 self.touched.add(above)
                 above = os.path.dirname(above)
         of_sent, of_short = self.temporary
-        if os.path.isdir(path):
-            raise Unreadable("cannot be filed: " + os.strerror(errno.EISDIR))
         filing.write(((path + names.SHORT, folder + of_short, short), (path, folder + of_sent, sent)), self.flush)
 
     def unfiled(self, name: bytes, row: Row) -> Row:
@@ -329,27 +338,27 @@ class Walk:
     def __init__(self, options: Options, earlier: Iterator[Tuple[bytes, Row, bool]]) -> None:
         self.options = options
         self.earlier = earlier
-        self.matches = re.compile(fnmatch.translate(options.pattern)).match
+        self.wanted = names.matcher(options.pattern)
         self.passed_over = 0
-
-    def wanted(self, name: bytes) -> bool:
-        return self.matches(os.fsdecode(os.path.basename(name))) is not None
 
     def told(self, entry: names.Entry) -> Optional[Task]:
         """The task of what is found under SENT; none where it is no procedure by its name."""
         name, kind = entry
+        if kind == "file":
+            if not self.wanted(name):
+                self.passed_over += 1
+                return None
+            why = names.reserved(name)
+            return Task(FILE, name) if why is None else Task(TOLD, name, None, why)
         if kind == "empty":
             return None
-        if kind in ("file", "link", "other") and not self.wanted(name):
+        if kind in ("link", "other") and not self.wanted(name):
             if kind == "link" and os.path.isdir(os.path.join(self.options.sent, name)):
                 return Task(TOLD, name, None, "a symbolic link to a folder, not followed")
             self.passed_over += 1
             return None
-        why = names.reserved(name)
-        if why is None and kind == "file":
-            return Task(FILE, name)
         kinds = {"link": "a symbolic link, not followed", "other": "not a regular file"}
-        return Task(TOLD, name, None, why or kinds.get(kind, kind))
+        return Task(TOLD, name, None, names.reserved(name) or kinds.get(kind, kind))
 
     def __iter__(self) -> Iterator[Task]:
         due = next(self.earlier, None)

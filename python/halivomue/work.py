@@ -1,12 +1,13 @@
 """Work on a row of tasks by several processes, with the results in the tasks' order.
 
-Tasks go out in chunks, in turn to each process, and at most two chunks of a process are under way,
+Tasks go out in chunks, in turn to each process, and at most three chunks of a process are under way,
 so memory doesn't grow with the number of tasks.
 """
 
 from __future__ import annotations
 
 import ctypes
+import gc
 import multiprocessing
 import os
 import signal
@@ -15,9 +16,10 @@ from typing import Any, Callable, Deque, Iterable, Iterator, List, Tuple
 
 from .filing import Failed
 
-CHUNK = 32
-_CHUNK_BYTES = 4096
-_UNDER_WAY = 2
+CHUNK = 64
+# Names of a chunk, so that what is under way always fits the pipes between the processes.
+_CHUNK_BYTES = 2048
+_UNDER_WAY = 3
 _PR_SET_PDEATHSIG = 1
 
 #: Work on a chunk of tasks, made in each process from its number.
@@ -51,6 +53,9 @@ def _serve(link: Any, others: List[Any], parent: int, make: Callable[[int], Work
     signal.signal(signal.SIGTERM, signal.SIG_DFL)
     for other in others:
         other.close()
+    # What was there before the fork stays, and little of what a chunk makes needs the collector.
+    gc.freeze()
+    gc.set_threshold(50_000)
     work = make(number)
     while True:
         try:
