@@ -30,6 +30,10 @@ length-codes b = length-map (recordsOf b) codeOf ∙ length-records b
 pub code-at : (b : List ℕ) (k : ℕ) → codeAt (codesOf b) k ≡ codeOf (recordAt b k)
 code-at b k = List·getD-map codeOf (recordsOf b) k blank
 
+-- the instruction of the record at a place
+pub inst-there : (b : List ℕ) (k : ℕ) {r : Record} → r ≡ recordAt b k → instOf r ≡ codeAt (codesOf b) k .inst
+inst-there b k e = ap instOf e ∙ sym (ap (λ (x : Code). x .inst) (code-at b k))
+
 -- Br, CondBr and Case
 abbrev pub branchKind : ℕ → Bool
 branchKind k = eqb k 18 || (eqb k 19 || eqb k 20)

@@ -1,12 +1,9 @@
 use mathlib.Core.Path.{sym, ap, _∙_}
-use Rattle.ends.proofs.Laws.{length-codes, code-at, end-last, end-none}
+use Rattle.ends.proofs.Laws.{length-codes, inst-there, end-last, end-none}
 use Prim.Native.Nat.{_-_, _/_}
 use native.Mathlib.Omega.{arith}
 use lib.ListN.{length}
 use denote.Ref.{now}
-use Rattle.format.specs.declared.Record.{Record}
-use Rattle.inst.specs.declared.Code.{Code}
-use Rattle.codec.specs.Codec.{instOf}
 use Rattle.procedure.specs.Procedure.{codesOf}
 use Rattle.ends.specs.Ends.{viewOf}
 use borrow.Author.Needs.{needs}
@@ -28,8 +25,7 @@ end-in-requires c κs = search needs
 returns-2 : tie.Need-returns-2
 returns-2 c = let b = now (c .before .before .before .before .args .code) in
     let k = length b / 32 - 1 in
-    c .end-in .ensures ∙ ap (λ (r : Record). viewOf (instOf r)) (c .before .record-at .ensures)
-    ∙ sym (ap (λ (x : Code). viewOf (x .inst)) (code-at b k)) ∙ sym (end-last (codesOf b) k (length-codes b ∙ omega arith))
+    c .end-in .ensures ∙ ap viewOf (inst-there b k (c .before .record-at .ensures)) ∙ sym (end-last (codesOf b) k (length-codes b ∙ omega arith))
 
 pub end-of-spec : {M : Type 1} → statement M
 end-of-spec = tie.close (tie.spec returns sub-record-at record-at-requires end-in-requires returns-2)

@@ -1,9 +1,6 @@
 use mathlib.Core.Path.{sym, ap, _∙_}
-use Rattle.ends.proofs.Laws.{length-codes, code-at, lone-one, lone-none}
+use Rattle.ends.proofs.Laws.{length-codes, inst-there, lone-one, lone-none}
 use denote.Ref.{now}
-use Rattle.format.specs.declared.Record.{Record}
-use Rattle.inst.specs.declared.Code.{Code}
-use Rattle.codec.specs.Codec.{instOf}
 use Rattle.procedure.specs.Procedure.{codesOf}
 use Rattle.ends.specs.Ends.{viewOf}
 use borrow.Author.Needs.{needs}
@@ -18,8 +15,7 @@ end-in-requires c κs = search needs
 
 returns : tie.Need-returns
 returns c = let b = now (c .before .before .before .before .args .code) in
-    c .end-in .ensures ∙ ap (λ (r : Record). viewOf (instOf r)) (c .before .record-at .ensures)
-    ∙ sym (ap (λ (x : Code). viewOf (x .inst)) (code-at b 0)) ∙ sym (lone-one (codesOf b) (length-codes b ∙ c .before .before .if1 .taken))
+    c .end-in .ensures ∙ ap viewOf (inst-there b 0 (c .before .record-at .ensures)) ∙ sym (lone-one (codesOf b) (length-codes b ∙ c .before .before .if1 .taken))
 
 returns-2 : tie.Need-returns-2
 returns-2 c = let b = now (c .before .before .args .code) in sym (lone-none (codesOf b) (λ e. c .if1 .left (sym (length-codes b) ∙ e)))
