@@ -84,6 +84,14 @@ fn bump_three(table: &mut [u64], d: u32, a: u32, b: u32)
     bump(table, 2, 4294967295, Reg(b));
 }
 
+// Two registers read.
+fn bump_reads(table: &mut [u64], a: u32, b: u32)
+    ensures { λ u. ⌜ now (table .exit) ≡ counted 2 cap (counted 2 cap (now (table .entry)) a) b ⌝ }
+{
+    bump(table, 2, 4294967295, Reg(a));
+    bump(table, 2, 4294967295, Reg(b));
+}
+
 fn bump_bool(table: &mut [u64], op: BoolOp, d: u32, a: u32, b: u32)
     ensures { λ u. ⌜ now (table .exit) ≡ over (counted 2 cap) (counted 1 255 (now (table .entry)) d) (boolUses op a b) ⌝ }
 {
@@ -109,8 +117,10 @@ fn count_record(table: &mut [u64], operands: &[u8], r: Record)
         6 => bump_bool(table, ops::bool_of(r.op), r.p1, r.p2, r.p3),
         7 => bump_three(table, r.p1, r.p2, r.p3),
         9 => bump_two(table, r.p1, r.p2),
+        10 => bump_reads(table, r.p1, r.p2),
         18 => {}
         19 => bump(table, 2, 4294967295, Reg(r.p1)),
+        23 => {}
         _ => count_inst(table, operands, codec::inst_of(r)),
     }
 }

@@ -1,7 +1,9 @@
 use denote.Ref.{now}
+use native.Mathlib.Omega.{arith}
 use mathlib.Core.Path.{sym, ap, _∙_}
 use mathlib.Core.List.{append-nil}
 use Rattle.inst.specs.declared.BoolOp.{BoolOp}
+use Rattle.codec.proofs.Table.{inst-past}
 use Rattle.ops.specs.Ops.{boolOf}
 use Rattle.roles.specs.Roles.{boolUses}
 use Rattle.facts.specs.Storage.{cap, operandsIn}
@@ -37,6 +39,9 @@ bump-three-requires-2 c κs = search needs
 
 bump-two-requires-2 : tie.Need-bump-two-requires-2
 bump-two-requires-2 c κs = search needs
+
+bump-reads-requires : tie.Need-bump-reads-requires
+bump-reads-requires c κs = search needs
 
 bump-requires-4 : tie.Need-bump-requires-4
 bump-requires-4 c κs = search needs
@@ -132,21 +137,21 @@ returns-8 c =
     let a = m .before .before .before .args in
     c .before .before .bump-two2 .ensures ∙ counted-as (now (a .operands)) (now (a .table)) (a .r) 9 (m .match .keys8)
 
+same-length-9 : tie.Need-same-length-9
+same-length-9 c = search needs
+
 returns-9 : tie.Need-returns-9
 unfolding over
 returns-9 c =
-    let a = c .before .before .before .args in
-    counted-as (now (a .operands)) (now (a .table)) (a .r) 18 (c .match .keys9)
-
-same-length-9 : tie.Need-same-length-9
-same-length-9 c = search needs
+    let m = c .before .before .before .before in
+    let a = m .before .before .before .args in
+    c .before .before .bump-reads .ensures ∙ counted-as (now (a .operands)) (now (a .table)) (a .r) 10 (m .match .keys9)
 
 returns-10 : tie.Need-returns-10
 unfolding over
 returns-10 c =
-    let m = c .before .before .before .before in
-    let a = m .before .before .before .args in
-    c .before .before .bump4 .ensures ∙ counted-as (now (a .operands)) (now (a .table)) (a .r) 19 (m .match .keys10)
+    let a = c .before .before .before .args in
+    counted-as (now (a .operands)) (now (a .table)) (a .r) 18 (c .match .keys10)
 
 same-length-10 : tie.Need-same-length-10
 same-length-10 c = search needs
@@ -154,6 +159,22 @@ same-length-10 c = search needs
 returns-11 : tie.Need-returns-11
 unfolding over
 returns-11 c =
+    let m = c .before .before .before .before in
+    let a = m .before .before .before .args in
+    c .before .before .bump4 .ensures ∙ counted-as (now (a .operands)) (now (a .table)) (a .r) 19 (m .match .keys11)
+
+returns-12 : tie.Need-returns-12
+unfolding over
+returns-12 c =
+    let a = c .before .before .before .args in
+    ap (countInst (operandsIn (now (a .operands))) (now (a .table))) (inst-past (a .r) (omega (arith, c .match .keys12)))
+
+same-length-11 : tie.Need-same-length-11
+same-length-11 c = search needs
+
+returns-13 : tie.Need-returns-13
+unfolding over
+returns-13 c =
     let a = c .before .before .before .before .before .before .before .before .args in
     c .before .before .count-inst .ensures ∙ ap (countInst (operandsIn (now (a .operands))) (now (a .table))) (c .before .before .before .inst-of .ensures)
 
@@ -170,6 +191,7 @@ count-record-spec =
     bump-bool-requires
     bump-three-requires-2
     bump-two-requires-2
+    bump-reads-requires
     bump-requires-4
     inst-of-requires
     count-inst-requires
@@ -189,8 +211,11 @@ count-record-spec =
     returns-7
     same-length-8
     returns-8
-    returns-9
     same-length-9
+    returns-9
     returns-10
     same-length-10
-    returns-11)
+    returns-11
+    returns-12
+    same-length-11
+    returns-13)
