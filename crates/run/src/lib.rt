@@ -127,8 +127,8 @@ pub fn stays(code: &[u8], table: &[u8], pause: Pause) -> bool
     if code.len() / 32 < 6 {
         return true;
     }
-    if !arms::none_meet(code, table) {
+    if opens(code, table, pause) {
         return false;
     }
-    !opens(code, table, pause)
+    arms::none_meet(code, table)
 }
