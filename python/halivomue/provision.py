@@ -286,16 +286,17 @@ class State:
     def __init__(self, filed: bytes) -> None:
         own = os.path.join(filed, names.OWN)
         self.filed = filed
-        self.part = os.path.join(own, b"part.csv")
+        self.part, self.part_json = os.path.join(own, b"part.csv"), os.path.join(own, b"part.jsonl")
         self.before = os.path.join(own, b"before.csv")
         self.report = os.path.join(filed, names.REPORT)
         self.report_json = os.path.join(filed, names.REPORT_JSON)
 
-    def earlier(self) -> Iterator[Tuple[bytes, Row, bool]]:
-        """What is known from earlier: a name's key, its row, and whether the row is believed."""
+    def earlier(self, *parts: bytes) -> Iterator[Tuple[bytes, Row, bool]]:
+        """What is known from these parts and the last whole report: a name's key, its row, and
+        whether the row is believed."""
         sound = report.sound(self.report)
-        for at, source, row in report.merged(self.part, self.before, self.report):
-            yield at, row, sound or source < 2
+        for at, source, row in report.merged(*parts, self.report):
+            yield at, row, sound or source < len(parts)
 
     def take_up(self) -> None:
         """Cleans up after a run that was interrupted."""
@@ -307,6 +308,7 @@ class State:
             for _, _, row in report.merged(self.part, self.before):
                 out.write(report.csv_line(row))
         os.replace(temporary, self.before)
+        filing.remove(self.part_json)
         filing.remove(self.part)
         pattern = re.compile(re.escape(names.OWN) + rb"\.\d+\.(sent|short)\.tmp")
         for entry in names.walk(self.filed):
@@ -316,13 +318,12 @@ class State:
     def end(self, flush: bool, json: bool) -> None:
         """Puts the finished report in its place."""
         if json or os.path.exists(self.report_json):
-            temporary = self.part + b".json"
-            with open(temporary, "w", encoding="utf-8", newline="\n") as out:
+            with open(self.part_json, "w", encoding="utf-8", newline="\n") as out:
                 report.write_json(self.part, out)
                 out.flush()
                 if flush:
                     os.fsync(out.fileno())
-            os.replace(temporary, self.report_json)
+            os.replace(self.part_json, self.report_json)
         if flush:
             with open(self.part, "rb") as file:
                 os.fsync(file.fileno())
@@ -398,9 +399,9 @@ def _count(options: Options) -> int:
     return sum(1 for _ in walk)
 
 
-def _take(options: Options, state: State, out: IO[str], say: Callable[[str], None]) -> Outcome:
+def _take(options: Options, walk: Walk, out: IO[str], say: Callable[[str], None]) -> Outcome:
     """Does all the tasks, with a row of the report for each."""
-    walk, totals, now = Walk(options, state.earlier()), report.Totals(), 0
+    totals, now = report.Totals(), 0
     out.write(report.HEADER + "\n")
     with Progress(sys.stderr, lambda: _count(options)) as progress:
         for done in _chunks(options, walk):
@@ -424,7 +425,7 @@ def provision(options: Options, say: Callable[[str], None]) -> Outcome:
     _library.functions()
     state = State(options.filed)
     if options.dry_run:
-        return _take(options, state, sys.stdout, say)
+        return _take(options, Walk(options, state.earlier(state.part, state.before)), sys.stdout, say)
     try:
         os.makedirs(os.path.join(options.filed, names.OWN), exist_ok=True)
     except OSError as error:
@@ -433,7 +434,7 @@ def provision(options: Options, say: Callable[[str], None]) -> Outcome:
     try:
         state.take_up()
         with open(state.part, "w", encoding="utf-8", newline="\n") as out:
-            outcome = _take(options, state, out, say)
+            outcome = _take(options, Walk(options, state.earlier(state.before)), out, say)
         state.end(options.flush, options.json)
         lock.release(empty=True)
         return outcome
