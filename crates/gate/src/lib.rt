@@ -82,7 +82,8 @@ pub fn copied(code: &[u8], table: &[u8], l: BlockId, wide: bool) -> bool
 }
 
 fn may_hop(code: &[u8], table: &[u8], a: usize, wide: bool) -> bool
-    ensures { λ z. ⌜ z ≡ steps.mayHop wide (blocksOf (now (code .entry)) (now (table .entry))) a (endOf (getD (blocksOf (now (code .entry)) (now (table .entry))) a [])) ⌝ }
+    ensures { λ z. ⌜ z ≡ steps.mayHop wide (blocksOf (now (code .entry)) (now (table .entry)))
+        a (endOf (getD (blocksOf (now (code .entry)) (now (table .entry))) a [])) ⌝ }
 {
     let e = end_at(code, table, a);
     match e {

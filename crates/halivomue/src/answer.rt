@@ -1,11 +1,13 @@
-// The answers that are a line for each file.
-ghost use Rattle.io.specs.Counts.{Counts};
+// What is asked of each file, and its answer as it is written to standard output.
+use crate::line;
+use crate::listing;
 use crate::reading;
 use crate::tidiness;
 
 pub enum Question {
     Read,
     Tidy,
+    List,
 }
 
 // Where the line ends, and whether the file was taken.
@@ -14,11 +16,31 @@ pub struct Answer {
     pub good: bool,
 }
 
-pub fn put(line: &mut [u8], at: usize, question: Question, words: bool, bytes: &[u8]) -> Answer
-    ensures { λ r. ⌜ Counts (r .at) (now (line .exit)) ⌝ }
-{
+// Whether the file was taken, and whether its answer could be written.
+pub struct Told {
+    pub good: bool,
+    pub written: bool,
+}
+
+pub fn say_line(text: &[u8], a: Answer) -> Told {
+    let end = line::front(text, a.at);
+    Told {
+        good: a.good,
+        written: line::say(&text[..end]),
+    }
+}
+
+// Writes the answer, whose first line has its start in the text, up to `at`.
+pub fn say(text: &mut [u8], at: usize, question: Question, words: bool, bytes: &[u8]) -> Told {
     match question {
-        Question::Read => reading::put(line, at, words, bytes),
-        Question::Tidy => tidiness::put(line, at, words, bytes),
+        Question::Read => {
+            let a = reading::put(text, at, words, bytes);
+            say_line(text, a)
+        }
+        Question::Tidy => {
+            let a = tidiness::put(text, at, words, bytes);
+            say_line(text, a)
+        }
+        Question::List => listing::say(text, at, words, bytes),
     }
 }

@@ -1,6 +1,7 @@
-// A command that prints a line for each file that is named, or the bare answer of standard input.
+// A command that answers for each file that is named, or for standard input.
 use crate::answer;
 use crate::answer::Question;
+use crate::answer::Told;
 use crate::input;
 use crate::line;
 use crate::options;
@@ -10,17 +11,11 @@ use crate::status;
 use crate::status::Status;
 use libc::STDIN_FILENO;
 
-// What is asked of each file: `bare` of standard input alone, whose line has no name.
+// What is asked of each file, and whether its answer is bare, without the name.
 struct Ask {
     question: Question,
     words: bool,
     bare: bool,
-}
-
-// Whether the file was taken, and whether its line could be written.
-struct Told {
-    good: bool,
-    written: bool,
 }
 
 // Where the answer stands in the line, after the name of n bytes.
@@ -44,12 +39,7 @@ fn say_failed(text: &mut [u8], n: usize, bare: bool, what: &[u8]) -> Told {
 fn say_answer(text: &mut [u8], n: usize, ask: Ask, bytes: &[u8]) -> Told {
     let at = begin(text, n, ask.bare);
     let question = ask.question;
-    let a = answer::put(text, at, question, ask.words, bytes);
-    let end = a.at;
-    Told {
-        good: a.good,
-        written: line::say(&text[..end]),
-    }
+    answer::say(text, at, question, ask.words, bytes)
 }
 
 fn answer_open(fd: i32, text: &mut [u8], n: usize, ask: Ask) -> Told {
@@ -64,23 +54,16 @@ fn answer_open(fd: i32, text: &mut [u8], n: usize, ask: Ask) -> Told {
     say_answer(text, n, ask, &bytes[..m])
 }
 
-fn is_input(path: &[u8], bare: bool) -> bool {
-    if bare {
-        return true;
-    }
-    check::same(path, b"-")
-}
-
 fn answer_named(path: &[u8], ask: Ask) -> Told {
     let mut text = [0u8; line::ROOM];
     let n = quote::put_name(&mut text, 0, path);
-    if is_input(path, ask.bare) {
+    if check::same(path, b"-") {
         return answer_open(STDIN_FILENO, &mut text, n, ask);
     }
     let fd = os::open_read(path);
     if fd < 0 {
         os::fail(&text[..n]);
-        return say_failed(&mut text, n, false, b"cannot be opened\n");
+        return say_failed(&mut text, n, ask.bare, b"cannot be opened\n");
     }
     let told = answer_open(fd, &mut text, n, ask);
     libc::close(fd);
@@ -90,10 +73,8 @@ fn answer_named(path: &[u8], ask: Ask) -> Told {
 // The line of an argument that no path is as long as.
 fn too_long(i: usize) -> Told {
     let mut text = [0u8; 80];
-    let mut digits = [0u8; 20];
-    let k = io::decimal(i as u64, &mut digits);
     let n = line::put(&mut text, 0, b"argument ");
-    let n = line::put(&mut text, n, &digits[..k]);
+    let n = line::put_place(&mut text, n, i);
     say_failed(
         &mut text,
         n,
@@ -131,22 +112,33 @@ fn answer_files(o: Options, ask: Ask) -> Status {
 }
 
 fn answer_input(ask: Ask) -> Status {
-    let told = answer_named(b"standard input", ask);
+    let mut text = [0u8; line::ROOM];
+    let n = line::put(&mut text, 0, b"standard input");
+    let told = answer_open(STDIN_FILENO, &mut text, n, ask);
     if !told.written {
         return Status::Failed;
     }
     status::of(told.good)
 }
 
+// Standard input's answer is bare, and so is the listing of one file.
+fn is_bare(o: Options, question: Question) -> bool {
+    match question {
+        Question::Read => o.names == 0,
+        Question::Tidy => o.names == 0,
+        Question::List => o.names < 2,
+    }
+}
+
 pub fn answer_all(o: Options, question: Question) -> Status {
     let ask = Ask {
         question: question,
         words: o.words,
-        bare: !o.files,
+        bare: is_bare(o, question),
     };
-    if o.files {
-        answer_files(o, ask)
-    } else {
+    if o.names == 0 {
         answer_input(ask)
+    } else {
+        answer_files(o, ask)
     }
 }

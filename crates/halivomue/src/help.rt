@@ -9,7 +9,8 @@ use libc::STDOUT_FILENO;
 fn say_usage(fd: i32) -> bool {
     io::write_all(
         fd,
-        b"usage: halivomue read|tidy [--words] [--] [FILE..]
+        b"usage: halivomue read|tidy|list [--words] [--] [FILE..]
+       halivomue shorten [--words] [--] IN OUT
        halivomue --help|--version
 ",
     )
@@ -32,12 +33,24 @@ pub fn help() -> Status {
     status::of(line::say(
         b"  read      of each file: accepted, or refused, number and record
   tidy      of each file: yes, or no and the lowest offending register, or refused
+  list      of each file: counts, registers, blocks and code of its shortened form, or refused
+  shorten   writes the shortened form of IN to OUT, whole or not at all, and prints the counts
   --words   what the numbers mean, beside them
   --status  writes 0, 1 (a file was refused or failed) or 2 (usage) to descriptor 3
   --        what follows are names, even with a dash in front
-Without a name the bare answer of standard input; the name - is standard input.
+Without a name the bare answer of standard input; the name - is standard input. OUT is a file.
 ",
     ))
+}
+
+// `shorten` with other words than two names.
+pub fn wrong_names() -> Status {
+    io::write_all(
+        STDERR_FILENO,
+        b"halivomue: shorten takes two names, and the second is a file's
+",
+    );
+    usage()
 }
 
 // A word that is no command, or no option.

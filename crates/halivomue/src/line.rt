@@ -39,8 +39,15 @@ pub fn put(line: &mut [u8], at: usize, text: &[u8]) -> usize
 pub fn put_number(line: &mut [u8], at: usize, number: u32) -> usize
     ensures { λ r. ⌜ Counts r (now (line .exit)) ⌝ }
 {
+    put_place(line, at, number as usize)
+}
+
+// Puts the number of a place.
+pub fn put_place(line: &mut [u8], at: usize, place: usize) -> usize
+    ensures { λ r. ⌜ Counts r (now (line .exit)) ⌝ }
+{
     let mut digits = [0u8; 20];
-    let k = io::decimal(number as u64, &mut digits);
+    let k = io::decimal(place as u64, &mut digits);
     put(line, at, &digits[..k])
 }
 

@@ -3,14 +3,18 @@ use options::Options;
 use status::Status;
 
 mod answer;
+mod counts;
 mod files;
 mod help;
 mod input;
 mod line;
+mod listing;
 mod options;
 mod quote;
 mod reading;
 mod refusal;
+mod replace;
+mod shortened;
 mod status;
 mod tidiness;
 
@@ -22,6 +26,12 @@ fn command(o: Options) -> Status {
     }
     if check::same(&word[..n], b"tidy") {
         return files::answer_all(o, Question::Tidy);
+    }
+    if check::same(&word[..n], b"list") {
+        return files::answer_all(o, Question::List);
+    }
+    if check::same(&word[..n], b"shorten") {
+        return shortened::shorten_file(o);
     }
     help::unknown(b"command", &word[..n])
 }

@@ -11,8 +11,10 @@ pub struct Options {
     pub command: usize,
     // The place of the first `--`, or the number of arguments.
     pub end: usize,
-    // Whether the command is followed by other words.
-    pub files: bool,
+    // How many other words follow the command, 3 for more, and the places of the first and the last.
+    pub names: usize,
+    pub first: usize,
+    pub last: usize,
 }
 
 enum Word {
@@ -65,12 +67,22 @@ fn word_at(end: usize, i: usize) -> Word {
     word_of(&word[..n])
 }
 
-fn with_plain(mut o: Options, i: usize) -> Options {
-    if o.command == 0 {
-        o.command = i;
-    } else {
-        o.files = true;
+fn with_name(mut o: Options, i: usize) -> Options {
+    if o.names == 0 {
+        o.first = i;
     }
+    if o.names < 3 {
+        o.names += 1;
+    }
+    o.last = i;
+    o
+}
+
+fn with_plain(mut o: Options, i: usize) -> Options {
+    if o.command != 0 {
+        return with_name(o, i);
+    }
+    o.command = i;
     o
 }
 
@@ -103,7 +115,9 @@ fn none(end: usize) -> Options {
         unknown: 0,
         command: 0,
         end: end,
-        files: false,
+        names: 0,
+        first: 0,
+        last: 0,
     }
 }
 

@@ -31,13 +31,20 @@ fn wide(b: u8) -> u64 {
     b as u64
 }
 
-fn put_hex(line: &mut [u8], at: usize, b: u8) -> usize
+// Puts a byte as two digits.
+pub fn put_digits(line: &mut [u8], at: usize, b: u8) -> usize
     ensures { λ r. ⌜ Counts r (now (line .exit)) ⌝ }
 {
     let mut digits = [0u8; 16];
     let k = io::hex(wide(b), 2, &mut digits);
+    line::put(line, at, &digits[..k])
+}
+
+fn put_hex(line: &mut [u8], at: usize, b: u8) -> usize
+    ensures { λ r. ⌜ Counts r (now (line .exit)) ⌝ }
+{
     let n = line::put(line, at, b"\\x");
-    line::put(line, n, &digits[..k])
+    put_digits(line, n, b)
 }
 
 // A byte of a name, between its neighbours.

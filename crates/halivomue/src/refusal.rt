@@ -2,23 +2,28 @@
 ghost use Rattle.io.specs.Counts.{Counts};
 use crate::line;
 
-// Refusals 1 and 3, of the file as a whole.
+// Refusals 1, 3 and 8, of the file as a whole, and 9, of the room.
 fn put_of_file(line: &mut [u8], at: usize, number: u32) -> usize
     ensures { λ r. ⌜ Counts r (now (line .exit)) ⌝ }
 {
-    let n = line::put(line, at, b"the file ");
-    if number == 1 {
-        return line::put(
+    match number {
+        1 => line::put(
             line,
-            n,
-            b"is not a multiple of 32 bytes long, or is longer than 65536",
-        );
+            at,
+            b"the file is not a multiple of 32 bytes long, or is longer than 65536",
+        ),
+        3 => line::put(
+            line,
+            at,
+            b"the file has more records of a class than its limit, or no block",
+        ),
+        8 => line::put(
+            line,
+            at,
+            b"the file has more than 480 registers or 480 instructions, the most that are shortened",
+        ),
+        _ => line::put(line, at, b"there is no room for the result"),
     }
-    line::put(
-        line,
-        n,
-        b"has more records of a class than its limit, or no block",
-    )
 }
 
 // The other refusals, of a record.
@@ -62,6 +67,8 @@ fn put_why(line: &mut [u8], at: usize, number: u32, place: u32) -> usize
     match number {
         1 => put_of_file(line, at, number),
         3 => put_of_file(line, at, number),
+        8 => put_of_file(line, at, number),
+        9 => put_of_file(line, at, number),
         _ => put_of_record(line, at, number, place),
     }
 }

@@ -133,7 +133,7 @@ fn shorten_read(b: &[u8], l: Layout, out: &mut [u8]) -> Answer
 
 // Shortens a file into the output buffer, or refuses it.
 pub fn shorten(bytes: &[u8], out: &mut [u8]) -> Answer
-    ensures is { λ r. ⌜ outcome r (now (out .exit)) ≡ spec.shorten (now (bytes .entry)) (now (out .entry)) ⌝ }
+    ensures is { λ r. ⌜ record { answer = r; output = now (out .exit) } ≡ spec.shorten (now (bytes .entry)) (now (out .entry)) ⌝ }
     ensures accepted { λ r. ⌜ (r .number ≡ 0 → reading (take (r .length) (now (out .exit))) ≡ answer 0 0) ⌝ }
     ensures room { λ r. ⌜ (61728 ≤ length (now (out .entry)) → r .number ≡ 9 → ⊥) ⌝ }
     ensures unmoved { λ r. ⌜ (r .number ≡ 0 → r .moved ≡ 0

@@ -46,7 +46,8 @@ module _ (p : Procedure) (x : Parts) (o : Opened p x) (s : Lent) (e : Enough x s
   code-fits : length (x .code) ≤ length (s .work)
   code-fits = let c = o .code-length in let n = size in let w = e .work in omega arith
 
-  lent : r.Lent p x (firstOf (map (λ r. r .p1) (recordsOf (x .body)))) (s .known) (s .copy) (sizeOf x) (fronted (s .work) (x .code)) (fronted (s .table) (x .heads)) (s .kinds) (s .facts)
+  lent : r.Lent p x (firstOf (map (λ r. r .p1) (recordsOf (x .body)))) (s .known) (s .copy) (sizeOf x)
+      (fronted (s .work) (x .code)) (fronted (s .table) (x .heads)) (s .kinds) (s .facts)
   lent =
       let n = size in
       let long = fronted-length (s .work) (x .code) code-fits in

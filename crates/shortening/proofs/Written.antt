@@ -71,7 +71,8 @@ module _ (p : Procedure) (x : Parts) (o : Opened p x) where
       (o .register-records)
       ∙ ap (λ (l : List Record). registers ++ (l ++ (recordsOf (x .body) ++ (recordsOf code ++ (recordsOf (x .operands) ++ recordsOf (x .arms))))))
       (o .head-records ∙ sym h)
-      ∙ ap (λ (l : List Record). registers ++ (blockRecords 0 B ++ (l ++ (recordsOf code ++ (recordsOf (x .operands) ++ recordsOf (x .arms)))))) (o .body-records)
+      ∙ ap (λ (l : List Record). registers ++ (blockRecords 0 B ++ (l ++ (recordsOf code ++ (recordsOf (x .operands) ++ recordsOf (x .arms))))))
+      (o .body-records)
       ∙ ap (λ (l : List Record). registers ++ (blockRecords 0 B ++ (bodyRecords (p .body) ++ (l ++ (recordsOf (x .operands) ++ recordsOf (x .arms)))))) c
       ∙ ap (λ (l : List Record). registers ++ (blockRecords 0 B ++ (bodyRecords (p .body) ++ (map recordOf (joined B) ++ l)))) tail-is)
     where
@@ -156,7 +157,8 @@ module _ (p : Procedure) (x : Parts) (o : Opened p x) where
         let small : length (joined (ontoFront kept rest)) ≤ 4294967295 = omega arith in
         let all : min (s .at .fresh) (length (s .kinds)) ≡ s .at .fresh = omega arith in
         let m = ap length (kept-is (s .work) (s .table) (x .arms) facts (p .body) budget few (o .numbered-arms) canonical) ∙ length-map kept recordOf in
-        ap (λ (k : ℕ). emittedIn (s .work) (s .table) (x .arms) facts (x .registers) (take k (s .kinds)) (x .body) (x .operands) (short (s .at .grown)) out) all
+        ap (λ (k : ℕ). emittedIn (s .work) (s .table) (x .arms) facts (x .registers) (take k (s .kinds)) (x .body)
+        (x .operands) (short (s .at .grown)) out) all
         ∙ result (run p) (emitRecords (s .work) (s .table) (x .arms) facts (x .registers) kinds (x .body) (x .operands))
         true (short (s .at .grown)) (short (length kinds)) (short (length (keptIn (s .work) (s .table) (x .arms) facts))) out
         (ap (λ r. recordsFor (r .procedure)) is ∙ sym (emitted-records small))

@@ -41,10 +41,19 @@ same-length : tie.Need-same-length
 same-length c = search needs
 
 same-length-2 : tie.Need-same-length-2
-same-length-2 c = c .before .before .before .before .before .before .before .before .before .before .before .before .before .before .before .before .before .before .before .before .run .kept .0 ∙ c .before .before .before .before .before .before .before .before .before .before .before .before .before .before .before .before .before .before .before .before .before .before .before .before .before .before .before .before .before .before .before .before .before .before .before .before .before .before .put-front .kept .0
+same-length-2 c =
+    let r = c .before .before .before .before .before .before .before .before .before .before in
+    let r = r .before .before .before .before .before .before .before .before .before .before in
+    let u = r .before .before .before .before .before .before .before .before .before in
+    let u = u .before .before .before .before .before .before .before .before .before in
+    r .run .kept .0 ∙ u .put-front .kept .0
 
 same-length-3 : tie.Need-same-length-3
-same-length-3 c = c .before .before .before .before .before .before .before .before .before .before .before .before .before .before .before .before .before .before .before .before .run .kept .1 .0 ∙ c .before .before .before .before .before .before .before .before .before .before .before .before .before .before .before .before .before .before .before .before .before .before .before .before .before .before .before .before .before .before .before .before .before .put-front2 .kept .0
+same-length-3 c =
+    let r = c .before .before .before .before .before .before .before .before .before .before in
+    let r = r .before .before .before .before .before .before .before .before .before .before in
+    let t = r .before .before .before .before .before .before .before .before .before .before .before .before .before in
+    r .run .kept .1 .0 ∙ t .put-front2 .kept .0
 
 same-length-4 : tie.Need-same-length-4
 same-length-4 c = search needs
@@ -69,7 +78,8 @@ returns c =
     short-is (now (a .b)) (a .l)
     (lent (now (a .work)) (now (a .table)) (now (a .kinds)) (now (a .facts)) (length (now (a .known))) (length (now (a .copy)))) (now (a .out))
     (u .before .before .part .ensures) (u .put-front .ensures) (t .before .part2 .ensures) (t .put-front2 .ensures) (q .before .part3 .ensures)
-    (q .pause-of .ensures) (r .before .before .before .before .before .before .before .before .part4 .ensures) (r .before .before .before .before .before .before .before .part5 .ensures) refl (r .run .ensures) (w .write .ensures)
+    (q .pause-of .ensures) (r .before .before .before .before .before .before .before .before .part4 .ensures)
+    (r .before .before .before .before .before .before .before .part5 .ensures) refl (r .run .ensures) (w .write .ensures)
 
 pub shorten-in-spec : {M : Type 1} → statement M
 shorten-in-spec =

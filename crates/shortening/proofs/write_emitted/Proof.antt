@@ -41,7 +41,8 @@ returns c =
     let m = i .before .before in
     let a = m .before .before .before .before .before .before .before .before .args in
     emitted-is (now (a .b)) (a .l) (now (a .work)) (now (a .table)) (now (a .facts)) (now (a .kinds)) (now (a .out)) (a .r .at .fresh) (a .r .at .grown)
-    (q .before .before .before .before .before .part .ensures) (m .least .ensures) (q .before .before .before .part2 .ensures) (q .before .before .part3 .ensures) (q .before .part4 .ensures)
+    (q .before .before .before .before .before .part .ensures) (m .least .ensures) (q .before .before .before .part2 .ensures)
+    (q .before .before .part3 .ensures) (q .before .part4 .ensures)
     (⊎-elim (λ w. omega arith) (λ w. omega arith) (i .if1 .came)) (q .emit .ensures)
 
 pub write-emitted-spec : {M : Type 1} → statement M

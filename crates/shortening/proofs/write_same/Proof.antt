@@ -44,8 +44,10 @@ returns c table kinds facts =
     let q = c .before .before in
     let m = q .before .before .before .before .before .before .before .before in
     let a = m .before .before .before .before .before .args in
-    same-is (now (a .b)) (a .l) (now (a .work)) (a .r .joined) (now (a .out)) (m .before .part .ensures) (m .least .ensures) (q .before .before .before .before .before .before .part2 .ensures)
-    (q .before .before .before .before .before .part3 .ensures) (q .before .before .before .before .part4 .ensures) (q .before .before .part5 .ensures) (q .before .part6 .ensures) (q .put-same .ensures)
+    same-is (now (a .b)) (a .l) (now (a .work)) (a .r .joined) (now (a .out)) (m .before .part .ensures) (m .least .ensures)
+    (q .before .before .before .before .before .before .part2 .ensures)
+    (q .before .before .before .before .before .part3 .ensures) (q .before .before .before .before .part4 .ensures)
+    (q .before .before .part5 .ensures) (q .before .part6 .ensures) (q .put-same .ensures)
 
 pub write-same-spec : {M : Type 1} → statement M
 write-same-spec =

@@ -1,6 +1,6 @@
 //! Times a library's `halivomue_shorten` beside the published Rust with a plain reader and writer.
 //! Usage: bench-shorten                             all sorts of files and sizes, as a table
-//!        bench-shorten library|rust <sort> <n>     one file of n instructions once, to be counted
+//!        bench-shorten library|rust <sort> <n> [times]  one file of n instructions, once or so often, to be counted
 //! HALIVOMUE_LIBRARY names the shared object. To be built with `--profile speed`.
 
 use checks::reader;
@@ -160,24 +160,28 @@ fn counted_rust(_: Library, bytes: &[u8], out: &mut [u8]) -> Shortening {
     black_box(shorten_into(bytes, out))
 }
 
-/// One file shortened once, to be counted; prints its instructions and records.
-fn once(library: Library, which: &str, sort: &str, n: usize) {
+/// One file shortened so often, to be counted; prints its instructions and records.
+fn again(library: Library, which: &str, sort: &str, n: usize, times: usize) {
     let sort = SORTS.into_iter().find(|s| format!("{s:?}").to_lowercase() == sort).expect("a sort of files");
     let bytes = files(sort, n).remove(0);
     let mut out = vec![0; 65_536];
-    match which {
-        "library" => counted_library(library, black_box(&bytes), &mut out),
-        _ => counted_rust(library, black_box(&bytes), &mut out),
-    };
+    for _ in 0..times {
+        match which {
+            "library" => counted_library(library, black_box(&bytes), &mut out),
+            _ => counted_rust(library, black_box(&bytes), &mut out),
+        };
+    }
     println!("{n} {}", bytes.len() / RECORD);
 }
 
 fn main() {
     let library = Library::from_environment().unwrap_or_else(|why| panic!("{why}"));
     let arguments: Vec<String> = std::env::args().skip(1).collect();
+    let number = |text: &String| text.parse().expect("a number is due");
     match arguments.as_slice() {
         [] => table(library),
-        [which, sort, n] => once(library, which, sort, n.parse().expect("a number is due")),
-        _ => eprintln!("usage: bench-shorten [library|rust <sort> <instructions>]"),
+        [which, sort, n] => again(library, which, sort, number(n), 1),
+        [which, sort, n, times] => again(library, which, sort, number(n), number(times)),
+        _ => eprintln!("usage: bench-shorten [library|rust <sort> <instructions> [times]]"),
     }
 }
