@@ -3,12 +3,13 @@
 from __future__ import annotations
 
 import argparse
+import io
 import os
 import signal
 import sys
 from typing import List, Optional
 
-from . import __version__, audit, page, provision, work
+from . import __version__, audit, filing, page, provision, work
 from ._library import LibraryError
 from .filing import Failed
 
@@ -87,7 +88,7 @@ class _Lines:
 
     def __call__(self, line: str) -> None:
         try:
-            print(line.encode("utf-8", "replace").decode("utf-8"), file=self.out, flush=True)
+            print(line, file=self.out, flush=True)
         except BrokenPipeError:
             self.out = open(os.devnull, "w")
 
@@ -140,6 +141,9 @@ def _stop(*_: object) -> None:
 
 def main(words: Optional[List[str]] = None) -> int:
     arguments = parser().parse_args(words)
+    for stream in (sys.stdout, sys.stderr):
+        if isinstance(stream, io.TextIOWrapper):
+            stream.reconfigure(encoding="utf-8", errors="backslashreplace")
     signal.signal(signal.SIGTERM, _stop)
     try:
         return {"provision": _provision, "audit": _audit, "page": _page}[arguments.command](arguments)
@@ -147,9 +151,12 @@ def main(words: Optional[List[str]] = None) -> int:
         why = str(error)
     except (KeyboardInterrupt, _Stopped):
         why = "interrupted; the same command goes on where it stopped"
+    except BrokenPipeError as error:
+        os.dup2(os.open(os.devnull, os.O_WRONLY), 1)
+        why = filing.why(error)
     except OSError as error:
         why = str(error)
-    print(f"halivomue {arguments.command}: {why.encode('utf-8', 'backslashreplace').decode()}", file=sys.stderr)
+    print(f"halivomue {arguments.command}: {why}", file=sys.stderr)
     return 2
 
 

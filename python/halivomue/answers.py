@@ -20,7 +20,7 @@ _REASONS = {
     5: "record {}: the block ends without a terminator, or has one before its end",
     6: "record {}: the arm's table is not the one due, or the last default is missing",
     7: "record {} names a register, block, table or list that does not exist",
-    8: "the file has more than 480 registers or more than 480 instructions",
+    8: "the file has more than 480 registers or 480 instructions, the most that are shortened",
     9: "the buffer is too short for the shortened form",
 }
 

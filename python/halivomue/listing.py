@@ -3,25 +3,51 @@
 from __future__ import annotations
 
 from itertools import groupby
-from typing import TYPE_CHECKING, Iterator, List
+from typing import TYPE_CHECKING, Any, Iterator, List
 
 if TYPE_CHECKING:
     from .procedure import Instruction, Procedure, Table
 
-_CMP = {"Eq": "==", "Ne": "!=", "Lt": "<", "Le": "<=", "Gt": ">", "Ge": ">="}
-_BIN = {"Add": "+", "Sub": "-", "Mul": "*", "Div": "/", "Rem": "rem", "Mod": "mod", "Pow": "**"}
-_BOOL = {"And": "and", "Or": "or", "Xor": "xor"}
+_SIGNS = {
+    "Eq": "==", "Ne": "!=", "Lt": "<", "Le": "<=", "Gt": ">", "Ge": ">=", "And": "and", "Or": "or", "Xor": "xor",
+    "Add": "+", "Sub": "-", "Mul": "*", "Div": "/", "Rem": "rem", "Mod": "mod", "Pow": "**",
+}  # fmt: skip
 
-
-def _real(value: object) -> str:
-    if isinstance(value, int):
-        return f"NaN {value:016x}"
-    return repr(value)
-
-
-def _operands(p: "Procedure", at: object) -> str:
-    start, length = at  # type: ignore[misc]
-    return "(" + ", ".join(f"r{register}" for register in p.operands[start : start + length]) + ")"
+# How an instruction of a kind, or of a kind and an op, is shown.
+_FORMS = {
+    "Const": "{dst} = Const {v}",
+    "ConstF": "{dst} = ConstF {v}",
+    "Move": "{dst} = Move {src}",
+    "AddrOf": "{dst} = AddrOf {op} + {off}",
+    "AddrOf Up": "{dst} = AddrOf Up {space} + {off}",
+    "AddrOf Pkg": "{dst} = AddrOf Pkg {space} + {off}",
+    "AddrOf Const": "{dst} = AddrOf Const {space} + {off}",
+    "Select": "{dst} = Select {c} ? {a} : {b}",
+    "Cmp": "{dst} = Cmp {a} {sign} {b}",
+    "Bool": "{dst} = Bool {a} {sign} {b}",
+    "Bool Not": "{dst} = Bool not {a}",
+    "Bin": "{dst} = Bin {a} {sign} {b}",
+    "BinRange": "{dst} = BinRange {a} {sign} {b} within {lo}..{hi}, what {what}",
+    "Load": "{dst} = Load {op} [{addr}]",
+    "Store": "Store {op} [{addr}] = {src}",
+    "Check": "Check {op} {v}, {lo}, {hi}, what {what}",
+    "Check Length": "Check Length {v}, {lo}, what {what}",
+    "Check Null": "Check Null {v}, what {what}",
+    "MakeDope": "MakeDope at {at} {operands}",
+    "DopeLen": "{dst} = DopeLen {dope} dim {dim}",
+    "BoundsLen": "{dst} = BoundsLen {left} {right} {dir}",
+    "Alloc": "{dst} = Alloc {size}",
+    "TakeBounds": "{left}, {right}, {dir} = TakeBounds",
+    "CallNative": "CallNative {native} {operands}",
+    "CallNative dst": "{dst} = CallNative {native} {operands}",
+    "Br": "Br {to}",
+    "CondBr": "CondBr {c} ? {t} : {f}",
+    "Case": "Case {v} by {table}",
+    "Ret": "Ret",
+    "Ret v": "Ret {v}",
+    "Unreachable": "Unreachable {what}",
+    "Stmt": "Stmt",
+}
 
 
 def table_text(table: "Table") -> str:
@@ -33,61 +59,27 @@ def table_text(table: "Table") -> str:
     return "; ".join([*arms, f"else -> block {table.default}"])
 
 
+def _shown(p: "Procedure", sort: str, value: Any) -> str:
+    """A field's value."""
+    if sort in "+-":
+        return f"r{value}"
+    if sort == "block":
+        return f"block {value}"
+    if sort == "table":
+        return f"table {value}: " + (table_text(p.tables[value]) if value < len(p.tables) else "no such table")
+    if sort == "list":
+        start, length = value
+        return "(" + ", ".join(f"r{register}" for register in p.operands[start : start + length]) + ")"
+    if sort == "real":
+        return f"NaN {value:016x}" if isinstance(value, int) else repr(value)
+    return str(value)
+
+
 def text(p: "Procedure", i: "Instruction") -> str:
     """An instruction in one line, with names of kind and op, registers, targets and constants."""
-    get = dict((name, value) for name, _, value in i.fields)
-
-    def r(name: str) -> str:
-        return f"r{get[name]}"
-
-    kind = i.kind
-    if kind == "Const":
-        return f"{r('dst')} = Const {get['v']}"
-    if kind == "ConstF":
-        return f"{r('dst')} = ConstF {_real(get['v'])}"
-    if kind == "AddrOf":
-        number = f" {get['space']}" if "space" in get else ""
-        return f"{r('dst')} = AddrOf {i.op}{number} + {get['off']}"
-    if kind == "Select":
-        return f"{r('dst')} = Select {r('c')} ? {r('a')} : {r('b')}"
-    if kind == "Cmp":
-        return f"{r('dst')} = Cmp {r('a')} {_CMP[i.op]} {r('b')}"
-    if kind == "Bool":
-        return f"{r('dst')} = Bool " + (f"not {r('a')}" if i.op == "Not" else f"{r('a')} {_BOOL[i.op]} {r('b')}")
-    if kind in ("Bin", "BinRange"):
-        within = f" within {r('lo')}..{r('hi')}, what {get['what']}" if kind == "BinRange" else ""
-        return f"{r('dst')} = {kind} {r('a')} {_BIN[i.op]} {r('b')}{within}"
-    if kind == "Load":
-        return f"{r('dst')} = Load {i.op} [{r('addr')}]"
-    if kind == "Store":
-        return f"Store {i.op} [{r('addr')}] = {r('src')}"
-    if kind == "Check":
-        read = {"Null": ("v",), "Length": ("v", "lo")}.get(i.op, ("v", "lo", "hi"))
-        return f"Check {i.op} {', '.join(map(r, read))}, what {get['what']}"
-    if kind == "MakeDope":
-        return f"MakeDope at {r('at')} {_operands(p, get['operands'])}"
-    if kind == "DopeLen":
-        return f"{r('dst')} = DopeLen {r('dope')} dim {get['dim']}"
-    if kind == "TakeBounds":
-        return f"{r('left')}, {r('right')}, {r('dir')} = TakeBounds"
-    if kind == "CallNative":
-        into = f"{r('dst')} = " if "dst" in get else ""
-        return f"{into}CallNative {get['native']} {_operands(p, get['operands'])}"
-    if kind == "Br":
-        return f"Br block {get['to']}"
-    if kind == "CondBr":
-        return f"CondBr {r('c')} ? block {get['t']} : block {get['f']}"
-    if kind == "Case":
-        number = get["table"]
-        named = table_text(p.tables[number]) if number < len(p.tables) else "no such table"  # type: ignore
-        return f"Case {r('v')} by table {number}: {named}"
-    if kind == "Ret":
-        return "Ret" + (f" {r('v')}" if "v" in get else "")
-    if kind == "Unreachable":
-        return f"Unreachable {get['what']}"
-    reads = " ".join(f"r{value}" for _, sort, value in i.fields if sort == "-")
-    writes = "".join(f"r{value} = " for _, sort, value in i.fields if sort == "+")
-    return f"{writes}{kind} {reads}".rstrip()
+    form = _FORMS.get(f"{i.kind} {i.op}") or _FORMS[i.kind]
+    fields = {name: _shown(p, sort, value) for name, sort, value in i.fields}
+    return form.format(op=i.op, sign=_SIGNS.get(i.op, ""), **fields)
 
 
 def _registers(p: "Procedure") -> Iterator[str]:

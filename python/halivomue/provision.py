@@ -23,6 +23,10 @@ _sha256 = hashlib.sha256
 FILE, TOLD, GONE = range(3)
 
 
+#: Files that are flushed before their rows are written.
+_FLUSHED = 8
+
+
 class Task(NamedTuple):
     how: int
     name: bytes
@@ -43,6 +47,7 @@ class Options(NamedTuple):
     dry_run: bool = False
     flush: bool = True
     json: bool = False
+    resumed: bool = False
 
 
 class Done(NamedTuple):
@@ -105,6 +110,7 @@ class Filer:
     def __init__(self, options: Options, number: int) -> None:
         self.sent, self.filed = options.sent + b"/", options.filed + b"/"
         self.strict, self.dry_run, self.flush = options.strict, options.dry_run, options.flush
+        self.resumed = options.resumed
         self.temporary = b"/%s.%d.sent.tmp" % (names.OWN, number), b"/%s.%d.short.tmp" % (names.OWN, number)
         self.folder: Optional[bytes] = None
         self.folders: Set[bytes] = set()
@@ -151,12 +157,13 @@ class Filer:
         if self.strict and not tidiness.tidy:
             why = untidy_reason(tidiness.reg) + " (--strict)"
             return self.unfiled(task.name, Row(name, "refused", reason=why)), False
-        if not self.dry_run:
+        now = not (self.resumed and self.there(task.name, sent, short))
+        if now and not self.dry_run:
             try:
                 self.put(task.name, sent, short)
             except Unreadable as error:
                 return self.unfiled(task.name, Row(name, "unreadable", reason=str(error))), False
-        return described(name, "accepted", "yes", sent, short, shortening, tidiness), True
+        return described(name, "accepted", "yes", sent, short, shortening, tidiness), now
 
     def stands(self, name: bytes, sent: bytes, earlier: Row) -> bool:
         """Was this file filed before, and are both forms still there as they were filed?"""
@@ -171,6 +178,14 @@ class Filer:
                 and filing.read_if_there(self.filed + name) == sent
                 and _sha256(short).hexdigest() == earlier.sha256_short
             )
+        except Unreadable:
+            return False
+
+    def there(self, name: bytes, sent: bytes, short: bytes) -> bool:
+        """Did an interrupted run file both forms, and not come to write their row?"""
+        try:
+            path = self.filed + name
+            return filing.read_if_there(path) == sent and filing.read_if_there(path + names.SHORT) == short
         except Unreadable:
             return False
 
@@ -286,43 +301,45 @@ class State:
     def __init__(self, filed: bytes) -> None:
         own = os.path.join(filed, names.OWN)
         self.filed = filed
-        self.part = os.path.join(own, b"part.csv")
+        self.part, self.part_json = os.path.join(own, b"part.csv"), os.path.join(own, b"part.jsonl")
         self.before = os.path.join(own, b"before.csv")
         self.report = os.path.join(filed, names.REPORT)
         self.report_json = os.path.join(filed, names.REPORT_JSON)
 
-    def earlier(self) -> Iterator[Tuple[bytes, Row, bool]]:
-        """What is known from earlier: a name's key, its row, and whether the row is believed."""
+    def earlier(self, *parts: bytes) -> Iterator[Tuple[bytes, Row, bool]]:
+        """What is known from these parts and the last whole report: a name's key, its row, and
+        whether the row is believed."""
         sound = report.sound(self.report)
-        for at, source, row in report.merged(self.part, self.before, self.report):
-            yield at, row, sound or source < 2
+        for at, source, row in report.merged(*parts, self.report):
+            yield at, row, sound or source < len(parts)
 
-    def take_up(self) -> None:
-        """Cleans up after a run that was interrupted."""
+    def take_up(self) -> bool:
+        """Was a run interrupted? Then it cleans up after it."""
         if not os.path.exists(self.part) and not os.path.exists(self.before):
-            return
+            return False
         temporary = self.before + b".tmp"
         with open(temporary, "w", encoding="utf-8", newline="\n") as out:
             out.write(report.HEADER + "\n")
             for _, _, row in report.merged(self.part, self.before):
                 out.write(report.csv_line(row))
         os.replace(temporary, self.before)
+        filing.remove(self.part_json)
         filing.remove(self.part)
         pattern = re.compile(re.escape(names.OWN) + rb"\.\d+\.(sent|short)\.tmp")
         for entry in names.walk(self.filed):
             if pattern.fullmatch(os.path.basename(entry.name)):
                 filing.remove(os.path.join(self.filed, entry.name))
+        return True
 
     def end(self, flush: bool, json: bool) -> None:
         """Puts the finished report in its place."""
         if json or os.path.exists(self.report_json):
-            temporary = self.part + b".json"
-            with open(temporary, "w", encoding="utf-8", newline="\n") as out:
+            with open(self.part_json, "w", encoding="utf-8", newline="\n") as out:
                 report.write_json(self.part, out)
                 out.flush()
                 if flush:
                     os.fsync(out.fileno())
-            os.replace(temporary, self.report_json)
+            os.replace(self.part_json, self.report_json)
         if flush:
             with open(self.part, "rb") as file:
                 os.fsync(file.fileno())
@@ -389,7 +406,7 @@ def _chunks(options: Options, walk: Walk) -> Iterator[Done]:
     def make(number: int) -> work.Worker:
         return Filer(options, number).chunk
 
-    return work.ordered(walk, make, options.jobs, task_size)
+    return work.ordered(walk, make, options.jobs, task_size, _FLUSHED if options.flush else work.CHUNK)
 
 
 def _count(options: Options) -> int:
@@ -398,9 +415,9 @@ def _count(options: Options) -> int:
     return sum(1 for _ in walk)
 
 
-def _take(options: Options, state: State, out: IO[str], say: Callable[[str], None]) -> Outcome:
+def _take(options: Options, walk: Walk, out: IO[str], say: Callable[[str], None]) -> Outcome:
     """Does all the tasks, with a row of the report for each."""
-    walk, totals, now = Walk(options, state.earlier()), report.Totals(), 0
+    totals, now = report.Totals(), 0
     out.write(report.HEADER + "\n")
     with Progress(sys.stderr, lambda: _count(options)) as progress:
         for done in _chunks(options, walk):
@@ -424,16 +441,16 @@ def provision(options: Options, say: Callable[[str], None]) -> Outcome:
     _library.functions()
     state = State(options.filed)
     if options.dry_run:
-        return _take(options, state, sys.stdout, say)
+        return _take(options, Walk(options, state.earlier(state.part, state.before)), sys.stdout, say)
     try:
         os.makedirs(os.path.join(options.filed, names.OWN), exist_ok=True)
     except OSError as error:
         raise Failed(f"{os.fsdecode(options.filed)}: {filing.why(error)}") from error
     lock = Lock(options.filed, shared=False)
     try:
-        state.take_up()
+        options = options._replace(resumed=state.take_up())
         with open(state.part, "w", encoding="utf-8", newline="\n") as out:
-            outcome = _take(options, state, out, say)
+            outcome = _take(options, Walk(options, state.earlier(state.before)), out, say)
         state.end(options.flush, options.json)
         lock.release(empty=True)
         return outcome

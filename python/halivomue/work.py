@@ -31,13 +31,14 @@ def default_jobs() -> int:
     return len(os.sched_getaffinity(0)) if hasattr(os, "sched_getaffinity") else os.cpu_count() or 1
 
 
-def chunks(tasks: Iterable[Any], size: Callable[[Any], int]) -> Iterator[List[Any]]:
+def chunks(tasks: Iterable[Any], size: Callable[[Any], int], most: int) -> Iterator[List[Any]]:
+    """Tasks by at most so many, and not too large."""
     chunk: List[Any] = []
     held = 0
     for task in tasks:
         chunk.append(task)
         held += size(task)
-        if len(chunk) == CHUNK or held > _CHUNK_BYTES:
+        if len(chunk) == most or held > _CHUNK_BYTES:
             yield chunk
             chunk, held = [], 0
     if chunk:
@@ -83,12 +84,12 @@ def _received(link: Any) -> List[Any]:
 
 
 def ordered(
-    tasks: Iterable[Any], make: Callable[[int], Worker], jobs: int, size: Callable[[Any], int]
-) -> Iterator[List[Any]]:
+    tasks: Iterable[Any], make: Callable[[int], Worker], jobs: int, size: Callable[[Any], int], most: int = CHUNK
+) -> Iterator[Any]:
     """The results of the tasks, chunk by chunk, in order."""
     if jobs == 1:
         work = make(0)
-        for chunk in chunks(tasks, size):
+        for chunk in chunks(tasks, size, most):
             yield work(chunk)
         return
     context = multiprocessing.get_context("fork")
@@ -102,7 +103,7 @@ def ordered(
             there.close()
             started.append((process, here))
         waiting: Deque[Any] = deque()
-        for turn, chunk in enumerate(chunks(tasks, size)):
+        for turn, chunk in enumerate(chunks(tasks, size, most)):
             link = started[turn % jobs][1]
             if len(waiting) == jobs * _UNDER_WAY:
                 yield _received(waiting.popleft())

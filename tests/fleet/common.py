@@ -9,11 +9,12 @@ import subprocess
 import sys
 import tempfile
 import unittest
+import warnings
 
 HERE = pathlib.Path(__file__).resolve().parent
 ROOT = HERE.parent.parent
 SAMPLES = ROOT / "samples"
-PROGRAM = ROOT / "target" / "bin" / "halivomue"
+PROGRAM = pathlib.Path(os.environ.get("HALIVOMUE_PROGRAM", ROOT / "target" / "bin" / "halivomue"))
 REFERENCE = ROOT / "build" / "reference" / "release" / "reference"
 sys.dont_write_bytecode = True
 sys.path[:0] = [str(HERE), str(ROOT / "python"), str(ROOT / "tests" / "vectors"), str(ROOT / "tests" / "reference")]
@@ -109,6 +110,7 @@ def in_child(work):
     child = os.fork()
     if child == 0:
         status = 70
+        warnings.simplefilter("ignore")
         try:
             status = work() or 0
         except BaseException:

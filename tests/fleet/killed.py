@@ -130,7 +130,13 @@ class Trial:
         found = {}
 
         def work():
-            outcome, _ = provision_here(self.sent, filed, json=True, **options)
+            there = os.path.exists(os.path.join(filed, "report.jsonl"))
+            outcome, _ = provision_here(self.sent, filed, json=there, **options)
+            left = set(tree(filed)) - set(self.due)
+            if left:
+                raise AssertionError(f"left over: {left}")
+            if not there:
+                provision_here(self.sent, filed, json=True, **options)
             with open(os.path.join(self.folder, "kept"), "w") as out:
                 out.write(f"{outcome.kept}")
 

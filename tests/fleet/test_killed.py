@@ -53,13 +53,14 @@ class Killed(Case):
         trial = self.make(60)
         filed, calls = trial.fresh(), trial.calls()
         trial.kill_at(filed, calls * 3 // 4, "before", jobs=1)
-        part = sum(name.endswith(b".short") for name in tree(filed))
+        there = tree(filed)
+        part = sum(name.endswith(b".short") and name[: -len(b".short")] in there for name in there)
         self.assertGreater(part, 20)
         for at in (40, 60, 100):
             trial.kill_at(filed, at, "before", jobs=1)
         differs, kept = trial.taken_up(filed)
         self.assertEqual(differs, [])
-        self.assertGreaterEqual(kept, part - 33)
+        self.assertGreaterEqual(kept, part)
 
 
 if __name__ == "__main__":

@@ -119,6 +119,14 @@ class Stored(unittest.TestCase):
                 self.assertEqual(re.search(r"\((.*)\)", said)[1], halivomue.read(data).reason)
         self.assertEqual({number for number, _ in told}, set(range(1, 8)))
 
+    def test_words_of_8_are_the_programs(self):
+        """Where the program lists."""
+        data = bytes(halivomue.Procedure(["I64"] * 481, [[halivomue.instruction("Ret")]]))
+        said = subprocess.run([PROGRAM, "list", "--words"], input=data, capture_output=True, check=False).stdout.decode()
+        if not said.startswith("refused"):
+            self.skipTest("the program has no list yet")
+        self.assertEqual(said, f"{Refused(8)}\n")
+
 
 class Types(Case):
     """Every type of bytes, without a copy; other types are refused."""

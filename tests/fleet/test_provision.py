@@ -237,8 +237,14 @@ class Odd(Case):
         run("audit", self.filed)
         outcome, _ = provision_here(self.sent, self.filed)
         self.assertEqual(outcome.kept, len(self.NAMES))
-        run("provision", "--json", self.sent, self.filed + "C", env={"LC_ALL": "C", "PYTHONUTF8": "0", "PYTHONCOERCECLOCALE": "0"})
+        plain = {"LC_ALL": "C", "PYTHONUTF8": "0", "PYTHONCOERCECLOCALE": "0"}
+        run("provision", "--json", self.sent, self.filed + "C", env=plain)
         self.assertEqual(tree(self.filed + "C"), tree(self.filed))
+        for name in self.NAMES:
+            self.put(name, sample("refused"))
+        out, _ = run("provision", self.sent, self.filed + "C", env=plain, status=1)
+        self.assertEqual(len(out.splitlines()), len(self.NAMES) + 3)
+        self.assertIn("größe-電話.call: refused 7 9", out)
 
     def test_quoting_can_be_undone(self):
         for name in (*self.NAMES, bytes(range(1, 256)).replace(b"/", b""), "\u0085\u00a0".encode(), b"\xed\xa0\x80", b"\\", b"\\x", b"\\\\x00"):
@@ -708,6 +714,15 @@ class Terminal(Case):
                               env=dict(os.environ, PYTHONPATH=str(ROOT / "python")), check=False)
         self.assertEqual(done.stderr, b"")
         self.assertNotIn(b"\r", done.stdout)
+
+    def test_nobody_reads_the_dry_run(self):
+        fleet.write(self.sent, 40, 40)
+        words = [sys.executable, "-m", "halivomue", "provision", "--dry-run", self.sent, self.filed]
+        process = subprocess.Popen(words, stdout=subprocess.PIPE, stderr=subprocess.PIPE, env=dict(os.environ, PYTHONPATH=str(ROOT / "python")))
+        process.stdout.close()
+        said = process.stderr.read().decode()
+        process.stderr.close()
+        self.assertEqual((process.wait(), said.splitlines()[-1]), (2, "halivomue provision: Broken pipe"))
 
     def test_nobody_reads_the_output(self):
         """The run goes on where its output is closed."""
