@@ -46,10 +46,11 @@ returns c =
 returns-2 : tie.Need-returns-2
 returns-2 c =
     let r = c .before .before .before .before .before .args .r .0 in
-    let g = c .before .before .before .i2 .given .0 in
-    (two-reads r (g .1 .1 .0 .0) (g .1 .1 .1 .0 .0) (c .before .read-once2 .ensures .0) (c .read-once3 .ensures .0)
-    ∙ sym (ap (λ (x : Inst). times r (usesOf x)) (c .before .before .before .i2 .given .1)),
-    omega (arith, c .before .read-once2 .ensures .1, c .read-once3 .ensures .1))
+    let g = c .before .before .before .i2 .given .0 in (
+      two-reads r (g .1 .1 .0 .0) (g .1 .1 .1 .0 .0) (c .before .read-once2 .ensures .0) (c .read-once3 .ensures .0)
+          ∙ sym (ap (λ (x : Inst). times r (usesOf x)) (c .before .before .before .i2 .given .1)),
+      omega (arith, c .before .read-once2 .ensures .1, c .read-once3 .ensures .1),
+    )
 
 returns-3 : tie.Need-returns-3
 unfolding times
