@@ -129,3 +129,7 @@ four-all (w ∷ []) h = absurd (omega arith)
 four-all (w ∷ x ∷ []) h = absurd (omega arith)
 four-all (w ∷ x ∷ y ∷ []) h = absurd (omega arith)
 four-all (w ∷ x ∷ y ∷ z ∷ c) h = refl
+
+pub two-reads : (r a b : ℕ) {y z : ℕ} → y ≡ times r (a ∷ []) → z ≡ times r (b ∷ []) → y + z ≡ times r (a ∷ b ∷ [])
+unfolding times
+two-reads r a b e f = omega (arith, e, f)

@@ -1,4 +1,5 @@
 ghost use mathlib.Core.Path.{_≡_};
+ghost use mathlib.Core.List.{[], _∷_};
 ghost use mathlib.Core.Option.{Option};
 ghost use Prim.Native.Nat.{ℕ, _≤_, _<_};
 ghost use lib.ListN.{take, drop};
@@ -47,12 +48,39 @@ fn reads_in(reg: [Reg; 5], a: usize, e: usize, r: Reg) -> u64
     n
 }
 
-fn reads_of(i: Inst, r: Reg) -> u64
+fn reads_by_roles(i: Inst, r: Reg) -> u64
     ensures { λ z. ⌜ (z ≡ times (r .0) (usesOf i)) × (z ≤ 5) ⌝ }
 {
     let q = roles::roles_of(i);
     let reg = q.reg;
     reads_in(reg, q.defs, q.n, r)
+}
+
+fn read_once(x: Reg, r: Reg) -> u64
+    ensures { λ z. ⌜ (z ≡ times (r .0) (x .0 ∷ [])) × (z ≤ 1) ⌝ }
+{
+    if r.0 == x.0 {
+        return 1;
+    }
+    0
+}
+
+// How often an instruction reads r: those that most copies have by their fields.
+fn reads_of(i: Inst, r: Reg) -> u64
+    ensures { λ z. ⌜ (z ≡ times (r .0) (usesOf i)) × (z ≤ 5) ⌝ }
+{
+    match i {
+        Inst::Move { dst: _, src } => read_once(src, r),
+        Inst::Cmp {
+            op: _,
+            dst: _,
+            a,
+            b,
+        } => read_once(a, r) + read_once(b, r),
+        Inst::Br { to: _ } => 0,
+        Inst::CondBr { c, t: _, f: _ } => read_once(c, r),
+        _ => reads_by_roles(i, r),
+    }
 }
 
 // The reads of a register in the first n instructions.

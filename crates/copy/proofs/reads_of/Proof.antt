@@ -1,31 +1,87 @@
-use mathlib.Core.Path.{_≡_, ap, _∙_}
 use native.Mathlib.Omega.{arith}
-use borrow.Author.Needs.{needs}
-use lib.ListN.{take, drop}
-use Rattle.roles.specs.declared.Roles.{Roles}
-use Rattle.roles.specs.Roles.{usesOf, numbersOf}
-use Rattle.roles.proofs.Laws.{n-few, uses-next}
+use mathlib.Core.Path.{sym, ap, _∙_}
+use Rattle.inst.specs.declared.Inst.{Inst}
+use Rattle.roles.specs.Roles.{usesOf}
 use Rattle.procedure.specs.Lists.{times}
-use Rattle.copy.proofs.Laws.{reads-few}
+use Rattle.copy.proofs.Laws.{two-reads}
+use borrow.Author.Needs.{needs}
 use Rattle.copy.proofs.reads_of.Statement.{statement}
 use Rattle.copy.proofs.reads_of.Tie as tie
 
-roles-of-requires : tie.Need-roles-of-requires
-roles-of-requires c κs = search needs
+enum-known-i : tie.Need-enum-known-i
+enum-known-i c = search needs
 
-reads-in-requires : tie.Need-reads-in-requires
-reads-in-requires c κs = let q = c .before .roles-of in rw (q .ensures) (n-few (c .before .before .args .i))
+read-once-requires : tie.Need-read-once-requires
+read-once-requires c κs = search needs
+
+enum-known-i-2 : tie.Need-enum-known-i-2
+enum-known-i-2 c = search needs
+
+read-once-requires-2 : tie.Need-read-once-requires-2
+read-once-requires-2 c κs = search needs
+
+read-once-requires-3 : tie.Need-read-once-requires-3
+read-once-requires-3 c κs = search needs
+
+add-result : tie.Need-add-result
+add-result c = search needs
+
+enum-told : tie.Need-enum-told
+enum-told c = search needs
+
+enum-known-i-3 : tie.Need-enum-known-i-3
+enum-known-i-3 c = search needs
+
+read-once-requires-4 : tie.Need-read-once-requires-4
+read-once-requires-4 c κs = search needs
+
+reads-by-roles-requires : tie.Need-reads-by-roles-requires
+reads-by-roles-requires c κs = search needs
 
 returns : tie.Need-returns
 returns c =
-    let q = c .before .before .roles-of in
-    let a = c .before .before .before .args in
-    let r = a .r .0 in
-    let e : c .reads-in .result ≡ times r (usesOf (a .i)) =
-    c .reads-in .ensures
-    ∙ ap (λ (p : Roles). times r (drop (p .defs) (take (p .n) (numbersOf (p .reg))))) (q .ensures)
-    ∙ ap (times r) (uses-next (a .i)) in
-    (e, omega (arith, reads-few r (a .i)))
+    let r = c .before .before .before .before .args .r .0 in
+    (c .read-once .ensures .0 ∙ sym (ap (λ (x : Inst). times r (usesOf x)) (c .before .before .i .given .1)), omega (arith, c .read-once .ensures .1))
+
+returns-2 : tie.Need-returns-2
+returns-2 c =
+    let r = c .before .before .before .before .before .args .r .0 in
+    let g = c .before .before .before .i2 .given .0 in (
+      two-reads r (g .1 .1 .0 .0) (g .1 .1 .1 .0 .0) (c .before .read-once2 .ensures .0) (c .read-once3 .ensures .0)
+          ∙ sym (ap (λ (x : Inst). times r (usesOf x)) (c .before .before .before .i2 .given .1)),
+      omega (arith, c .before .read-once2 .ensures .1, c .read-once3 .ensures .1),
+    )
+
+returns-3 : tie.Need-returns-3
+unfolding times
+returns-3 c =
+    let r = c .before .before .args .r .0 in
+    (sym (ap (λ (x : Inst). times r (usesOf x)) (c .enum-told .given .1)), omega arith)
+
+returns-4 : tie.Need-returns-4
+returns-4 c =
+    let r = c .before .before .before .before .args .r .0 in
+    (c .read-once4 .ensures .0 ∙ sym (ap (λ (x : Inst). times r (usesOf x)) (c .before .before .i3 .given .1)), omega (arith, c .read-once4 .ensures .1))
+
+returns-5 : tie.Need-returns-5
+returns-5 c = search needs
 
 pub reads-of-spec : {M : Type 1} → statement M
-reads-of-spec = tie.close (tie.spec roles-of-requires reads-in-requires returns)
+reads-of-spec =
+    tie.close
+    (tie.spec
+    enum-known-i
+    read-once-requires
+    enum-known-i-2
+    read-once-requires-2
+    read-once-requires-3
+    add-result
+    enum-told
+    enum-known-i-3
+    read-once-requires-4
+    reads-by-roles-requires
+    returns
+    returns-2
+    returns-3
+    returns-4
+    returns-5)

@@ -15,7 +15,8 @@ end-in-requires c κs = search needs
 
 returns : tie.Need-returns
 returns c = let b = now (c .before .before .before .before .args .code) in
-    c .end-in .ensures ∙ ap viewOf (inst-there b 0 (c .before .record-at .ensures)) ∙ sym (lone-one (codesOf b) (length-codes b ∙ c .before .before .if1 .taken))
+    c .end-in .ensures ∙ ap viewOf (inst-there b 0 (c .before .record-at .ensures))
+    ∙ sym (lone-one (codesOf b) (length-codes b ∙ c .before .before .if1 .taken))
 
 returns-2 : tie.Need-returns-2
 returns-2 c = let b = now (c .before .before .args .code) in sym (lone-none (codesOf b) (λ e. c .if1 .left (sym (length-codes b) ∙ e)))
