@@ -1,10 +1,9 @@
 -- Where no step does anything, the definition's `run` leaves a file as it is.
-use Prim.Native.Nat.{ℕ, _/_, _<_}
 use native.Mathlib.Omega.{arith}
 use mathlib.Core.Path.{_≡_, refl, sym, ap, _∙_}
 use mathlib.Core.Bool.{Bool, true, false, _&&_}
 use mathlib.Core.List.{List}
-use mathlib.Core.Logic.{_⊎_, inl, inr}
+use mathlib.Core.Logic.{inl, inr}
 use borrow.Author.Tests.{lt-ltb}
 use lib.Dec.{ltb}
 use lib.ListN.{length}
@@ -14,7 +13,7 @@ use Rattle.procedure.specs.Lists.{joined, present}
 use Rattle.steps.specs.EqualArms.{Arms, equalArms}
 use Rattle.steps.specs.Gate.{hasBackEdge, mayThread}
 use Rattle.steps.specs.Run.{unchanged, withArms, threadIf, fromArms, runIf, run}
-use Rattle.arms.specs.Joined.{Joined, joined as joinedTo, armsOf, equalArmsIn}
+use Rattle.arms.specs.Joined.{joined as joinedTo, armsOf, equalArmsIn}
 use Rattle.arms.proofs.Arms.{tiled-arms}
 use Rattle.opened.specs.Opened.{Parts, Opened}
 use Rattle.run.specs.Ran.{opensIn, Stays}

@@ -1,21 +1,18 @@
 -- The storage's equation, by what each call leaves.
-use Prim.Native.Nat.{ℕ, _*_, _/_, _<_, _≤_, min}
-use native.Mathlib.Omega.{arith}
+use Prim.Native.Nat.{ℕ, _*_, _/_, min}
 use mathlib.Core.Path.{_≡_, refl, sym, ap, _∙_}
-use mathlib.Core.Bool.{Bool, true, false}
+use mathlib.Core.Bool.{Bool, false}
 use mathlib.Core.List.{List, map}
 use mathlib.Core.Option.{Option}
 use lib.ListN.{length, take}
 use Rattle.format.specs.Record.{recordsOf}
 use Rattle.layout.specs.declared.Layout.{Layout}
 use Rattle.procedure.specs.Procedure.{firstOf}
-use Rattle.steps.specs.declared.Answer.{Answer}
 use Rattle.steps.specs.Shorten.{Outcome}
-use Rattle.classes.specs.Parts.{partOf}
 use Rattle.opened.specs.Opened.{Parts, partsOf}
 use Rattle.run.specs.Ran.{Left, left, ranIn, Stays}
-use Rattle.output.specs.Filed.{outcome, filed, counts, sameRecords, short, emittedIn}
-use Rattle.shortening.specs.Storage.{fronted, Lent, lent, StaysIn, sentIn, leftIn, writtenIf, writtenIn, shortIn}
+use Rattle.output.specs.Filed.{filed, counts, sameRecords, short, emittedIn}
+use Rattle.shortening.specs.Storage.{fronted, Lent, StaysIn, sentIn, leftIn, writtenIf, writtenIn, shortIn}
 
 -- the way that is gone
 module _ (x : Parts) (l : Left) {o : Outcome} (out : List ℕ) {edited : Bool} (e : edited ≡ l .store .at .edited) where
