@@ -38,7 +38,7 @@ class Outcome:
 
     def text(self) -> str:
         told = ", ".join(f"{count} {kind}" for kind, count in self.kinds.items() if count)
-        return f"{self.compared} files compared: {told or 'all as filed'}"
+        return f"{report.counted(self.compared)} compared: {told or 'all as filed'}"
 
 
 def _form(path: bytes, what: str, found: List[str]) -> Optional[bytes]:
