@@ -737,7 +737,7 @@ class Terminal(Case):
         self.assertTrue(os.path.exists(os.path.join(self.filed, "report.csv")))
 
     def test_stopped_by_a_signal(self):
-        fleet.write(self.sent, 400, 40)
+        fleet.write(self.sent, 2500, 40)
         run("provision", "--no-flush", self.sent, self.filed + "2", status=1)
         for number in (signal.SIGINT, signal.SIGTERM):
             filed = self.filed + str(int(number))

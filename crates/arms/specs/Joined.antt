@@ -13,6 +13,8 @@ use Rattle.ends.specs.Ends.{endOf}
 use Rattle.blocks.specs.Blocks.{blocksOf}
 use Rattle.blocks.specs.Rewrite.{endRewritten}
 use Rattle.steps.specs.EqualArms.{Arms, reachedFrom}
+use Rattle.arms.specs.declared.Meeting.{Meeting}
+use Rattle.arms.specs.declared.Meeting.the-variants as m
 
 -- the code's bytes, and whether some CondBr was written over
 pub record Joined : Type 0 where
@@ -41,6 +43,11 @@ module _ (table : List ℕ) where
       joinIf (eqb to (reachedFrom (blocksOf (s .code) table) (f .0))) k to s
   joinEnd (e.Case n) k s = s
   joinEnd e.Other k s = s
+
+  -- the same, once it is known where the arms meet
+  abbrev pub joinMet : Meeting → ℕ → Joined → Joined
+  joinMet (m.At to) k s = joined (endRewritten (s .code) (recordAt table k) (i.Br to)) true
+  joinMet m.Apart k s = s
 
   -- block k
   unfoldable pub joinArms : ℕ → Joined → Joined

@@ -1,8 +1,9 @@
 ghost use mathlib.Core.Path.{_≡_};
+ghost use mathlib.Core.Bool.{Bool, true, false};
 ghost use Rattle.codec.specs.Codec.{blockOf};
 ghost use Rattle.steps.specs.EqualArms as steps;
 ghost use Rattle.blocks.specs.Blocks.{blocksOf};
-ghost use Rattle.arms.specs.Joined.{joined, joinArms, equalArmsIn};
+ghost use Rattle.arms.specs.Joined.{joined, joinMet, joinArms, equalArmsIn};
 use ends::End;
 use inst::BlockId;
 use inst::Inst;
@@ -32,24 +33,44 @@ fn follow(code: &[u8], table: &[u8], b: BlockId) -> BlockId
     at
 }
 
-// Joins the arms of block k where both reach one block; true where they did, or an earlier block's had.
-fn join_arms(code: &mut [u8], table: &[u8], k: usize, edited: bool) -> bool
-    ensures { λ z. ⌜ joined (now (code .exit)) z ≡ joinArms (now (table .entry)) k (joined (now (code .entry)) edited) ⌝ }
+// The block that both arms of a block's CondBr reach, if they reach one.
+pub enum Meeting {
+    At(BlockId),
+    Apart,
+}
+
+// Where the arms of block k meet.
+fn meet(code: &[u8], table: &[u8], k: usize) -> Meeting
+    ensures { λ m. ⌜ ((edited : Bool) → joinMet (now (table .entry)) m k (joined (now (code .entry)) edited)
+        ≡ joinArms (now (table .entry)) k (joined (now (code .entry)) edited)) ⌝ }
 {
     let e = ends::end_of(blocks::block(code, table, k));
     match e {
-        End::Br(_) => edited,
+        End::Br(_) => Meeting::Apart,
         End::CondBr(_, t, f) => {
             let to = follow(code, table, t);
             let other = follow(code, table, f);
             if to.0 != other.0 {
-                return edited;
+                return Meeting::Apart;
             }
+            Meeting::At(to)
+        }
+        End::Case(_) => Meeting::Apart,
+        End::Other => Meeting::Apart,
+    }
+}
+
+// Joins the arms of block k where both reach one block; true where they did, or an earlier block's had.
+fn join_arms(code: &mut [u8], table: &[u8], k: usize, edited: bool) -> bool
+    ensures { λ z. ⌜ joined (now (code .exit)) z ≡ joinArms (now (table .entry)) k (joined (now (code .entry)) edited) ⌝ }
+{
+    let m = meet(code, table, k);
+    match m {
+        Meeting::At(to) => {
             blocks::rewrite_end(code, table, k, Inst::Br { to });
             true
         }
-        End::Case(_) => edited,
-        End::Other => edited,
+        Meeting::Apart => edited,
     }
 }
 
@@ -65,4 +86,20 @@ pub fn equal_arms(code: &mut [u8], table: &[u8]) -> bool
         k += 1;
     }
     edited
+}
+
+// No block's arms meet, so that `equal_arms` would leave the code as it is.
+pub fn none_meet(code: &[u8], table: &[u8]) -> bool
+    ensures { λ z. ⌜ (z ≡ true → equalArmsIn (now (table .entry)) (now (code .entry)) ≡ joined (now (code .entry)) false) ⌝ }
+{
+    let n = table.len() / 32;
+    let mut k = 0;
+    while k < n {
+        let m = meet(code, table, k);
+        if let Meeting::At(_) = m {
+            return false;
+        }
+        k += 1;
+    }
+    true
 }

@@ -4,15 +4,20 @@ use native.Mathlib.Omega.{arith}
 use mathlib.Core.Path.{_≡_, refl, sym, ap, _∙_}
 use mathlib.Core.Bool.{Bool, true, false, _||_, true≢false}
 use mathlib.Core.List.{List, [], _∷_, map}
+use mathlib.Core.Logic.{_⊎_, inl, inr}
 use lib.Dec.{eqb}
 use lib.ListN.{length, getD, length-map, List·getD-map}
+use borrow.Author.Tests.{ne-eqb}
+use Rattle.general.proofs.Numbers.{Below, below, order}
+use Rattle.format.specs.declared.Record.{Record}
 use Rattle.format.specs.Record.{recordsOf, recordAt, blank}
 use Rattle.format.proofs.Laws.{length-records}
 use Rattle.inst.specs.declared.Code.{Code}
 use Rattle.inst.specs.declared.Inst.{Inst}
 use Rattle.inst.specs.declared.Inst.the-variants as i
 use Rattle.inst.specs.Inst.{kindOf}
-use Rattle.codec.specs.Codec.{codeOf}
+use Rattle.codec.specs.Codec.{instsOf, instOf, codeOf}
+use Rattle.codec.proofs.Table.{inst-at, inst-past}
 use Rattle.procedure.specs.Procedure.{codesOf}
 use Rattle.ends.specs.declared.End.the-variants as v
 use Rattle.ends.specs.Forms.{formOf}
@@ -24,6 +29,10 @@ length-codes b = length-map (recordsOf b) codeOf ∙ length-records b
 
 pub code-at : (b : List ℕ) (k : ℕ) → codeAt (codesOf b) k ≡ codeOf (recordAt b k)
 code-at b k = List·getD-map codeOf (recordsOf b) k blank
+
+-- the instruction of the record at a place
+pub inst-there : (b : List ℕ) (k : ℕ) {r : Record} → r ≡ recordAt b k → instOf r ≡ codeAt (codesOf b) k .inst
+inst-there b k e = ap instOf e ∙ sym (ap (λ (x : Code). x .inst) (code-at b k))
 
 -- Br, CondBr and Case
 abbrev pub branchKind : ℕ → Bool
@@ -55,6 +64,34 @@ other-view (i.Case v t) q = absurd (true≢false q)
 other-view (i.Ret v) q = refl
 other-view (i.Unreachable w) q = refl
 other-view i.Stmt q = refl
+
+abbrev Own : Record → ℕ → Type 0
+Own r k = kindOf (getD (instsOf r) k i.Stmt) ≡ k
+
+own-12 : (r : Record) → Below (Own r) 12
+own-12 r = ((((((((((((tt, refl), refl), refl), refl), refl), refl), refl), refl), refl), refl), refl), refl)
+
+own : (r : Record) → Below (Own r) 23
+own r = (((((((((((own-12 r, refl), refl), refl), refl), refl), refl), refl), refl), refl), refl), refl)
+
+-- a test of an instruction's kind is one of its record's, if the kinds past the last pass it as a Stmt does
+pub same-kind : (p : ℕ → Bool) → ((k : ℕ) → 23 ≤ k → p k ≡ p 23) → (r : Record) → p (kindOf (instOf r)) ≡ p (r .kind)
+unfolding instOf
+same-kind p past r = go (order (r .kind) 23)
+  where
+    go : (r .kind < 23) ⊎ (23 ≤ r .kind) → p (kindOf (instOf r)) ≡ p (r .kind)
+    go (inl h) = ap p (below (Own r) 23 (own r) (r .kind) h)
+    go (inr h) = ap (λ (x : Inst). p (kindOf x)) (sym (inst-past r h)) ∙ sym (past (r .kind) h)
+
+branch-past : (k : ℕ) → 23 ≤ k → branchKind k ≡ branchKind 23
+branch-past k h = rw (ne-eqb k 18 (omega arith), ne-eqb k 19 (omega arith), ne-eqb k 20 (omega arith))
+
+pub other-record : (r : Record) → branchKind (r .kind) ≡ false → viewOf (instOf r) ≡ v.Other
+other-record r h = other-view (instOf r) (same-kind branchKind branch-past r ∙ h)
+
+-- the view of what the table has at a record's kind
+pub view-kind : (r : Record) (k : ℕ) → r .kind ≡ k → viewOf (getD (instsOf r) k i.Stmt) ≡ viewOf (instOf r)
+view-kind r k e = ap viewOf (inst-at r k e)
 
 -- the end is the view of the last instruction
 pub end-last : (c : List Code) (n : ℕ) → length c ≡ suc n → endOf c ≡ viewOf (codeAt c n .inst)

@@ -1,6 +1,8 @@
 ghost use mathlib.Core.Path.{_≡_};
+ghost use Rattle.codec.specs.Codec.{instOf};
 ghost use Rattle.procedure.specs.Procedure.{codesOf};
 ghost use Rattle.ends.specs.Ends.{codeAt, viewOf, endOf, loneOf};
+use format::Record;
 use inst::BlockId;
 use inst::Inst;
 use inst::Reg;
@@ -31,6 +33,19 @@ pub fn view_of(i: Inst) -> End
     }
 }
 
+// The same of a record: only its kind and an end's own fields are read.
+fn end_in(r: Record) -> End
+    ensures { λ e. ⌜ e ≡ viewOf (instOf r) ⌝ }
+{
+    let kind = r.kind;
+    match kind {
+        18 => End::Br(BlockId(r.p1)),
+        19 => End::CondBr(Reg(r.p1), BlockId(r.p2), BlockId(r.p3)),
+        20 => End::Case(r.p2),
+        _ => End::Other,
+    }
+}
+
 // The end of a block.
 pub fn end_of(code: &[u8]) -> End
     ensures { λ r. ⌜ r ≡ endOf (codesOf (now (code .entry))) ⌝ }
@@ -39,7 +54,7 @@ pub fn end_of(code: &[u8]) -> End
     if n == 0 {
         return End::Other;
     }
-    view_of(inst_at(code, n - 1))
+    end_in(format::record_at(code, n - 1))
 }
 
 // The end of a block that holds nothing else.
@@ -47,7 +62,7 @@ pub fn lone_of(code: &[u8]) -> End
     ensures { λ r. ⌜ r ≡ loneOf (codesOf (now (code .entry))) ⌝ }
 {
     if code.len() / 32 == 1 {
-        return view_of(inst_at(code, 0));
+        return end_in(format::record_at(code, 0));
     }
     End::Other
 }

@@ -1,15 +1,19 @@
 -- Laws of one instruction's class, by the tests of the code.
 use Prim.Native.Nat.{ℕ, _+_, _*_, _≤_, _<_}
-use mathlib.Core.Path.{_≡_, refl}
+use native.Mathlib.Omega.{arith}
+use mathlib.Core.Path.{_≡_, refl, _∙_}
 use mathlib.Core.Bool.{Bool, true, false, _||_, true≢false}
 use mathlib.Core.List.{List}
 use borrow.Author.Tests.{lt-ltb, le-ltb, eq-eqb, ne-eqb}
 use lib.Dec.{eqb}
 use lib.ListN.{length, getD, set}
+use Rattle.format.specs.declared.Record.{Record}
 use Rattle.inst.specs.declared.Inst.{Inst}
 use Rattle.inst.specs.declared.Inst.the-variants as i
 use Rattle.inst.specs.Inst.{kindOf}
+use Rattle.codec.specs.Codec.{instOf}
 use Rattle.ends.specs.Forms.{formOf}
+use Rattle.ends.proofs.Laws.{same-kind}
 use Rattle.fill.specs.Filling.{withWord, withKonst, classStep}
 
 module _ (t : List ℕ) (d : ℕ) where
@@ -77,3 +81,11 @@ other-class t (i.Case v b) q = refl
 other-class t (i.Ret v) q = refl
 other-class t (i.Unreachable w) q = refl
 other-class t i.Stmt q = refl
+
+fixed-past : (k : ℕ) → 23 ≤ k → fixedKind k ≡ fixedKind 23
+fixed-past k h = rw (ne-eqb k 0 (omega arith), ne-eqb k 1 (omega arith), ne-eqb k 3 (omega arith))
+
+-- the same by the record's kind
+pub other-record : (t : List ℕ) (r : Record) → (r .kind ≡ 0 → ⊥) → (r .kind ≡ 1 → ⊥) → (r .kind ≡ 3 → ⊥) → t ≡ classStep t (instOf r)
+other-record t r a b c =
+    other-class t (instOf r) (same-kind fixedKind fixed-past r ∙ rw (ne-eqb (r .kind) 0 a, ne-eqb (r .kind) 1 b, ne-eqb (r .kind) 3 c))

@@ -13,6 +13,9 @@ use Rattle.format.specs.declared.Record.{Record}
 use Rattle.format.specs.Record.{recordsOf, recordAt, blank}
 use Rattle.format.proofs.Laws.{length-records}
 use Rattle.inst.specs.declared.Inst.{Inst}
+use Rattle.inst.specs.declared.Inst.the-variants.{Stmt}
+use Rattle.codec.specs.Codec.{instsOf, instOf}
+use Rattle.codec.proofs.Table.{inst-at}
 use Rattle.roles.specs.declared.Roles.{Roles}
 use Rattle.roles.specs.Roles.{rolesOf, readsOf, operandsOf, numbersOf}
 use Rattle.roles.proofs.Laws.{n-few, defs-few, defs-first, reads-all}
@@ -108,3 +111,7 @@ few-defs i g = rw g (defs-few i)
 
 pub few-all : {q : Roles} (i : Inst) → q ≡ rolesOf i → q .n ≤ 5
 few-all i g = rw g (n-few i)
+
+-- what is counted at a record is what is counted at its row of the table of kinds
+pub counted-as : (b t : List ℕ) (r : Record) (k : ℕ) → r .kind ≡ k → countInst (operandsIn b) t (getD (instsOf r) k Stmt) ≡ countInst (operandsIn b) t (instOf r)
+counted-as b t r k e = ap (countInst (operandsIn b) t) (inst-at r k e)

@@ -1,10 +1,11 @@
 ghost use mathlib.Core.Path.{_≡_};
 ghost use mathlib.Core.Bool.{cond};
+ghost use Rattle.codec.specs.Codec.{instOf};
 ghost use Rattle.ends.specs.Forms.{isUp};
 ghost use Rattle.procedure.specs.Procedure.{codesOf};
 ghost use Rattle.fill.specs.Filling.{over, withWord, withKonst, classStep, classCode};
+use format::Record;
 use inst::AddrSpace;
-use inst::Inst;
 use inst::Reg;
 
 // The v of a Const, if it is the first of a register that is written once.
@@ -64,13 +65,16 @@ fn put_address(table: &mut [u64], d: Reg, space: AddrSpace)
     put_konst(table, d);
 }
 
-fn put_inst(table: &mut [u64], i: Inst)
-    ensures { λ u. ⌜ now (table .exit) ≡ classStep (now (table .entry)) i ⌝ }
+// By the record's kind: a Const, ConstF or AddrOf.
+fn put_class(table: &mut [u64], r: Record)
+    ensures { λ u. ⌜ now (table .exit) ≡ classStep (now (table .entry)) (instOf r) ⌝ }
 {
-    match i {
-        Inst::Const { dst, v } => put_word(table, dst, v),
-        Inst::ConstF { dst, v } => put_konst(table, dst),
-        Inst::AddrOf { dst, space, off } => put_address(table, dst, space),
+    let kind = r.kind;
+    let d = Reg(r.p1);
+    match kind {
+        0 => put_word(table, d, codec::word_of(r.p2, r.p3)),
+        1 => put_konst(table, d),
+        3 => put_address(table, d, ops::space_of(r.op, r.p2)),
         _ => {}
     }
 }
@@ -81,7 +85,7 @@ pub fn class(code: &[u8], table: &mut [u64])
 {
     let mut k = 0;
     while k < code.len() / 32 {
-        put_inst(table, codec::inst_of(format::record_at(code, k)));
+        put_class(table, format::record_at(code, k));
         k += 1;
     }
 }

@@ -1,10 +1,13 @@
 ghost use mathlib.Core.Path.{_≡_};
 ghost use Prim.Native.Nat.{_≤_, _<_};
 ghost use lib.ListN.{take, drop};
-ghost use Rattle.roles.specs.Roles.{operandsOf, numbersOf};
+ghost use Rattle.codec.specs.Codec.{instOf};
+ghost use Rattle.roles.specs.Roles.{boolUses, operandsOf, numbersOf};
 ghost use Rattle.procedure.specs.Procedure.{codesOf};
-ghost use Rattle.facts.specs.Storage.{operandsIn};
+ghost use Rattle.facts.specs.Storage.{cap, operandsIn};
 ghost use Rattle.fill.specs.Filling.{over, counted, countInst, countCode};
+use format::Record;
+use inst::BoolOp;
 use inst::Inst;
 use inst::Reg;
 use inst::Regs;
@@ -65,13 +68,70 @@ fn count_inst(table: &mut [u64], operands: &[u8], i: Inst)
     bump_list(table, 2, 4294967295, operands, q.list);
 }
 
+// One register written and one read.
+fn bump_two(table: &mut [u64], d: u32, a: u32)
+    ensures { λ u. ⌜ now (table .exit) ≡ counted 2 cap (counted 1 255 (now (table .entry)) d) a ⌝ }
+{
+    bump(table, 1, 255, Reg(d));
+    bump(table, 2, 4294967295, Reg(a));
+}
+
+// One register written and two read.
+fn bump_three(table: &mut [u64], d: u32, a: u32, b: u32)
+    ensures { λ u. ⌜ now (table .exit) ≡ counted 2 cap (counted 2 cap (counted 1 255 (now (table .entry)) d) a) b ⌝ }
+{
+    bump_two(table, d, a);
+    bump(table, 2, 4294967295, Reg(b));
+}
+
+// Two registers read.
+fn bump_reads(table: &mut [u64], a: u32, b: u32)
+    ensures { λ u. ⌜ now (table .exit) ≡ counted 2 cap (counted 2 cap (now (table .entry)) a) b ⌝ }
+{
+    bump(table, 2, 4294967295, Reg(a));
+    bump(table, 2, 4294967295, Reg(b));
+}
+
+fn bump_bool(table: &mut [u64], op: BoolOp, d: u32, a: u32, b: u32)
+    ensures { λ u. ⌜ now (table .exit) ≡ over (counted 2 cap) (counted 1 255 (now (table .entry)) d) (boolUses op a b) ⌝ }
+{
+    match op {
+        BoolOp::And => bump_three(table, d, a, b),
+        BoolOp::Or => bump_three(table, d, a, b),
+        BoolOp::Xor => bump_three(table, d, a, b),
+        BoolOp::Not => bump_two(table, d, a),
+    }
+}
+
+// The same for a record: the kinds that most code has are counted by their fields.
+fn count_record(table: &mut [u64], operands: &[u8], r: Record)
+    ensures { λ u. ⌜ now (table .exit) ≡ countInst (operandsIn (now (operands .entry))) (now (table .entry)) (instOf r) ⌝ }
+{
+    let kind = r.kind;
+    match kind {
+        0 => bump(table, 1, 255, Reg(r.p1)),
+        1 => bump(table, 1, 255, Reg(r.p1)),
+        2 => bump_two(table, r.p1, r.p2),
+        3 => bump(table, 1, 255, Reg(r.p1)),
+        5 => bump_three(table, r.p1, r.p2, r.p3),
+        6 => bump_bool(table, ops::bool_of(r.op), r.p1, r.p2, r.p3),
+        7 => bump_three(table, r.p1, r.p2, r.p3),
+        9 => bump_two(table, r.p1, r.p2),
+        10 => bump_reads(table, r.p1, r.p2),
+        18 => {}
+        19 => bump(table, 2, 4294967295, Reg(r.p1)),
+        23 => {}
+        _ => count_inst(table, operands, codec::inst_of(r)),
+    }
+}
+
 // The definitions and uses of each register.
 pub fn count(code: &[u8], operands: &[u8], table: &mut [u64])
     ensures { λ u. ⌜ now (table .exit) ≡ over (countCode (operandsIn (now (operands .entry)))) (now (table .entry)) (codesOf (now (code .entry))) ⌝ }
 {
     let mut k = 0;
     while k < code.len() / 32 {
-        count_inst(table, operands, codec::inst_of(format::record_at(code, k)));
+        count_record(table, operands, format::record_at(code, k));
         k += 1;
     }
 }

@@ -1,8 +1,10 @@
 -- Storage, not the paper's: what equal arms, the gate, the counts and threading leave in the work storage, for any bytes.
-use Prim.Native.Nat.{ℕ, _+_, _*_, _/_, min}
+use Prim.Native.Nat.{ℕ, _+_, _*_, _/_, _<_, min}
+use mathlib.Core.Path.{_≡_}
 use mathlib.Core.Bool.{Bool, true, false, _&&_}
 use mathlib.Core.List.{List}
 use mathlib.Core.Option.{Option}
+use mathlib.Core.Logic.{_⊎_}
 use lib.Dec.{ltb}
 use lib.ListN.{length, take}
 use Rattle.procedure.specs.Procedure.{codesOf}
@@ -10,7 +12,7 @@ use Rattle.procedure.specs.Lists.{present}
 use Rattle.blocks.specs.Blocks.{blocksOf}
 use Rattle.steps.specs.Gate.{hasBackEdge, mayThread}
 use Rattle.facts.specs.Storage.{kindsOf, operandsIn, tableOf}
-use Rattle.arms.specs.Joined.{Joined, equalArmsIn}
+use Rattle.arms.specs.Joined.{Joined, joined, equalArmsIn}
 use Rattle.thread.specs.declared.Threaded.{Threaded}
 use Rattle.thread.specs.Storage.{Store, store, threadIn}
 use Rattle.run.specs.declared.Ran.{Ran}
@@ -42,6 +44,10 @@ module _ (n : ℕ) where
 -- "Gate."
 abbrev pub opensIn : Option ℕ → List ℕ → List ℕ → Bool
 opensIn body work table = hasBackEdge (blocksOf work table) && mayThread (present body) (blocksOf work table)
+
+-- no step does anything: "Fewer than 6 instructions", or no arms to join and a gate that stays shut
+abbrev pub Stays : Option ℕ → List ℕ → List ℕ → Type 0
+Stays body code table = (length code / 32 < 6) ⊎ ((equalArmsIn table code ≡ joined code false) × (opensIn body code table ≡ false))
 
 -- the lengths of the slices for known values and copies, the records of operands and registers, and how many instructions there are
 module _ (body : Option ℕ) (known copy : ℕ) (operands registers : List ℕ) (n : ℕ) where

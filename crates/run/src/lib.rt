@@ -1,4 +1,5 @@
 ghost use mathlib.Core.Path.{_≡_};
+ghost use mathlib.Core.Bool.{true};
 ghost use mathlib.Core.List.{List};
 ghost use Prim.Native.Nat.{ℕ};
 ghost use lib.ListN.{length};
@@ -117,4 +118,17 @@ pub fn run(
         n,
         arms,
     )
+}
+
+// No step does anything to a code.
+pub fn stays(code: &[u8], table: &[u8], pause: Pause) -> bool
+    ensures { λ z. ⌜ (z ≡ true → r.Stays (bodyIn pause) (now (code .entry)) (now (table .entry))) ⌝ }
+{
+    if code.len() / 32 < 6 {
+        return true;
+    }
+    if opens(code, table, pause) {
+        return false;
+    }
+    arms::none_meet(code, table)
 }

@@ -118,10 +118,13 @@ fn fits(b: &[u8], l: Layout, n: usize) -> bool
     classes::part(b, l.code, l.operands).len() / 32 <= n
 }
 
-// A file that is read and within the limits.
+// A file that is read and within the limits. One that the steps leave as it is needs no storage.
 fn shorten_read(b: &[u8], l: Layout, out: &mut [u8]) -> Answer
     ensures { λ r. ⌜ Done (partsOf (now (b .entry)) l) r (now (out .entry)) (now (out .exit)) ⌝ }
 {
+    if shortening::stays(b, l) {
+        return shortening::put_sent(out, b, l);
+    }
     if fits(b, l, 24) {
         return shorten_small(b, l, out);
     }

@@ -13,9 +13,9 @@ use Rattle.steps.specs.declared.Answer.{Answer}
 use Rattle.steps.specs.Shorten.{Outcome}
 use Rattle.classes.specs.Parts.{partOf}
 use Rattle.opened.specs.Opened.{Parts, partsOf}
-use Rattle.run.specs.Ran.{Left, left, ranIn}
+use Rattle.run.specs.Ran.{Left, left, ranIn, Stays}
 use Rattle.output.specs.Filed.{outcome, filed, counts, sameRecords, short, emittedIn}
-use Rattle.shortening.specs.Storage.{fronted, Lent, lent, leftIn, writtenIf, writtenIn, shortIn}
+use Rattle.shortening.specs.Storage.{fronted, Lent, lent, StaysIn, sentIn, leftIn, writtenIf, writtenIn, shortIn}
 
 -- the way that is gone
 module _ (x : Parts) (l : Left) {o : Outcome} (out : List ℕ) {edited : Bool} (e : edited ≡ l .store .at .edited) where
@@ -25,6 +25,17 @@ module _ (x : Parts) (l : Left) {o : Outcome} (out : List ℕ) {edited : Bool} (
 module _ (b : List ℕ) (l : Layout) where
   abbrev x : Parts
   x = partsOf b l
+
+  -- no step does anything
+  pub stays-is : {code heads body : List ℕ} {pause : Option ℕ} → body ≡ x .body → pause ≡ firstOf (map (λ r. r .p1) (recordsOf body))
+      → code ≡ x .code → heads ≡ x .heads → Stays pause code heads → StaysIn x
+  stays-is y p c h s = rw (p, y, c, h) at s
+
+  pub sent-is : (out : List ℕ) {registers heads body code operands arms : List ℕ} {o : Outcome}
+      → registers ≡ x .registers → heads ≡ x .heads → body ≡ x .body → code ≡ x .code → operands ≡ x .operands → arms ≡ x .arms
+      → o ≡ filed (sameRecords registers heads body code operands arms) (counts false 0 0 0) out
+      → o ≡ sentIn x out
+  sent-is out r h y c p a e = e ∙ rw (r, h, y, c, p, a) refl
 
   -- nothing threaded
   pub same-is : (work : List ℕ) (joined : Bool) (out : List ℕ) {registers heads body code operands arms : List ℕ} {m : ℕ} {o : Outcome}

@@ -1,9 +1,10 @@
 -- Shorten over lent storage that is enough is Shorten of the procedure that the parts hold.
 use Prim.Native.Nat.{ℕ, _+_, _*_, _/_, _≤_, _<_, min}
 use native.Mathlib.Omega.{arith}
-use mathlib.Core.Path.{_≡_, refl, sym, ap, _∙_}
+use mathlib.Core.Path.{_≡_, refl, sym, ap, subst, _∙_}
 use mathlib.Core.Bool.{Bool, true, false}
 use mathlib.Core.List.{List, map}
+use mathlib.Core.Option.{Option}
 use mathlib.Core.Logic.{_⊎_, inl, inr}
 use lib.ListN.{length, take}
 use lib.Seq.{take-all}
@@ -18,10 +19,11 @@ use Rattle.blocks.proofs.Parts.{records-part}
 use Rattle.steps.specs.Run.{Shortened, run, armsJoined}
 use Rattle.steps.specs.Shorten.{shortened}
 use Rattle.opened.specs.Opened.{Parts, Opened}
-use Rattle.run.specs.Ran.{Left}
+use Rattle.run.specs.Ran.{Left, Stays}
 use Rattle.run.proofs.Lent as r
 use Rattle.run.proofs.Laws.{still, edited}
-use Rattle.shortening.specs.Storage.{fronted, Lent, sizeOf, leftIn, writtenIf, shortIn, Enough}
+use Rattle.run.proofs.Unchanged.{stays-run}
+use Rattle.shortening.specs.Storage.{fronted, Lent, sizeOf, StaysIn, sentIn, leftIn, writtenIf, shortIn, Enough}
 use Rattle.shortening.proofs.Fronts.{fronted-length, fronted-first, fronted-bytes}
 use Rattle.shortening.proofs.Written.{emitted-written, still-written}
 
@@ -38,6 +40,12 @@ records-take b n = by (order (length b / 32) n)
         ∙ take-all (length b / 32) (recordsOf b) (omega arith)
         ∙ ap recordsOf (sym (take-all (32 * n) b (omega arith)))
     by (inr i) = let m : min n (length b / 32) ≡ n = omega arith in ap (λ (k : ℕ). recordsOf (take (32 * k) b)) m
+
+-- where no step does anything, the parts as they were sent are the result
+pub sent-run : (p : Procedure) (x : Parts) → Opened p x → StaysIn x → (out : List ℕ) → sentIn x out ≡ shortened (run p) out
+sent-run p x o s out =
+    let same = stays-run p x o (subst (λ (b : Option ℕ). Stays b (x .code) (x .heads)) (o .body) s) in
+    still-written p x o (p .blocks) (x .code) false out same (o .code-records) refl
 
 module _ (p : Procedure) (x : Parts) (o : Opened p x) (s : Lent) (e : Enough x s) (bytes : Bytes (s .work)) where
   size : sizeOf x ≡ length (joined (p .blocks))

@@ -9,7 +9,7 @@ use Rattle.format.specs.Record.{recordsOf}
 use Rattle.procedure.specs.Procedure.{firstOf}
 use Rattle.steps.specs.Shorten.{Outcome}
 use Rattle.opened.specs.Opened.{Parts}
-use Rattle.run.specs.Ran.{Left, ranIn}
+use Rattle.run.specs.Ran.{Left, ranIn, Stays}
 use Rattle.output.specs.Filed.{filed, counts, sameRecords, short, emittedIn}
 
 -- some bytes written over the first of others, as far as there is room
@@ -31,6 +31,14 @@ lent work table kinds facts known copy = record { work = work; table = table; ki
 -- how many instructions a file has
 abbrev pub sizeOf : Parts → ℕ
 sizeOf x = length (x .code) / 32
+
+-- no step does anything to a file
+abbrev pub StaysIn : Parts → Type 0
+StaysIn x = Stays (firstOf (map (λ r. r .p1) (recordsOf (x .body)))) (x .code) (x .heads)
+
+-- the parts written as they were sent
+abbrev pub sentIn : Parts → List ℕ → Outcome
+sentIn x out = filed (sameRecords (x .registers) (x .heads) (x .body) (x .code) (x .operands) (x .arms)) (counts false 0 0 0) out
 
 -- what `run` leaves before emit
 abbrev pub leftIn : Parts → Lent → Left

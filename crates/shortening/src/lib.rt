@@ -10,7 +10,7 @@ ghost use Rattle.pausing.specs.Storage.{bodyIn};
 ghost use Rattle.opened.specs.Opened.{partsOf};
 ghost use Rattle.run.specs.Ran.{left};
 ghost use Rattle.output.specs.Filed.{outcome};
-ghost use Rattle.shortening.specs.Storage.{fronted, lent, writtenIf, writtenIn, shortIn};
+ghost use Rattle.shortening.specs.Storage.{fronted, lent, StaysIn, sentIn, writtenIf, writtenIn, shortIn};
 use inst::BlockId;
 use layout::Layout;
 use pausing::Pause;
@@ -38,6 +38,34 @@ fn pause_of(body: &[u8]) -> Pause
     }
     let r = format::record_at(body, 0);
     Pause::At(BlockId(r.p1))
+}
+
+// No step does anything to a file.
+pub fn stays(b: &[u8], l: Layout) -> bool
+    ensures { λ z. ⌜ (z ≡ true → StaysIn (partsOf (now (b .entry)) l)) ⌝ }
+{
+    let pause = pause_of(classes::part(b, l.bodies, l.code));
+    run::stays(
+        classes::part(b, l.code, l.operands),
+        classes::part(b, l.blocks, l.bodies),
+        pause,
+    )
+}
+
+// The parts of a file are written as they were sent.
+pub fn put_sent(out: &mut [u8], b: &[u8], l: Layout) -> Answer
+    ensures { λ z. ⌜ outcome z (now (out .exit)) ≡ sentIn (partsOf (now (b .entry)) l) (now (out .entry)) ⌝ }
+{
+    output::put_same(
+        out,
+        classes::part(b, 0, l.blocks),
+        classes::part(b, l.blocks, l.bodies),
+        classes::part(b, l.bodies, l.code),
+        classes::part(b, l.code, l.operands),
+        classes::part(b, l.operands, l.arms),
+        classes::part(b, l.arms, l.end),
+        false,
+    )
 }
 
 // Nothing is threaded: the code with its equal arms joined is written.

@@ -5,18 +5,20 @@ use native.Mathlib.Omega.{arith}
 use mathlib.Core.Path.{_≡_, refl, sym, ap, _∙_}
 use mathlib.Core.Bool.{Bool, true, false, _&&_, _||_, and-false, true≢false}
 use mathlib.Core.List.{List, [], _∷_, _++_}
-use borrow.Author.Tests.{lt-leb, le-leb}
+use borrow.Author.Tests.{lt-leb, le-leb, ne-eqb}
 use lib.Dec.{leb, eqb}
 use lib.ListN.{length, getD, take, drop, length-append, drop-of-length-le}
 use lib.Seq.{drop-cons, length-take-le, take-take, take-append-seam}
 use Rattle.general.proofs.Booleans.{both, neither, either, otherwise}
+use Rattle.format.specs.declared.Record.{Record}
 use Rattle.inst.specs.declared.Code.{Code}
 use Rattle.procedure.specs.Lists.{anyOf}
 use Rattle.steps.specs.Small.{dupable, smallEnd, copyable, small}
+use Rattle.codec.specs.Codec.{instOf}
 use Rattle.procedure.specs.Procedure.{codesOf}
 use Rattle.ends.specs.declared.End.{End}
 use Rattle.ends.specs.Forms.{formOf}
-use Rattle.ends.proofs.Laws.{length-codes}
+use Rattle.ends.proofs.Laws.{length-codes, same-kind}
 use Rattle.ends.specs.Ends.{codeAt, endOf}
 use Rattle.inst.specs.Inst.{kindOf}
 use Rattle.inst.specs.declared.Inst.{Inst}
@@ -108,6 +110,28 @@ no-step wide (i.Case v t) q = refl
 no-step wide (i.Ret v) q = refl
 no-step wide (i.Unreachable w) q = refl
 no-step wide i.Stmt q = refl
+
+-- the tests of an instruction's kind are those of its record's
+dupable-past : (k : ℕ) → 23 ≤ k → s.dupableKind k ≡ s.dupableKind 23
+dupable-past k h = rw (lt-leb k 2 (omega arith), le-leb 4 k (omega arith), lt-leb k 6 (omega arith))
+
+pub dupable-record : (r : Record) → dupable (instOf r) ≡ s.dupableKind (r .kind)
+dupable-record r = same-kind s.dupableKind dupable-past r
+
+end-past : (k : ℕ) → 23 ≤ k → s.smallEndKind k ≡ s.smallEndKind 23
+end-past k h = rw (ne-eqb k 18 (omega arith), ne-eqb k 19 (omega arith), ne-eqb k 21 (omega arith))
+
+pub end-record : (r : Record) → smallEnd (instOf r) ≡ s.smallEndKind (r .kind)
+end-record r = same-kind s.smallEndKind end-past r
+
+abbrev binKind : ℕ → Bool
+binKind k = eqb k 7 || eqb k 8
+
+bin-past : (k : ℕ) → 23 ≤ k → binKind k ≡ binKind 23
+bin-past k h = rw (ne-eqb k 7 (omega arith), ne-eqb k 8 (omega arith))
+
+pub step-record : (wide : Bool) (r : Record) → (r .kind ≡ 7 → ⊥) → (r .kind ≡ 8 → ⊥) → s.stepBy wide (instOf r) ≡ false
+step-record wide r a b = no-step wide (instOf r) (same-kind binKind bin-past r ∙ rw (ne-eqb (r .kind) 7 a, ne-eqb (r .kind) 8 b))
 
 -- two instructions that end in a Br, as the code tells it
 pub two-told : (b : List ℕ) {e : End} {z : Bool} → e ≡ endOf (codesOf b) → z ≡ (eqb (length b / 32) 2 && s.isBr e)

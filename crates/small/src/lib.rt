@@ -3,36 +3,37 @@ ghost use mathlib.Core.Bool.{_&&_, _||_};
 ghost use Prim.Native.Nat.{ℕ, suc};
 ghost use lib.Dec.{eqb, leb};
 ghost use lib.ListN.{length};
+ghost use Rattle.codec.specs.Codec.{instOf};
 ghost use Rattle.procedure.specs.Procedure.{codesOf};
 ghost use Rattle.procedure.specs.Lists.{anyOf};
 ghost use Rattle.steps.specs.Small as steps;
 use ends::End;
+use format::Record;
 use inst::BlockId;
-use inst::Inst;
 use inst::IntOp;
 
-// Cheap instructions without effects: what a copied block may hold besides its end.
-pub fn dupable(i: Inst) -> bool
-    ensures { λ z. ⌜ z ≡ steps.dupable i ⌝ }
+// Cheap instructions without effects: what a copied block may hold besides its end. By the record's kind.
+pub fn dupable(r: Record) -> bool
+    ensures { λ z. ⌜ z ≡ steps.dupable (instOf r) ⌝ }
 {
-    match i {
-        Inst::Move { .. }
-        | Inst::Const { .. }
-        | Inst::ConstF { .. }
-        | Inst::Cmp { .. }
-        | Inst::Bool { .. }
-        | Inst::Select { .. } => true,
+    let kind = r.kind;
+    match kind {
+        0 | 1 | 2 | 4 | 5 | 6 => true,
         _ => false,
     }
 }
 
-fn small_end(i: Inst) -> bool
-    ensures { λ z. ⌜ z ≡ steps.smallEnd i ⌝ }
+fn small_end(r: Record) -> bool
+    ensures { λ z. ⌜ z ≡ steps.smallEnd (instOf r) ⌝ }
 {
-    match i {
-        Inst::Br { .. } | Inst::CondBr { .. } | Inst::Ret { .. } => true,
-        _ => false,
+    let kind = r.kind;
+    if kind == 18 {
+        return true;
     }
+    if kind == 19 {
+        return true;
+    }
+    kind == 21
 }
 
 // At most four instructions: dupable ones, then a Br, CondBr or Ret.
@@ -48,12 +49,12 @@ pub fn small(code: &[u8]) -> bool
     }
     let mut k = 0;
     while k + 1 < n {
-        if !dupable(ends::inst_at(code, k)) {
+        if !dupable(format::record_at(code, k)) {
             return false;
         }
         k += 1;
     }
-    small_end(ends::inst_at(code, k))
+    small_end(format::record_at(code, k))
 }
 
 fn add_or_sub(op: IntOp) -> bool
@@ -71,25 +72,13 @@ fn add_or_sub(op: IntOp) -> bool
 }
 
 // A Bin, or where wide a BinRange, that adds or subtracts.
-fn step_by(wide: bool, i: Inst) -> bool
-    ensures { λ z. ⌜ z ≡ steps.stepBy wide i ⌝ }
+fn step_by(wide: bool, r: Record) -> bool
+    ensures { λ z. ⌜ z ≡ steps.stepBy wide (instOf r) ⌝ }
 {
-    match i {
-        Inst::Bin {
-            op,
-            dst: _,
-            a: _,
-            b: _,
-        } => add_or_sub(op),
-        Inst::BinRange {
-            op,
-            dst: _,
-            a: _,
-            b: _,
-            lo: _,
-            hi: _,
-            what: _,
-        } => wide && add_or_sub(op),
+    let kind = r.kind;
+    match kind {
+        7 => add_or_sub(ops::int_of(r.op)),
+        8 => wide && add_or_sub(ops::int_of(r.op)),
         _ => false,
     }
 }
@@ -100,7 +89,7 @@ fn any_step(wide: bool, code: &[u8]) -> bool
     let n = code.len() / 32;
     let mut k = 0;
     while k < n {
-        if step_by(wide, ends::inst_at(code, k)) {
+        if step_by(wide, format::record_at(code, k)) {
             return true;
         }
         k += 1;

@@ -1,126 +1,56 @@
-use mathlib.Core.Path.{ap, _∙_}
+use mathlib.Core.Path.{sym, ap, _∙_}
 use mathlib.Core.Bool.{true}
 use mathlib.Core.List.{List}
 use Prim.Native.Nat.{ℕ}
 use denote.Ref.{now}
-use Rattle.arms.specs.Joined.{joined}
-use Rattle.arms.proofs.Laws.{by-end, arms-differ, arms-meet}
+use Rattle.arms.specs.declared.Meeting.{Meeting}
+use Rattle.arms.specs.Joined.{joined, joinMet}
 use borrow.Author.Needs.{needs}
 use Rattle.arms.proofs.join_arms.Statement.{statement}
 use Rattle.arms.proofs.join_arms.Tie as tie
 
-block-requires : tie.Need-block-requires
-block-requires c κs = search needs
+meet-requires : tie.Need-meet-requires
+meet-requires c κs = search needs
 
-end-of-requires : tie.Need-end-of-requires
-end-of-requires c κs = search needs
+enum-known-m : tie.Need-enum-known-m
+enum-known-m c = search needs
+
+rewrite-end-requires : tie.Need-rewrite-end-requires
+rewrite-end-requires c κs = search needs
 
 enum-told : tie.Need-enum-told
 enum-told c = search needs
-
-enum-known-e : tie.Need-enum-known-e
-enum-known-e c = search needs
-
-follow-requires : tie.Need-follow-requires
-follow-requires c κs = search needs
-
-follow-requires-2 : tie.Need-follow-requires-2
-follow-requires-2 c κs = search needs
 
 same-length : tie.Need-same-length
 same-length c = search needs
 
 returns : tie.Need-returns
 returns c =
-    let t = c .before .before .before .before .before .before .before .before in
-    let x = t .e .given .0 in
-    let f = t .before .before in
-    let a = f .before .before .before .before .before .args in
+    let t = c .before .before .before .before .before in
+    let a = t .before .before .before .before .before .before .args in
     let table = now (a .table) in
-    let s = joined (now (a .code)) (a .edited) in
-    arms-differ table (a .k) s (x .0) (x .1 .0) (x .1 .1 .0)
-    (c .before .before .before .before .before .follow .ensures) (c .before .before .before .follow2 .ensures) (c .if1 .taken)
-    ∙ by-end table (a .k) s (f .before .block .ensures) (f .end-of .ensures) (t .e .given .1)
-
-rewrite-end-requires : tie.Need-rewrite-end-requires
-rewrite-end-requires c κs = search needs
-
-enum-told-2 : tie.Need-enum-told-2
-enum-told-2 c = search needs
-
-enum-told-3 : tie.Need-enum-told-3
-enum-told-3 c = search needs
+    ap (λ (b : List ℕ). joined b true) (c .before .before .rewrite-end .ensures)
+    ∙ ap (λ (m : Meeting). joinMet table m (a .k) (joined (now (a .code)) (a .edited))) (sym (t .m .given .1))
+    ∙ t .before .before .meet .ensures (a .edited)
 
 same-length-2 : tie.Need-same-length-2
 same-length-2 c = search needs
 
 returns-2 : tie.Need-returns-2
 returns-2 c =
-    let f = c .before .before in
-    let a = f .before .before .before .before .before .args in
-    let table = now (a .table) in
-    let s = joined (now (a .code)) (a .edited) in
-    by-end table (a .k) s (f .before .block .ensures) (f .end-of .ensures) (c .enum-told .given .1)
-
-same-length-3 : tie.Need-same-length-3
-same-length-3 c = search needs
-
-returns-3 : tie.Need-returns-3
-returns-3 c =
-    let d = c .before .before .before .before in
-    let t = d .before .before .before .before .before .before .before .before in
-    let x = t .e .given .0 in
-    let f = t .before .before in
-    let a = f .before .before .before .before .before .args in
-    let table = now (a .table) in
-    let s = joined (now (a .code)) (a .edited) in
-    ap (λ (b : List ℕ). joined b true) (c .before .before .rewrite-end .ensures)
-    ∙ arms-meet table (a .k) s (x .0) (x .1 .0) (x .1 .1 .0)
-    (d .before .before .before .before .before .follow .ensures) (d .before .before .before .follow2 .ensures) (d .if1 .left)
-    ∙ by-end table (a .k) s (f .before .block .ensures) (f .end-of .ensures) (t .e .given .1)
-
-same-length-4 : tie.Need-same-length-4
-same-length-4 c = search needs
-
-returns-4 : tie.Need-returns-4
-returns-4 c =
-    let f = c .before .before in
-    let a = f .before .before .before .before .before .args in
-    let table = now (a .table) in
-    let s = joined (now (a .code)) (a .edited) in
-    by-end table (a .k) s (f .before .block .ensures) (f .end-of .ensures) (c .enum-told2 .given .1)
-
-same-length-5 : tie.Need-same-length-5
-same-length-5 c = search needs
-
-returns-5 : tie.Need-returns-5
-returns-5 c =
-    let f = c .before .before in
-    let a = f .before .before .before .before .before .args in
-    let table = now (a .table) in
-    let s = joined (now (a .code)) (a .edited) in
-    by-end table (a .k) s (f .before .block .ensures) (f .end-of .ensures) (c .enum-told3 .given .1)
+    let a = c .before .before .before .before .before .before .args in
+    ap (λ (m : Meeting). joinMet (now (a .table)) m (a .k) (joined (now (a .code)) (a .edited))) (sym (c .enum-told .given .1))
+    ∙ c .before .before .meet .ensures (a .edited)
 
 pub join-arms-spec : {M : Type 1} → statement M
 join-arms-spec =
     tie.close
     (tie.spec
-    block-requires
-    end-of-requires
+    meet-requires
+    enum-known-m
+    rewrite-end-requires
     enum-told
-    enum-known-e
-    follow-requires
-    follow-requires-2
     same-length
     returns
-    rewrite-end-requires
-    enum-told-2
-    enum-told-3
     same-length-2
-    returns-2
-    same-length-3
-    returns-3
-    same-length-4
-    returns-4
-    same-length-5
-    returns-5)
+    returns-2)

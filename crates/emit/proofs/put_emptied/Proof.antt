@@ -14,8 +14,8 @@ use Rattle.emit.proofs.put_emptied.Tie as tie
 record-at-requires : tie.Need-record-at-requires
 record-at-requires c κs = search needs
 
-record-of-requires : tie.Need-record-of-requires
-record-of-requires c κs = search needs
+br-record-requires : tie.Need-br-record-requires
+br-record-requires c κs = search needs
 
 put-requires : tie.Need-put-requires
 put-requires c κs = search needs
@@ -31,7 +31,7 @@ returns c =
     let first = ap (λ (r : Record). to (record { 0 = r .stmt })) (p .before .before .before .record-at .ensures) in
     p .put .ensures
     ∙ ap (λ (r : Record). put r (place (now (a .out)) (a .at)))
-    (p .before .record-of .ensures ∙ first ∙ ap to (first-stmt (recordsOf (now (a .code)))))
+    (p .before .br-record .ensures ∙ first ∙ ap to (first-stmt (recordsOf (now (a .code)))))
 
 pub put-emptied-spec : {M : Type 1} → statement M
-put-emptied-spec = tie.close (tie.spec record-at-requires record-of-requires put-requires same-length returns)
+put-emptied-spec = tie.close (tie.spec record-at-requires br-record-requires put-requires same-length returns)

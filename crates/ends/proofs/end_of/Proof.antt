@@ -1,5 +1,5 @@
 use mathlib.Core.Path.{sym, ap, _∙_}
-use Rattle.ends.proofs.Laws.{length-codes, end-last, end-none}
+use Rattle.ends.proofs.Laws.{length-codes, inst-there, end-last, end-none}
 use Prim.Native.Nat.{_-_, _/_}
 use native.Mathlib.Omega.{arith}
 use lib.ListN.{length}
@@ -13,18 +13,19 @@ use Rattle.ends.proofs.end_of.Tie as tie
 returns : tie.Need-returns
 returns c = let b = now (c .before .before .args .code) in sym (end-none (codesOf b) (length-codes b ∙ c .if1 .taken))
 
-sub-inst-at : tie.Need-sub-inst-at
-sub-inst-at c = search needs
+sub-record-at : tie.Need-sub-record-at
+sub-record-at c = search needs
 
-inst-at-requires : tie.Need-inst-at-requires
-inst-at-requires c κs = search needs
+record-at-requires : tie.Need-record-at-requires
+record-at-requires c κs = search needs
 
-view-of-requires : tie.Need-view-of-requires
-view-of-requires c κs = search needs
+end-in-requires : tie.Need-end-in-requires
+end-in-requires c κs = search needs
 
 returns-2 : tie.Need-returns-2
 returns-2 c = let b = now (c .before .before .before .before .args .code) in
-    c .view-of .ensures ∙ ap viewOf (c .before .inst-at .ensures) ∙ sym (end-last (codesOf b) (length b / 32 - 1) (length-codes b ∙ omega arith))
+    let k = length b / 32 - 1 in
+    c .end-in .ensures ∙ ap viewOf (inst-there b k (c .before .record-at .ensures)) ∙ sym (end-last (codesOf b) k (length-codes b ∙ omega arith))
 
 pub end-of-spec : {M : Type 1} → statement M
-end-of-spec = tie.close (tie.spec returns sub-inst-at inst-at-requires view-of-requires returns-2)
+end-of-spec = tie.close (tie.spec returns sub-record-at record-at-requires end-in-requires returns-2)

@@ -1,5 +1,5 @@
 use mathlib.Core.Path.{sym, ap, _∙_}
-use Rattle.ends.proofs.Laws.{length-codes, lone-one, lone-none}
+use Rattle.ends.proofs.Laws.{length-codes, inst-there, lone-one, lone-none}
 use denote.Ref.{now}
 use Rattle.procedure.specs.Procedure.{codesOf}
 use Rattle.ends.specs.Ends.{viewOf}
@@ -7,18 +7,18 @@ use borrow.Author.Needs.{needs}
 use Rattle.ends.proofs.lone_of.Statement.{statement}
 use Rattle.ends.proofs.lone_of.Tie as tie
 
-inst-at-requires : tie.Need-inst-at-requires
-inst-at-requires c κs = search needs
+record-at-requires : tie.Need-record-at-requires
+record-at-requires c κs = search needs
 
-view-of-requires : tie.Need-view-of-requires
-view-of-requires c κs = search needs
+end-in-requires : tie.Need-end-in-requires
+end-in-requires c κs = search needs
 
 returns : tie.Need-returns
 returns c = let b = now (c .before .before .before .before .args .code) in
-    c .view-of .ensures ∙ ap viewOf (c .before .inst-at .ensures) ∙ sym (lone-one (codesOf b) (length-codes b ∙ c .before .before .if1 .taken))
+    c .end-in .ensures ∙ ap viewOf (inst-there b 0 (c .before .record-at .ensures)) ∙ sym (lone-one (codesOf b) (length-codes b ∙ c .before .before .if1 .taken))
 
 returns-2 : tie.Need-returns-2
 returns-2 c = let b = now (c .before .before .args .code) in sym (lone-none (codesOf b) (λ e. c .if1 .left (sym (length-codes b) ∙ e)))
 
 pub lone-of-spec : {M : Type 1} → statement M
-lone-of-spec = tie.close (tie.spec inst-at-requires view-of-requires returns returns-2)
+lone-of-spec = tie.close (tie.spec record-at-requires end-in-requires returns returns-2)

@@ -1,7 +1,26 @@
+use mathlib.Core.Path.{_∙_}
+use denote.Ref.{now}
+use Rattle.opened.specs.Opened.{partsOf}
+use Rattle.shortening.proofs.Shortened.{sent-run}
 use Rattle.shorten.proofs.Tiers.{all-fit}
 use borrow.Author.Needs.{needs}
 use Rattle.shorten.proofs.shorten_read.Statement.{statement}
 use Rattle.shorten.proofs.shorten_read.Tie as tie
+
+stays-requires : tie.Need-stays-requires
+stays-requires c κs = search needs
+
+put-sent-requires : tie.Need-put-sent-requires
+put-sent-requires c κs = search needs
+
+same-length : tie.Need-same-length
+same-length c = search needs
+
+returns : tie.Need-returns
+returns c p o =
+    let i = c .before .before .before .before in
+    let a = i .before .before .before .before .args in
+    c .before .before .put-sent .ensures ∙ sent-run p (partsOf (now (a .b)) (a .l)) o (i .before .stays .ensures (i .if1 .taken)) (now (a .out))
 
 fits-requires : tie.Need-fits-requires
 fits-requires c κs = search needs
@@ -9,11 +28,11 @@ fits-requires c κs = search needs
 shorten-small-requires : tie.Need-shorten-small-requires
 shorten-small-requires c κs = search needs
 
-same-length : tie.Need-same-length
-same-length c = search needs
+same-length-2 : tie.Need-same-length-2
+same-length-2 c = search needs
 
-returns : tie.Need-returns
-returns c = c .before .before .shorten-small .ensures (c .before .before .before .before .before .fits2 .ensures (c .before .before .before .before .if1 .taken))
+returns-2 : tie.Need-returns-2
+returns-2 c = c .before .before .shorten-small .ensures (c .before .before .before .before .before .fits2 .ensures (c .before .before .before .before .if2 .taken))
 
 fits-requires-2 : tie.Need-fits-requires-2
 fits-requires-2 c κs = search needs
@@ -21,33 +40,37 @@ fits-requires-2 c κs = search needs
 shorten-medium-requires : tie.Need-shorten-medium-requires
 shorten-medium-requires c κs = search needs
 
-same-length-2 : tie.Need-same-length-2
-same-length-2 c = search needs
-
-returns-2 : tie.Need-returns-2
-returns-2 c = c .before .before .shorten-medium .ensures (c .before .before .before .before .before .fits3 .ensures (c .before .before .before .before .if2 .taken))
-
-shorten-large-requires : tie.Need-shorten-large-requires
-shorten-large-requires c κs = search needs
-
 same-length-3 : tie.Need-same-length-3
 same-length-3 c = search needs
 
 returns-3 : tie.Need-returns-3
-returns-3 c p o = c .before .before .shorten-large .ensures (all-fit p _ o) p o
+returns-3 c = c .before .before .shorten-medium .ensures (c .before .before .before .before .before .fits3 .ensures (c .before .before .before .before .if3 .taken))
+
+shorten-large-requires : tie.Need-shorten-large-requires
+shorten-large-requires c κs = search needs
+
+same-length-4 : tie.Need-same-length-4
+same-length-4 c = search needs
+
+returns-4 : tie.Need-returns-4
+returns-4 c p o = c .before .before .shorten-large .ensures (all-fit p _ o) p o
 
 pub shorten-read-spec : {M : Type 1} → statement M
 shorten-read-spec =
     tie.close
     (tie.spec
-    fits-requires
-    shorten-small-requires
+    stays-requires
+    put-sent-requires
     same-length
     returns
-    fits-requires-2
-    shorten-medium-requires
+    fits-requires
+    shorten-small-requires
     same-length-2
     returns-2
-    shorten-large-requires
+    fits-requires-2
+    shorten-medium-requires
     same-length-3
-    returns-3)
+    returns-3
+    shorten-large-requires
+    same-length-4
+    returns-4)

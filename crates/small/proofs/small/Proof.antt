@@ -8,7 +8,7 @@ use lib.ListN.{length, drop}
 use Rattle.general.proofs.Booleans.{told}
 use Rattle.procedure.specs.Procedure.{codesOf}
 use Rattle.steps.specs.Small.{dupable, smallEnd, copyable}
-use Rattle.ends.proofs.Laws.{length-codes}
+use Rattle.ends.proofs.Laws.{length-codes, inst-there}
 use Rattle.small.proofs.Laws.{too-long, empty-code, short-code, copyable-pass, copyable-stop, copyable-last}
 use Rattle.small.proofs.small.Statement.{statement}
 use Rattle.small.proofs.small.Tie as tie
@@ -35,8 +35,8 @@ loop-holds c = (omega arith, refl, refl)
 add-loop : tie.Need-add-loop Inv-loop μ-loop
 add-loop c = search needs
 
-inst-at-requires : tie.Need-inst-at-requires Inv-loop μ-loop
-inst-at-requires c κs = search needs
+record-at-requires : tie.Need-record-at-requires Inv-loop μ-loop
+record-at-requires c κs = search needs
 
 dupable-requires : tie.Need-dupable-requires Inv-loop μ-loop
 dupable-requires c κs = search needs
@@ -45,7 +45,7 @@ returns-3 : tie.Need-returns-3 Inv-loop μ-loop
 returns-3 c = let b = now (c .before .before .before .before .before .before .before .before .args .code) in
     let n = length-codes b in
     let l = c .before .before .before .before in
-    let t = told dupable (c .before .before .inst-at .ensures) (c .before .dupable .ensures) (not-true _ (c .if3 .taken)) in
+    let t = told dupable (inst-there b (l .loop .k) (c .before .before .record-at .ensures)) (c .before .dupable .ensures) (not-true _ (c .if3 .taken)) in
     let e = copyable-stop (codesOf b) (l .loop .k) (rw n (c .before .before .before .loop-test .taken)) t in
     short-code (codesOf b) (rw n (c .before .before .before .before .before .before .if1 .left)) (e ∙ l .loop .inv .2)
 
@@ -59,12 +59,12 @@ loop-again : tie.Need-loop-again Inv-loop μ-loop
 loop-again c = let b = now (c .before .before .before .before .before .before .before .before .args .code) in
     let n = length-codes b in
     let l = c .before .before .before .before in
-    let t = told dupable (c .before .before .inst-at .ensures) (c .before .dupable .ensures) (not-false _ (c .if3 .left)) in
+    let t = told dupable (inst-there b (l .loop .k) (c .before .before .record-at .ensures)) (c .before .dupable .ensures) (not-false _ (c .if3 .left)) in
     let e = copyable-pass (codesOf b) (l .loop .k) (rw n (c .before .before .before .loop-test .taken)) t in
     (omega arith, l .loop .inv .1, e ∙ l .loop .inv .2)
 
-inst-at-requires-2 : tie.Need-inst-at-requires-2 Inv-loop μ-loop
-inst-at-requires-2 c κs = search needs
+record-at-requires-2 : tie.Need-record-at-requires-2 Inv-loop μ-loop
+record-at-requires-2 c κs = search needs
 
 small-end-requires : tie.Need-small-end-requires Inv-loop μ-loop
 small-end-requires c κs = search needs
@@ -73,7 +73,7 @@ returns-4 : tie.Need-returns-4 Inv-loop μ-loop
 returns-4 c = let b = now (c .before .before .before .before .before .before .before .args .code) in
     let n = length-codes b in
     let l = c .before .before .before in
-    let e = c .small-end .ensures ∙ ap smallEnd (c .before .inst-at2 .ensures) in
+    let e = c .small-end .ensures ∙ ap smallEnd (inst-there b (l .loop .k) (c .before .record-at2 .ensures)) in
     short-code (codesOf b) (rw n (c .before .before .before .before .before .if1 .left))
     (e ∙ copyable-last (codesOf b) (l .loop .k) (rw n (omega arith)) ∙ l .loop .inv .2)
 
@@ -87,12 +87,12 @@ small-spec =
     returns-2
     loop-holds
     add-loop
-    inst-at-requires
+    record-at-requires
     dupable-requires
     returns-3
     add-k
     loop-less
     loop-again
-    inst-at-requires-2
+    record-at-requires-2
     small-end-requires
     returns-4)

@@ -1,56 +1,57 @@
 use mathlib.Core.Path.{refl, sym, ap, _∙_}
-use mathlib.Core.List.{List, [], _∷_}
-use mathlib.Core.Bool.{false, _||_}
-use Prim.Native.Nat.{ℕ}
-use lib.Dec.{eqb}
 use Rattle.general.proofs.Booleans.{both, neither}
-use Rattle.inst.proofs.Tags.{by-kind}
+use Rattle.codec.proofs.Table.{inst-at}
 use Rattle.ends.specs.Forms.{formOf}
-use Rattle.steps.specs.Small.{stepBy}
-use Rattle.small.proofs.Laws.{no-step}
+use Rattle.steps.specs.Small.{addOrSub, stepBy}
+use Rattle.small.proofs.Laws.{step-record}
 use borrow.Author.Needs.{needs}
 use Rattle.small.proofs.step_by.Statement.{statement}
 use Rattle.small.proofs.step_by.Tie as tie
 
-enum-known-i : tie.Need-enum-known-i
-enum-known-i c = search needs
+int-of-requires : tie.Need-int-of-requires
+int-of-requires c κs = search needs
 
 add-or-sub-requires : tie.Need-add-or-sub-requires
 add-or-sub-requires c κs = search needs
 
-enum-known-i-2 : tie.Need-enum-known-i-2
-enum-known-i-2 c = search needs
+int-of-requires-2 : tie.Need-int-of-requires-2
+int-of-requires-2 c κs = search needs
 
 add-or-sub-requires-2 : tie.Need-add-or-sub-requires-2
 add-or-sub-requires-2 c κs = search needs
 
 returns : tie.Need-returns
 unfolding stepBy formOf
-returns c = c .add-or-sub .ensures ∙ sym (ap (stepBy (c .before .before .before .before .args .wide)) (c .before .before .i .given .1))
+returns c =
+    let m = c .before .before in
+    let a = m .before .args in
+    c .add-or-sub .ensures ∙ ap addOrSub (c .before .int-of .ensures) ∙ ap (stepBy (a .wide)) (inst-at (a .r) 7 (m .match .keys1))
 
 returns-2 : tie.Need-returns-2
 unfolding stepBy formOf
 returns-2 c =
-    let b = c .before .before .before in
-    both refl (c .before .if1 .taken) (c .add-or-sub2 .ensures) ∙ sym (ap (stepBy (b .before .before .args .wide)) (b .i2 .given .1))
+    let m = c .before .before .before in
+    let a = m .before .args in
+    both refl (c .before .before .if1 .taken) (c .add-or-sub2 .ensures ∙ ap addOrSub (c .before .int-of2 .ensures))
+    ∙ ap (stepBy (a .wide)) (inst-at (a .r) 8 (m .match .keys2))
 
 returns-3 : tie.Need-returns-3
 unfolding stepBy formOf
-returns-3 c = c .if1 .left ∙ neither _ refl (c .if1 .left) ∙ sym (ap (stepBy (c .before .before .before .before .args .wide)) (c .before .before .i2 .given .1))
+returns-3 c =
+    let m = c .before in
+    let a = m .before .args in
+    c .if1 .left ∙ neither _ refl (c .if1 .left) ∙ ap (stepBy (a .wide)) (inst-at (a .r) 8 (m .match .keys2))
 
 returns-4 : tie.Need-returns-4
-returns-4 c =
-    let a = c .before .args in
-    let others : List ℕ = 0 ∷ 1 ∷ 2 ∷ 3 ∷ 4 ∷ 5 ∷ 6 ∷ 9 ∷ 10 ∷ 11 ∷ 12 ∷ 13 ∷ 14 ∷ 15 ∷ 16 ∷ 17 ∷ 18 ∷ 19 ∷ 20 ∷ 21 ∷ 22 ∷ 23 ∷ [] in
-    sym (no-step (a .wide) (a .i) (sym (by-kind (λ (k : ℕ). eqb k 7 || eqb k 8) false others (a .i) tt (c .match .keys3))))
+returns-4 c = let a = c .before .args in sym (step-record (a .wide) (a .r) (c .match .rest .0 .1) (c .match .rest .1))
 
 pub step-by-spec : {M : Type 1} → statement M
 step-by-spec =
     tie.close
     (tie.spec
-    enum-known-i
+    int-of-requires
     add-or-sub-requires
-    enum-known-i-2
+    int-of-requires-2
     add-or-sub-requires-2
     returns
     returns-2

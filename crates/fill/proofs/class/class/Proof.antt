@@ -25,11 +25,8 @@ loop-holds c = (refl, refl)
 record-at-requires : tie.Need-record-at-requires Inv-loop μ-loop
 record-at-requires c κs = search needs
 
-inst-of-requires : tie.Need-inst-of-requires Inv-loop μ-loop
-inst-of-requires c κs = search needs
-
-put-inst-requires : tie.Need-put-inst-requires Inv-loop μ-loop
-put-inst-requires c κs = search needs
+put-class-requires : tie.Need-put-class-requires Inv-loop μ-loop
+put-class-requires c κs = search needs
 
 add-k : tie.Need-add-k Inv-loop μ-loop
 add-k c = search needs
@@ -39,12 +36,12 @@ loop-less c = search needs
 
 loop-again : tie.Need-loop-again Inv-loop μ-loop
 loop-again c =
-    let l = c .before .before .before .before .before .before .before in
+    let l = c .before .before .before .before .before .before in
     let a = l .before .before .before .args in
     let b = now (a .code) in
-    let at = inst-at b (l .loop .k) (c .before .before .before .before .record-at .ensures) (c .before .before .before .inst-of .ensures) in
-    let one = c .before .before .put-inst .ensures ∙ ap (classStep (l .loop .table)) at in
-    let more : l .loop .k < length (codesOf b) = rw (length-codes b) (c .before .before .before .before .before .before .loop-test .taken) in
+    let at = inst-at b (l .loop .k) (c .before .before .before .record-at .ensures) refl in
+    let one = c .before .before .put-class .ensures ∙ ap (classStep (l .loop .table)) at in
+    let more : l .loop .k < length (codesOf b) = rw (length-codes b) (c .before .before .before .before .before .loop-test .taken) in
     (over-again classCode (codesOf b) (l .loop .k) (codeOf blank) more one (l .loop .inv .0), search needs)
 
 same-length : tie.Need-same-length Inv-loop μ-loop
@@ -64,8 +61,7 @@ class-spec =
     μ-loop
     loop-holds
     record-at-requires
-    inst-of-requires
-    put-inst-requires
+    put-class-requires
     add-k
     loop-less
     loop-again

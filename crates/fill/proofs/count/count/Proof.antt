@@ -28,11 +28,8 @@ loop-holds c = (refl, refl)
 record-at-requires : tie.Need-record-at-requires Inv-loop μ-loop
 record-at-requires c κs = search needs
 
-inst-of-requires : tie.Need-inst-of-requires Inv-loop μ-loop
-inst-of-requires c κs = search needs
-
-count-inst-requires : tie.Need-count-inst-requires Inv-loop μ-loop
-count-inst-requires c κs = search needs
+count-record-requires : tie.Need-count-record-requires Inv-loop μ-loop
+count-record-requires c κs = search needs
 
 add-k : tie.Need-add-k Inv-loop μ-loop
 add-k c = search needs
@@ -42,13 +39,13 @@ loop-less c = search needs
 
 loop-again : tie.Need-loop-again Inv-loop μ-loop
 loop-again c =
-    let l = c .before .before .before .before .before .before .before in
+    let l = c .before .before .before .before .before .before in
     let a = l .before .before .before .before .args in
     let b = now (a .code) in
     let ops = operandsIn (now (a .operands)) in
-    let at = inst-at b (l .loop .k) (c .before .before .before .before .record-at .ensures) (c .before .before .before .inst-of .ensures) in
-    let one = c .before .before .count-inst .ensures ∙ ap (countInst ops (l .loop .table)) at in
-    let more : l .loop .k < length (codesOf b) = rw (length-codes b) (c .before .before .before .before .before .before .loop-test .taken) in
+    let at = inst-at b (l .loop .k) (c .before .before .before .record-at .ensures) refl in
+    let one = c .before .before .count-record .ensures ∙ ap (countInst ops (l .loop .table)) at in
+    let more : l .loop .k < length (codesOf b) = rw (length-codes b) (c .before .before .before .before .before .loop-test .taken) in
     (over-again (countCode ops) (codesOf b) (l .loop .k) (codeOf blank) more one (l .loop .inv .0), search needs)
 
 same-length : tie.Need-same-length Inv-loop μ-loop
@@ -69,8 +66,7 @@ count-spec =
     μ-loop
     loop-holds
     record-at-requires
-    inst-of-requires
-    count-inst-requires
+    count-record-requires
     add-k
     loop-less
     loop-again

@@ -1,0 +1,11 @@
+use mathlib.Core.Path.{refl}
+use Rattle.codec.specs.Codec.{instRecord}
+use Rattle.emit.proofs.br_record.Statement.{statement}
+use Rattle.emit.proofs.br_record.Tie as tie
+
+returns : tie.Need-returns
+unfolding instRecord
+returns c = refl
+
+pub br-record-spec : {M : Type 1} → statement M
+br-record-spec = tie.close (tie.spec returns)

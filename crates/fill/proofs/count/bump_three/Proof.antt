@@ -1,0 +1,25 @@
+use mathlib.Core.Path.{ap, _∙_}
+use Prim.Native.Nat.{ℕ}
+use mathlib.Core.List.{List}
+use Rattle.facts.specs.Storage.{cap}
+use Rattle.fill.specs.Filling.{counted}
+use borrow.Author.Needs.{needs}
+use Rattle.fill.proofs.count.bump_three.Statement.{statement}
+use Rattle.fill.proofs.count.bump_three.Tie as tie
+
+bump-two-requires : tie.Need-bump-two-requires
+bump-two-requires c κs = search needs
+
+bump-requires : tie.Need-bump-requires
+bump-requires c κs = search needs
+
+same-length : tie.Need-same-length
+same-length c = search needs
+
+returns : tie.Need-returns
+returns c =
+    let a = c .before .before .before .before .before .before .before .before .before .args in
+    c .before .before .bump .ensures ∙ ap (λ (t : List ℕ). counted 2 cap t (a .b)) (c .before .before .before .before .before .before .bump-two .ensures)
+
+pub bump-three-spec : {M : Type 1} → statement M
+bump-three-spec = tie.close (tie.spec bump-two-requires bump-requires same-length returns)

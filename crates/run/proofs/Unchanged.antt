@@ -1,0 +1,45 @@
+-- Where no step does anything, the definition's `run` leaves a file as it is.
+use Prim.Native.Nat.{ℕ, _/_, _<_}
+use native.Mathlib.Omega.{arith}
+use mathlib.Core.Path.{_≡_, refl, sym, ap, _∙_}
+use mathlib.Core.Bool.{Bool, true, false, _&&_}
+use mathlib.Core.List.{List}
+use mathlib.Core.Logic.{_⊎_, inl, inr}
+use borrow.Author.Tests.{lt-ltb}
+use lib.Dec.{ltb}
+use lib.ListN.{length}
+use Rattle.inst.specs.declared.Code.{Code}
+use Rattle.procedure.specs.Procedure.{Procedure}
+use Rattle.procedure.specs.Lists.{joined, present}
+use Rattle.steps.specs.EqualArms.{Arms, equalArms}
+use Rattle.steps.specs.Gate.{hasBackEdge, mayThread}
+use Rattle.steps.specs.Run.{unchanged, withArms, threadIf, fromArms, runIf, run}
+use Rattle.arms.specs.Joined.{Joined, joined as joinedTo, armsOf, equalArmsIn}
+use Rattle.arms.proofs.Arms.{tiled-arms}
+use Rattle.opened.specs.Opened.{Parts, Opened}
+use Rattle.run.specs.Ran.{opensIn, Stays}
+
+module _ (p : Procedure) (x : Parts) (o : Opened p x) where
+  abbrev arms : List (List Code) → Arms
+  arms P = record { blocks = P; edited = false }
+
+  none-joined : equalArmsIn (x .heads) (x .code) ≡ joinedTo (x .code) false → equalArms (p .blocks) ≡ arms (p .blocks)
+  none-joined e =
+      ap equalArms (sym (o .blocks))
+      ∙ sym (tiled-arms (x .code) (x .heads) (o .tiled) (o .code-bytes))
+      ∙ ap (armsOf (x .heads)) e
+      ∙ ap arms (o .blocks)
+
+  shut : opensIn (p .body) (x .code) (x .heads) ≡ false → (hasBackEdge (p .blocks) && mayThread (present (p .body)) (p .blocks)) ≡ false
+  shut e = ap (λ (P : List (List Code)). hasBackEdge P && mayThread (present (p .body)) P) (sym (o .blocks)) ∙ e
+
+  pub stays-run : Stays (p .body) (x .code) (x .heads) → run p ≡ unchanged p
+  unfolding run
+  stays-run (inl few) =
+      let n = o .code-length in
+      ap (λ (b : Bool). runIf b p) (lt-ltb (length (joined (p .blocks))) 6 (omega arith))
+  stays-run (inr (none, closed)) = by (ltb (length (joined (p .blocks))) 6)
+    where
+      by : (b : Bool) → runIf b p ≡ unchanged p
+      by true = refl
+      by false = ap (λ (a : Arms). fromArms (withArms p a)) (none-joined none) ∙ ap (λ (b : Bool). threadIf b (unchanged p)) (shut closed)
