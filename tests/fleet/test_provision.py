@@ -737,7 +737,7 @@ class Terminal(Case):
         self.assertTrue(os.path.exists(os.path.join(self.filed, "report.csv")))
 
     def test_stopped_by_a_signal(self):
-        for number in range(3000):
+        for number in range(1500):
             self.put(f"{number % 10}/{number:04d}.call", sample("printed" if number % 500 else "refused"))
         run("provision", "--no-flush", self.sent, self.filed + "2", status=1)
         for number in (signal.SIGINT, signal.SIGTERM):
