@@ -9,7 +9,7 @@ import signal
 import sys
 from typing import List, Optional
 
-from . import __version__, audit, filing, page, provision, work
+from . import __version__, audit, filing, page, provision, report, work
 from ._library import LibraryError
 from .filing import Failed
 
@@ -55,7 +55,7 @@ def _jobs(text: str) -> int:
 
 def parser() -> argparse.ArgumentParser:
     raw = argparse.RawDescriptionHelpFormatter
-    top = argparse.ArgumentParser(prog="halivomue", description="Call procedures, filed with their shortened forms.")
+    top = argparse.ArgumentParser(prog="python3 -m halivomue", description="Call procedures, filed with their shortened forms.")
     top.add_argument("--version", action="version", version=f"halivomue {__version__}")
     commands = top.add_subparsers(dest="command", metavar="COMMAND", required=True)
     run = commands.add_parser("provision", help="file what is sent, with shortened forms", epilog=_PROVISION, formatter_class=raw)
@@ -109,7 +109,7 @@ def _provision(arguments: argparse.Namespace) -> int:
     say(outcome.totals.answers_text())
     say(outcome.totals.sums_text())
     if outcome.passed_over:
-        say(f"{outcome.passed_over} other files under SENT don't match {options.pattern}")
+        say(f"passed over: {report.counted(outcome.passed_over)} under SENT whose name doesn't match {options.pattern}")
     if options.dry_run:
         say("nothing was filed (--dry-run)")
     else:

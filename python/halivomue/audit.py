@@ -13,8 +13,9 @@ from .progress import Progress
 from .provision import Lock, State, described
 from .report import Row
 
-_COMPARED = report.COLUMNS[report.COLUMNS.index("tidy") :]
 _FORMS = {"sha256_sent": "the sent form is not the one that was filed", "sha256_short": "the shortened form is not the one that was filed"}
+# What is compared of a row: the digests first, since where they differ the other columns are of another file.
+_COMPARED = (*_FORMS, *report.COLUMNS[report.COLUMNS.index("tidy") : report.COLUMNS.index("sha256_sent")])
 
 
 class Task(NamedTuple):
@@ -38,7 +39,7 @@ class Outcome:
 
     def text(self) -> str:
         told = ", ".join(f"{count} {kind}" for kind, count in self.kinds.items() if count)
-        return f"{self.compared} files compared: {told or 'all as filed'}"
+        return f"{report.counted(self.compared)} compared: {told or 'all as filed'}"
 
 
 def _form(path: bytes, what: str, found: List[str]) -> Optional[bytes]:
@@ -89,6 +90,9 @@ def _shown(value: object) -> str:
 
 def _wrong_row(row: Row) -> Optional[str]:
     """Why no run writes such a row, if so."""
+    name = names.unquote(row.name)
+    if not names.proper(name) or names.quote(name) != row.name:
+        return "no name of a file"
     if row.answer not in ("accepted", "refused", "unreadable", "not sent"):
         return f"there is no answer {row.answer!r}"
     if row.filed not in ("yes", "no", "earlier", "spoiled") or (row.answer == "accepted") != (row.filed == "yes"):

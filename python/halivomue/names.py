@@ -70,6 +70,11 @@ def reserved(name: bytes) -> Optional[str]:
     return None
 
 
+def proper(name: bytes) -> bool:
+    """Is this the name of something below a tree's top?"""
+    return not {b"", b".", b".."} & set(name.split(b"/"))
+
+
 def matcher(pattern: str) -> Callable[[bytes], bool]:
     """Does the last part of a name match a shell's pattern?"""
     if pattern[:1] == "*" and not set(pattern[1:]) & set("*?["):

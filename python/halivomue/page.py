@@ -171,4 +171,4 @@ def write(filed: bytes, out: str, patterns: Sequence[str], most: int) -> str:
         filing.write([(path, own, text.encode("utf-8"))], flush=True)
     except Unreadable as error:
         raise Failed(f"{out}: {error}") from error
-    return f"{out}: {len(rows)} files, {drawn} drawn" + ("" if dot else "; dot isn't installed (Debian: graphviz)")
+    return f"{out}: {report.counted(len(rows))}, {drawn} drawn" + ("" if dot else "; dot isn't installed (Debian: graphviz)")

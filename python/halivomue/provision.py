@@ -398,8 +398,9 @@ class Walk:
 
     @staticmethod
     def gone(row: Row) -> Iterator[Task]:
-        if row.filed != "no":
-            yield Task(GONE, names.unquote(row.name))
+        name = names.unquote(row.name)
+        if row.filed != "no" and names.proper(name):
+            yield Task(GONE, name)
 
 
 def _chunks(options: Options, walk: Walk) -> Iterator[Done]:

@@ -51,6 +51,10 @@ HEADER = ",".join(COLUMNS)
 TOTAL = "total"
 
 
+def counted(files: int) -> str:
+    return f"{files} file" + ("" if files == 1 else "s")
+
+
 class Damaged(ValueError):
     """A line that is no row of a report."""
 
@@ -130,7 +134,7 @@ class Totals:
         told += [f"{self.untidy} untidy"] if self.untidy else []
         told += [f"{self.answers['not sent']} not sent any more"] if self.answers["not sent"] else []
         told += [f"{self.spoiled} spoiled"] if self.spoiled else []
-        return f"{self.files} files: {', '.join(told)}"
+        return f"{counted(self.files)}: {', '.join(told)}"
 
     def sums_text(self) -> str:
         s = self.sums

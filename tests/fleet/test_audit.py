@@ -90,9 +90,8 @@ class Tampered(Case):
     def test_4_both_forms_exchanged_for_others_that_belong_together(self):
         self.write("b.call", self.read("a/three.call"))
         self.write("b.call.short", self.read("a/three.call.short"))
-        found = self.audit()
-        self.assertIn("b.call: altered: the sent form is not the one that was filed (its digest is not the report's)", found)
-        self.assertIn("b.call: altered: the shortened form is not the one that was filed (its digest is not the report's)", found)
+        self.named("b.call: altered: the sent form is not the one that was filed (its digest is not the report's)",
+                   "b.call: altered: the shortened form is not the one that was filed (its digest is not the report's)")
 
     def test_5_the_sent_form_in_the_shortened_ones_place(self):
         self.write("b.call.short", self.read("b.call"))
@@ -197,6 +196,17 @@ class Tampered(Case):
         provision_here(self.sent, self.filed)
         self.column("b.call", "filed", "no")
         self.assertTrue(any(line.startswith("b.call: report:") for line in self.audit()))
+
+    def test_19_a_name_that_leads_out_of_the_folder(self):
+        outside = self.put("outside.call", sample("printed"), self.folder)
+        self.put("outside.call.short", halivomue.shorten(sample("printed")).data, self.folder)
+        before = tree(self.filed)
+        for name in ("../outside.call", os.fsdecode(outside), "a/../b.call", "\\x41"):
+            self.column("b.call", "name", name)
+            told = [line for line in self.audit() if "no name of a file" in line or "out of order" in line]
+            self.assertEqual(len(told), 1, name)
+            provision_here(self.sent, self.filed)
+            self.assertEqual(tree(self.filed), before)
 
     def test_17_the_report_in_json(self):
         provision_here(self.sent, self.filed, json=True)

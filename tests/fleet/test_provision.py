@@ -311,7 +311,7 @@ class Odd(Case):
         os.mkdir(os.path.join(self.sent, "folder.call"))
         out, _ = run("provision", self.sent, self.filed, status=1)
         self.assertIn("pipe.call: unreadable: not a regular file\n", out)
-        self.assertIn("1 files: 0 accepted, 0 refused, 1 unreadable", out)
+        self.assertIn("1 file: 0 accepted, 0 refused, 1 unreadable", out)
 
     def test_a_pipe_that_takes_a_files_place_does_not_block(self):
         os.mkfifo(os.path.join(self.sent, "pipe.call"))
@@ -429,7 +429,7 @@ class Changing(Case):
         self.assertEqual((row["answer"], row["number"], row["filed"], row["grown"]), ("refused", "7", "earlier", "2"))
         self.assertEqual({k: v for k, v in tree(self.filed).items() if b"call" in k}, {k: v for k, v in before.items() if b"call" in k})
         out, _ = run("audit", self.filed)
-        self.assertEqual(out, "1 files compared: all as filed\n")
+        self.assertEqual(out, "1 file compared: all as filed\n")
         os.unlink(os.path.join(self.sent, "a.call"))
         os.symlink("/etc/hostname", os.path.join(self.sent, "a.call"))
         run("provision", self.sent, self.filed, status=1)
@@ -443,7 +443,7 @@ class Changing(Case):
         os.unlink(os.path.join(self.sent, "a/a.call"))
         for _ in range(2):
             out, _ = run("provision", self.sent, self.filed)
-            self.assertIn("1 files: 1 accepted, 0 refused, 0 unreadable, 1 not sent any more", out)
+            self.assertIn("1 file: 1 accepted, 0 refused, 0 unreadable, 1 not sent any more", out)
             row = rows_of(self.filed)["a/a.call"]
             self.assertEqual((row["answer"], row["filed"], row["moved"]), ("not sent", "earlier", "1"))
             run("audit", self.filed)
@@ -566,7 +566,7 @@ class Rights(Case):
         os.chmod(os.path.join(self.filed, ".halivomue/lock"), 0o666)
         told = self.as_nobody("provision", self.sent, self.filed, status=2)
         self.assertIn("Permission denied", told)
-        self.assertEqual(self.as_nobody("audit", self.filed, status=0), "1 files compared: all as filed\n")
+        self.assertEqual(self.as_nobody("audit", self.filed, status=0), "1 file compared: all as filed\n")
 
     def test_a_folder_of_filed_without_rights(self):
         self.put("a/a.call", sample("printed"))
@@ -737,7 +737,8 @@ class Terminal(Case):
         self.assertTrue(os.path.exists(os.path.join(self.filed, "report.csv")))
 
     def test_stopped_by_a_signal(self):
-        fleet.write(self.sent, 1000, 40)
+        for number in range(1500):
+            self.put(f"{number % 10}/{number:04d}.call", sample("printed" if number % 500 else "refused"))
         run("provision", "--no-flush", self.sent, self.filed + "2", status=1)
         for number in (signal.SIGINT, signal.SIGTERM):
             filed = self.filed + str(int(number))
