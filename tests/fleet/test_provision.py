@@ -670,6 +670,11 @@ class Together(Case):
         self.assertEqual(tree(self.filed), tree(self.filed + "2"))
 
 
+def heed_interrupts():
+    """A shell's background jobs, as a gate may be, are started with SIGINT ignored, and so are their children."""
+    signal.signal(signal.SIGINT, signal.SIG_DFL)
+
+
 class Terminal(Case):
     def on_terminal(self, *words):
         """What a run writes to a terminal on standard error, with the modules of this test's folder."""
@@ -743,7 +748,8 @@ class Terminal(Case):
         for number in (signal.SIGINT, signal.SIGTERM):
             filed = self.filed + str(int(number))
             words = [sys.executable, "-m", "halivomue", "provision", "--jobs", "2", self.sent, filed]
-            process = subprocess.Popen(words, stdout=subprocess.PIPE, stderr=subprocess.PIPE, env=dict(os.environ, PYTHONPATH=str(ROOT / "python")))
+            process = subprocess.Popen(words, stdout=subprocess.PIPE, stderr=subprocess.PIPE, preexec_fn=heed_interrupts,
+                                       env=dict(os.environ, PYTHONPATH=str(ROOT / "python")))
             part = os.path.join(filed, ".halivomue/part.csv")
             end = time.monotonic() + 20
             while not (os.path.exists(part) and os.path.getsize(part) > 4000) and time.monotonic() < end:
