@@ -24,7 +24,8 @@ part-requires-3 c κs = search needs
 returns-3 : tie.Need-returns-3
 returns-3 c e =
     let a = c .before .before .before .before .before .before .args in
-    fitting (now (a .b)) (a .l) (a .n) (c .before .before .before .before .part .ensures) (c .before .before .before .if1 .left) (c .before .before .part2 .ensures) (c .before .if2 .left) (c .part3 .ensures) (leb-true _ _ e)
+    fitting (now (a .b)) (a .l) (a .n) (c .before .before .before .before .part .ensures) (c .before .before .before .if1 .left)
+    (c .before .before .part2 .ensures) (c .before .if2 .left) (c .part3 .ensures) (leb-true _ _ e)
 
 pub fits-spec : {M : Type 1} → statement M
 fits-spec =

@@ -43,7 +43,8 @@ returns-2 c =
     let bytes : Bytes b = λ (i : ℕ). omega (arith, d .before .before .shared-slice-known .given i) in
     clauses b o bytes (c .refused2 .result) o
     (c .refused2 .ensures o ∙ many-registers b o bytes (d .read .ensures) (c .before .before .before .before .if1 .left)
-    (by-part (λ x. x .registers) b (c .before .before .before .starts .ensures) (c .before .before .part .ensures) (λ n. 480 < n / 32) (c .before .if2 .taken)))
+    (by-part (λ x. x .registers) b (c .before .before .before .starts .ensures) (c .before .before .part .ensures) (λ n. 480 < n / 32)
+    (c .before .if2 .taken)))
 
 part-requires-2 : tie.Need-part-requires-2
 part-requires-2 c κs = search needs
@@ -60,8 +61,10 @@ returns-3 c =
     let bytes : Bytes b = λ (i : ℕ). omega (arith, d .before .before .shared-slice-known .given i) in
     clauses b o bytes (c .refused3 .result) o
     (c .refused3 .ensures o ∙ much-code b o bytes (d .read .ensures) (c .before .before .before .before .before .before .if1 .left)
-    (by-part (λ x. x .registers) b (c .before .before .before .before .before .starts .ensures) (c .before .before .before .before .part .ensures) (λ n. n / 32 ≤ 480) (c .before .before .before .if2 .left))
-    (by-part (λ x. x .code) b (c .before .before .before .before .before .starts .ensures) (c .before .before .part2 .ensures) (λ n. 480 < n / 32) (c .before .if3 .taken)))
+    (by-part (λ x. x .registers) b (c .before .before .before .before .before .starts .ensures)
+    (c .before .before .before .before .part .ensures) (λ n. n / 32 ≤ 480) (c .before .before .before .if2 .left))
+    (by-part (λ x. x .code) b (c .before .before .before .before .before .starts .ensures) (c .before .before .part2 .ensures) (λ n. 480 < n / 32)
+    (c .before .if3 .taken)))
 
 shorten-read-requires : tie.Need-shorten-read-requires
 shorten-read-requires c κs = search needs
@@ -80,7 +83,8 @@ returns-4 c =
     let starts = q .before .before .before .before .before .before .starts .ensures in
     clauses b o bytes (q .shorten-read .result) (q .shorten-read .last .1 .1 .0)
     (shortened-is b o bytes (d .read .ensures) (q .before .before .before .before .before .before .before .if1 .left)
-    (by-part (λ x. x .registers) b starts (q .before .before .before .before .before .part .ensures) (λ n. n / 32 ≤ 480) (q .before .before .before .before .if2 .left))
+    (by-part (λ x. x .registers) b starts (q .before .before .before .before .before .part .ensures) (λ n. n / 32 ≤ 480)
+    (q .before .before .before .before .if2 .left))
     (by-part (λ x. x .code) b starts (q .before .before .before .part2 .ensures) (λ n. n / 32 ≤ 480) (q .before .before .if3 .left))
     (subst (λ l. Done (partsOf b l) (q .shorten-read .result) o (q .shorten-read .last .1 .1 .0)) starts (q .shorten-read .ensures)))
 

@@ -32,7 +32,8 @@ same-length-2 : tie.Need-same-length-2
 same-length-2 c = search needs
 
 returns-2 : tie.Need-returns-2
-returns-2 c = c .before .before .shorten-small .ensures (c .before .before .before .before .before .fits2 .ensures (c .before .before .before .before .if2 .taken))
+returns-2 c =
+    c .before .before .shorten-small .ensures (c .before .before .before .before .before .fits2 .ensures (c .before .before .before .before .if2 .taken))
 
 fits-requires-2 : tie.Need-fits-requires-2
 fits-requires-2 c κs = search needs
@@ -44,7 +45,8 @@ same-length-3 : tie.Need-same-length-3
 same-length-3 c = search needs
 
 returns-3 : tie.Need-returns-3
-returns-3 c = c .before .before .shorten-medium .ensures (c .before .before .before .before .before .fits3 .ensures (c .before .before .before .before .if3 .taken))
+returns-3 c =
+    c .before .before .shorten-medium .ensures (c .before .before .before .before .before .fits3 .ensures (c .before .before .before .before .if3 .taken))
 
 shorten-large-requires : tie.Need-shorten-large-requires
 shorten-large-requires c κs = search needs
