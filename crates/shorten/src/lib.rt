@@ -118,20 +118,33 @@ fn fits(b: &[u8], l: Layout, n: usize) -> bool
     classes::part(b, l.code, l.operands).len() / 32 <= n
 }
 
-// A file that is read and within the limits. One that the steps leave as it is needs no storage.
+// A file of any size within the limits.
+fn shorten_more(b: &[u8], l: Layout, out: &mut [u8]) -> Answer
+    ensures { λ r. ⌜ Done (partsOf (now (b .entry)) l) r (now (out .entry)) (now (out .exit)) ⌝ }
+{
+    if fits(b, l, 120) {
+        return shorten_medium(b, l, out);
+    }
+    shorten_large(b, l, out)
+}
+
+// A file that is read and within the limits. One that the steps leave as it is needs no storage, a small one little.
 fn shorten_read(b: &[u8], l: Layout, out: &mut [u8]) -> Answer
     ensures { λ r. ⌜ Done (partsOf (now (b .entry)) l) r (now (out .entry)) (now (out .exit)) ⌝ }
 {
     if shortening::stays(b, l) {
         return shortening::put_sent(out, b, l);
     }
-    if fits(b, l, 24) {
-        return shorten_small(b, l, out);
+    if 24 < classes::part(b, 0, l.blocks).len() / 32 {
+        return shorten_more(b, l, out);
     }
-    if fits(b, l, 120) {
-        return shorten_medium(b, l, out);
+    if 24 < classes::part(b, l.blocks, l.bodies).len() / 32 {
+        return shorten_more(b, l, out);
     }
-    shorten_large(b, l, out)
+    if 24 < classes::part(b, l.code, l.operands).len() / 32 {
+        return shorten_more(b, l, out);
+    }
+    shorten_small(b, l, out)
 }
 
 // Shortens a file into the output buffer, or refuses it.

@@ -1,6 +1,6 @@
 //! Times a library's `halivomue_shorten` beside the published Rust with a plain reader and writer.
 //! Usage: bench-shorten                             all sorts of files and sizes, as a table
-//!        bench-shorten library|rust <sort> <n> [times]  one file of n instructions, once or so often, to be counted
+//!        bench-shorten library|rust <sort> <n> [times]  files of n instructions, the first or so many in turn, to be counted
 //! HALIVOMUE_LIBRARY names the shared object. To be built with `--profile speed`.
 
 use checks::reader;
@@ -160,18 +160,18 @@ fn counted_rust(_: Library, bytes: &[u8], out: &mut [u8]) -> Shortening {
     black_box(shorten_into(bytes, out))
 }
 
-/// One file shortened so often, to be counted; prints its instructions and records.
+/// So many files shortened, the same ones over and over, to be counted; prints the instructions and records of the first.
 fn again(library: Library, which: &str, sort: &str, n: usize, times: usize) {
     let sort = SORTS.into_iter().find(|s| format!("{s:?}").to_lowercase() == sort).expect("a sort of files");
-    let bytes = files(sort, n).remove(0);
+    let files = files(sort, n);
     let mut out = vec![0; 65_536];
-    for _ in 0..times {
+    for bytes in files.iter().cycle().take(times) {
         match which {
-            "library" => counted_library(library, black_box(&bytes), &mut out),
-            _ => counted_rust(library, black_box(&bytes), &mut out),
+            "library" => counted_library(library, black_box(bytes), &mut out),
+            _ => counted_rust(library, black_box(bytes), &mut out),
         };
     }
-    println!("{n} {}", bytes.len() / RECORD);
+    println!("{n} {}", files[0].len() / RECORD);
 }
 
 fn main() {
