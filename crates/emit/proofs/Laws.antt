@@ -1,11 +1,12 @@
 -- Laws of the emit step over bytes: which blocks stay, what is rescued, and records written one after the other.
 use Prim.Native.Nat.{ℕ, suc, _+_, _/_, _≤_, _<_}
 use native.Mathlib.Numerals.{add-one}
+use native.Mathlib.Omega.{arith}
 use mathlib.Core.Path.{_≡_, refl, sym, ap, _∙_}
-use mathlib.Core.Bool.{Bool, true, false, _&&_, not, cond, or-false}
+use mathlib.Core.Bool.{Bool, true, false, _&&_, _||_, not, cond, or-false}
 use mathlib.Core.List.{List, [], _∷_, map}
 use mathlib.Core.Option.{Option}
-use borrow.Author.Tests.{lt-leb, le-leb, lt-ltb, le-ltb}
+use borrow.Author.Tests.{ne-eqb, lt-leb, le-leb, lt-ltb, le-ltb}
 use lib.Dec.{eqb, ltb, leb}
 use lib.ListN.{length, getD, drop, drop-of-length-le}
 use lib.Seq.{drop-cons}
@@ -23,16 +24,17 @@ use Rattle.inst.specs.Inst.{kindOf}
 use Rattle.codec.specs.Codec.{instOf, codeOf, recordOf, blockOf}
 use Rattle.ends.specs.Forms.{formOf, fixedOf, isFixed}
 use Rattle.ends.specs.Ends.{endOf}
+use Rattle.ends.proofs.Laws.{same-kind}
 use Rattle.steps.specs.Emit.{isJump, isLast, firstStmt, stays, emptied, rescuedOf}
 use Rattle.procedure.specs.Lists.{anyOf}
 use Rattle.facts.specs.Storage.{factsIn, singleIn}
 use Rattle.emit.specs.Emitted.{rescuedBy, rescuedIn, staysBy, branchRecord, Place, place, put, puts}
 
 -- Const, ConstF and AddrOf by their kinds
-abbrev pub fixedKind : ℕ → Bool
-fixedKind k = ltb k 4 && not (eqb k 2)
+abbrev fixedKind : ℕ → Bool
+fixedKind k = eqb k 0 || (eqb k 1 || eqb k 3)
 
-pub fixed-kind : (x : Inst) → fixedKind (kindOf x) ≡ isFixed (fixedOf x)
+fixed-kind : (x : Inst) → fixedKind (kindOf x) ≡ isFixed (fixedOf x)
 unfolding fixedOf formOf
 fixed-kind (i.Const d v) = refl
 fixed-kind (i.ConstF d v) = refl
@@ -58,6 +60,15 @@ fixed-kind (i.Case v t) = refl
 fixed-kind (i.Ret v) = refl
 fixed-kind (i.Unreachable w) = refl
 fixed-kind i.Stmt = refl
+
+fixed-past : (k : ℕ) → 23 ≤ k → fixedKind k ≡ fixedKind 23
+fixed-past k h = rw (ne-eqb k 0 (omega arith), ne-eqb k 1 (omega arith), ne-eqb k 3 (omega arith))
+
+-- no other record is rescued
+pub other-record : (facts : List ℕ) (r : Record) → (r .kind ≡ 0 → ⊥) → (r .kind ≡ 1 → ⊥) → (r .kind ≡ 3 → ⊥) → false ≡ rescuedBy facts (instOf r)
+other-record facts r a b c =
+    neither _ refl
+    (sym (fixed-kind (instOf r)) ∙ same-kind fixedKind fixed-past r ∙ rw (ne-eqb (r .kind) 0 a, ne-eqb (r .kind) 1 b, ne-eqb (r .kind) 3 c))
 
 -- each of the three is rescued where its register is single
 module _ (facts : List ℕ) (d : Reg) where

@@ -5,7 +5,7 @@ ghost use lib.ListN.{length, getD};
 ghost use lib.Seq.{paste};
 ghost use Rattle.format.specs.Record.{recordsOf};
 ghost use Rattle.inst.specs.declared.Inst.the-variants as i;
-ghost use Rattle.codec.specs.Codec.{recordOf};
+ghost use Rattle.codec.specs.Codec.{instOf, recordOf};
 ghost use Rattle.procedure.specs.Lists.{joined};
 ghost use Rattle.procedure.specs.Procedure.{codesOf};
 ghost use Rattle.blocks.specs.Blocks.{blockRecordsIn, blocksOf};
@@ -17,20 +17,17 @@ use ends::End;
 use format::Record;
 use inst::Block;
 use inst::BlockId;
-use inst::Inst;
+use inst::Reg;
 
-// A Const, ConstF or AddrOf whose register one field of the code writes.
-pub fn is_rescued(i: Inst, facts: &[u64]) -> bool
-    ensures { λ z. ⌜ z ≡ rescuedBy (now (facts .entry)) i ⌝ }
+// A Const, ConstF or AddrOf whose register one field of the code writes. By the record's kind.
+pub fn is_rescued(r: Record, facts: &[u64]) -> bool
+    ensures { λ z. ⌜ z ≡ rescuedBy (now (facts .entry)) (instOf r) ⌝ }
 {
-    match i {
-        Inst::Const { dst, v: _ } => facts::is_single(facts, dst),
-        Inst::ConstF { dst, v: _ } => facts::is_single(facts, dst),
-        Inst::AddrOf {
-            dst,
-            space: _,
-            off: _,
-        } => facts::is_single(facts, dst),
+    let kind = r.kind;
+    match kind {
+        0 => facts::is_single(facts, Reg(r.p1)),
+        1 => facts::is_single(facts, Reg(r.p1)),
+        3 => facts::is_single(facts, Reg(r.p1)),
         _ => false,
     }
 }
@@ -72,7 +69,7 @@ pub fn rescued_in(code: &[u8], facts: &[u64]) -> usize
     let mut keep = 0;
     let mut k = 0;
     while k < n {
-        if is_rescued(ends::inst_at(code, k), facts) {
+        if is_rescued(format::record_at(code, k), facts) {
             keep += 1;
         }
         k += 1;
@@ -150,7 +147,7 @@ pub fn put_rescued(out: &mut [u8], at: usize, code: &[u8], facts: &[u64]) -> usi
     let mut top = at;
     let mut k = 0;
     while k < n {
-        let keep = is_rescued(ends::inst_at(code, k), facts);
+        let keep = is_rescued(format::record_at(code, k), facts);
         top = put_if(out, top, keep, format::record_at(code, k));
         k += 1;
     }

@@ -8,7 +8,6 @@ use lib.ListN.{length, drop}
 use Rattle.format.specs.declared.Record.{Record}
 use Rattle.format.specs.Record.{recordsOf, recordAt}
 use Rattle.format.proofs.Laws.{length-records}
-use Rattle.ends.proofs.Laws.{code-at}
 use Rattle.codec.specs.Codec.{instOf}
 use Rattle.emit.specs.Emitted.{rescuedBy, rescuedIn, place, put, puts}
 use Rattle.emit.proofs.Laws.{rescued-end, puts-rescued}
@@ -28,14 +27,14 @@ abbrev μ-loop : tie.MeasureT-loop
 loop-holds : tie.Need-loop-holds Inv-loop μ-loop
 loop-holds c = (omega arith, refl, refl, refl)
 
-inst-at-requires : tie.Need-inst-at-requires Inv-loop μ-loop
-inst-at-requires c κs = search needs
+record-at-requires : tie.Need-record-at-requires Inv-loop μ-loop
+record-at-requires c κs = search needs
 
 is-rescued-requires : tie.Need-is-rescued-requires Inv-loop μ-loop
 is-rescued-requires c κs = search needs
 
-record-at-requires : tie.Need-record-at-requires Inv-loop μ-loop
-record-at-requires c κs = search needs
+record-at-requires-2 : tie.Need-record-at-requires-2 Inv-loop μ-loop
+record-at-requires-2 c κs = search needs
 
 put-if-requires : tie.Need-put-if-requires Inv-loop μ-loop
 put-if-requires c κs = search needs
@@ -57,14 +56,14 @@ loop-again c =
     let k = l .loop .k in
     let s = place (l .loop .out) (l .loop .top) in
     let n = length-records b in
-    let is = p .before .before .before .is-rescued .ensures ∙ ap (rescuedBy f) (i .inst-at .ensures ∙ ap (λ x. x .inst) (code-at b k)) in (
+    let is = p .before .before .before .is-rescued .ensures ∙ ap (λ (r : Record). rescuedBy f (instOf r)) (i .record-at .ensures) in (
       omega arith,
       l .loop .inv .1,
       p .put-if .kept .0 ∙ l .loop .inv .2,
       ap (puts (rescuedIn f (drop (k + 1) (recordsOf b))))
           (p .put-if .ensures
-          ∙ ap (λ (t : Bool). cond t (put (p .before .record-at .result) s) s) is
-          ∙ ap (λ (r : Record). cond (rescuedBy f (instOf (recordAt b k))) (put r s) s) (p .before .record-at .ensures))
+          ∙ ap (λ (t : Bool). cond t (put (p .before .record-at2 .result) s) s) is
+          ∙ ap (λ (r : Record). cond (rescuedBy f (instOf (recordAt b k))) (put r s) s) (p .before .record-at2 .ensures))
           ∙ sym (puts-rescued f (recordsOf b) k s (omega arith))
           ∙ l .loop .inv .3,
     )
@@ -89,9 +88,9 @@ put-rescued-spec =
     Inv-loop
     μ-loop
     loop-holds
-    inst-at-requires
-    is-rescued-requires
     record-at-requires
+    is-rescued-requires
+    record-at-requires-2
     put-if-requires
     add-k
     loop-less

@@ -10,7 +10,7 @@ use Rattle.general.proofs.Booleans.{told}
 use Rattle.format.specs.declared.Record.{Record}
 use Rattle.format.specs.Record.{recordsOf}
 use Rattle.format.proofs.Laws.{length-records}
-use Rattle.ends.proofs.Laws.{code-at}
+use Rattle.codec.specs.Codec.{instOf}
 use Rattle.emit.specs.Emitted.{rescuedBy, rescuedIn}
 use Rattle.emit.proofs.Laws.{rescued-one, rescued-pass, rescued-end}
 use Rattle.emit.proofs.rescued_in.Statement.{statement}
@@ -29,8 +29,8 @@ abbrev μ-loop : tie.MeasureT-loop
 loop-holds : tie.Need-loop-holds Inv-loop μ-loop
 loop-holds c = (omega arith, omega arith, refl, omega arith)
 
-inst-at-requires : tie.Need-inst-at-requires Inv-loop μ-loop
-inst-at-requires c κs = search needs
+record-at-requires : tie.Need-record-at-requires Inv-loop μ-loop
+record-at-requires c κs = search needs
 
 is-rescued-requires : tie.Need-is-rescued-requires Inv-loop μ-loop
 is-rescued-requires c κs = search needs
@@ -52,7 +52,7 @@ loop-again c =
     let f = now (a .facts) in
     let k = l .loop .k in
     let n = length-records b in
-    let i = c .before .before .inst-at .ensures ∙ ap (λ x. x .inst) (code-at b k) in
+    let i = ap instOf (c .before .before .record-at .ensures) in
     ⊎-elim
     (λ w.
     let t = told (rescuedBy f) i (c .before .is-rescued .ensures) (w .0 .taken) in
@@ -74,4 +74,4 @@ returns c =
 
 pub rescued-in-spec : {M : Type 1} → statement M
 rescued-in-spec =
-    tie.close (tie.spec Inv-loop μ-loop loop-holds inst-at-requires is-rescued-requires add-keep add-k loop-less loop-again returns)
+    tie.close (tie.spec Inv-loop μ-loop loop-holds record-at-requires is-rescued-requires add-keep add-k loop-less loop-again returns)
