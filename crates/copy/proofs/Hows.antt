@@ -16,7 +16,7 @@ use Rattle.roles.specs.Roles.{rolesOf, defsOf, numbersOf, regOf}
 use Rattle.roles.proofs.Laws.{defs-first, number-at}
 use Rattle.ends.specs.Forms.{Fixed, word, real, address, varying, formOf, fixedOf}
 use Rattle.steps.specs.Facts.{Facts}
-use Rattle.steps.specs.Copy.{leftOut, renumbered, kept, howFixed, howSingle, howWritten, howOf}
+use Rattle.steps.specs.Copy.{leftOut, renumbered, kept, howFixed, howWritten, howOf}
 use Rattle.copy.specs.Storage.{isConst, howOne}
 
 -- Const and ConstF are the first two kinds
@@ -80,9 +80,8 @@ module _ (f : Facts) (own : ℕ → ℕ) (x : Inst) {q : Roles} (e : q ≡ roles
   unfolding howOf
   how-none h = none (defsOf x) (sym defs-is ∙ h)
 
-  some : (l : List ℕ) → (length l ≡ 0 → ⊥) →
-      howWritten f own (fixedOf x) l
-      ≡ howSingle f (own (getD l 0 0)) (getD l 0 0) (fixedOf x) (ltb (getD l 0 0) (length (f .registers)) && f .single (getD l 0 0))
+  -- only the first register written is looked at
+  some : (l : List ℕ) → (length l ≡ 0 → ⊥) → howWritten f own (fixedOf x) (getD l 0 0 ∷ []) ≡ howWritten f own (fixedOf x) l
   some [] h = absurd (h refl)
   some (d ∷ l) h = refl
 
@@ -94,21 +93,22 @@ module _ (f : Facts) (own : ℕ → ℕ) (x : Inst) {q : Roles} (e : q ≡ roles
         ∙ ap (λ (p : Roles). getD (take (p .defs) (numbersOf (p .reg))) 0 0) e
         ∙ ap (λ (l : List ℕ). getD l 0 0) (defs-first x)
 
-    single : howOf f own x
-        ≡ (let d = getD (q .reg) 0 (regOf 0) .0 in howSingle f (own d) d (fixedOf x) (ltb d (length (f .registers)) && f .single d))
+    pub how-some : howWritten f own (fixedOf x) (getD (q .reg) 0 (regOf 0) .0 ∷ []) ≡ howOf f own x
     unfolding howOf
-    single =
-        some (defsOf x) (λ z. h (defs-is ∙ z))
-        ∙ ap (λ (d : ℕ). howSingle f (own d) d (fixedOf x) (ltb d (length (f .registers)) && f .single d)) (sym first-def)
+    how-some = ap (λ (d : ℕ). howWritten f own (fixedOf x) (d ∷ [])) first-def ∙ some (defsOf x) (λ z. h (defs-is ∙ z))
 
-    pub how-new : length (f .registers) ≤ getD (q .reg) 0 (regOf 0) .0 → kept ≡ howOf f own x
-    how-new g = sym (single ∙ rw (le-ltb (getD (q .reg) 0 (regOf 0) .0) (length (f .registers)) g))
+-- by what an instruction writes
+pub by-defs : (f : Facts) (own : ℕ → ℕ) (x : Inst) {l : List ℕ} → defsOf x ≡ l → howWritten f own (fixedOf x) l ≡ howOf f own x
+unfolding howOf
+by-defs f own x e = ap (howWritten f own (fixedOf x)) (sym e)
 
-    pub how-many : f .single (getD (q .reg) 0 (regOf 0) .0) ≡ false → kept ≡ howOf f own x
-    how-many g = sym (single ∙ rw (g, and-false (ltb (getD (q .reg) 0 (regOf 0) .0) (length (f .registers)))))
+-- a register that is written, by the tests in their order
+module _ (f : Facts) (own : ℕ → ℕ) (x : Fixed) (d : ℕ) where
+  pub written-new : length (f .registers) ≤ d → kept ≡ howWritten f own x (d ∷ [])
+  written-new g = rw (le-ltb d (length (f .registers)) g)
 
-    pub how-one : getD (q .reg) 0 (regOf 0) .0 < length (f .registers) → f .single (getD (q .reg) 0 (regOf 0) .0) ≡ true →
-        (let d = getD (q .reg) 0 (regOf 0) .0 in howOne (f .uses d) (own d) d (fixedOf x)) ≡ howOf f own x
-    how-one g s =
-        let d = getD (q .reg) 0 (regOf 0) .0 in
-        fixed-one f (own d) d (fixedOf x) ∙ sym (single ∙ rw (lt-ltb d (length (f .registers)) g, s))
+  pub written-many : f .single d ≡ false → kept ≡ howWritten f own x (d ∷ [])
+  written-many g = rw (g, and-false (ltb d (length (f .registers))))
+
+  pub written-one : d < length (f .registers) → f .single d ≡ true → howOne (f .uses d) (own d) d x ≡ howWritten f own x (d ∷ [])
+  written-one g s = fixed-one f (own d) d x ∙ rw (lt-ltb d (length (f .registers)) g, s)

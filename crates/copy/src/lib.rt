@@ -123,8 +123,22 @@ fn how_single(i: Inst, d: Reg, code: [Code; 4], n: usize, facts: &[u64]) -> How
     How::Kept
 }
 
-// What becomes of an instruction of a target, whose first n instructions are given.
-fn how_of(i: Inst, code: [Code; 4], n: usize, facts: &[u64]) -> How
+// What becomes of an instruction that writes d alone, or d first.
+fn how_written(i: Inst, d: Reg, code: [Code; 4], n: usize, facts: &[u64]) -> How
+    requires { ⌜ n ≤ 4 ⌝ }
+    ensures { λ z. ⌜ ((body : Option ℕ) (budget : ℕ)
+        → howIn z ≡ steps.howWritten (factsIn (now (facts .entry)) body budget) (steps.ownUses (take n code)) (fixedOf i) (d .0 ∷ [])) ⌝ }
+{
+    if facts::registers(facts) <= d.0 as usize {
+        return How::Kept;
+    }
+    if facts::is_single(facts, d) {
+        return how_single(i, d, code, n, facts);
+    }
+    How::Kept
+}
+
+fn how_by_roles(i: Inst, code: [Code; 4], n: usize, facts: &[u64]) -> How
     requires { ⌜ n ≤ 4 ⌝ }
     ensures { λ z. ⌜ ((body : Option ℕ) (budget : ℕ)
         → howIn z ≡ steps.howOf (factsIn (now (facts .entry)) body budget) (steps.ownUses (take n code)) i) ⌝ }
@@ -134,14 +148,28 @@ fn how_of(i: Inst, code: [Code; 4], n: usize, facts: &[u64]) -> How
         return How::Kept;
     }
     let reg = q.reg;
-    let d = reg[0];
-    if facts::registers(facts) <= d.0 as usize {
-        return How::Kept;
+    how_written(i, reg[0], code, n, facts)
+}
+
+// What becomes of an instruction of a target, whose first n instructions are given: those that most copies have by their fields.
+fn how_of(i: Inst, code: [Code; 4], n: usize, facts: &[u64]) -> How
+    requires { ⌜ n ≤ 4 ⌝ }
+    ensures { λ z. ⌜ ((body : Option ℕ) (budget : ℕ)
+        → howIn z ≡ steps.howOf (factsIn (now (facts .entry)) body budget) (steps.ownUses (take n code)) i) ⌝ }
+{
+    match i {
+        Inst::Const { dst, v: _ } => how_written(i, dst, code, n, facts),
+        Inst::Move { dst, src: _ } => how_written(i, dst, code, n, facts),
+        Inst::Cmp {
+            op: _,
+            dst,
+            a: _,
+            b: _,
+        } => how_written(i, dst, code, n, facts),
+        Inst::Br { to: _ } => How::Kept,
+        Inst::CondBr { c: _, t: _, f: _ } => How::Kept,
+        _ => how_by_roles(i, code, n, facts),
     }
-    if facts::is_single(facts, d) {
-        return how_single(i, d, code, n, facts);
-    }
-    How::Kept
 }
 
 // One instruction more at the end of the copy.

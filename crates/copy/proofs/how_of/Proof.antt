@@ -1,82 +1,97 @@
-use mathlib.Core.Path.{sym, _∙_}
-use native.Mathlib.Omega.{arith}
-use borrow.Author.Needs.{needs}
 use denote.Ref.{now}
 use lib.ListN.{take}
-use Rattle.steps.specs.Copy.{ownUses}
+use mathlib.Core.Path.{sym, ap, _∙_}
+use Rattle.roles.specs.Roles.{defsOf}
+use Rattle.steps.specs.Copy.{howOf, ownUses}
 use Rattle.facts.specs.Storage.{factsIn}
-use Rattle.copy.proofs.Hows.{how-none, how-new, how-many, how-one}
+use Rattle.copy.proofs.Hows.{by-defs}
+use borrow.Author.Needs.{needs}
 use Rattle.copy.proofs.how_of.Statement.{statement}
 use Rattle.copy.proofs.how_of.Tie as tie
 
-roles-of-requires : tie.Need-roles-of-requires
-roles-of-requires c κs = search needs
+enum-known-i : tie.Need-enum-known-i
+enum-known-i c = search needs
+
+how-written-requires : tie.Need-how-written-requires
+how-written-requires c κs = search needs
+
+enum-known-i-2 : tie.Need-enum-known-i-2
+enum-known-i-2 c = search needs
+
+how-written-requires-2 : tie.Need-how-written-requires-2
+how-written-requires-2 c κs = search needs
+
+enum-known-i-3 : tie.Need-enum-known-i-3
+enum-known-i-3 c = search needs
+
+how-written-requires-3 : tie.Need-how-written-requires-3
+how-written-requires-3 c κs = search needs
+
+enum-told : tie.Need-enum-told
+enum-told c = search needs
+
+enum-told-2 : tie.Need-enum-told-2
+enum-told-2 c = search needs
+
+how-by-roles-requires : tie.Need-how-by-roles-requires
+how-by-roles-requires c κs = search needs
 
 returns : tie.Need-returns
+unfolding howOf
 returns c =
-    let r = c .before .before in
-    let a = r .before .before .args in
-    λ body budget. how-none (factsIn (now (a .facts)) body budget) (ownUses (take (a .n) (a .code))) (a .i) (r .roles-of .ensures) (c .if1 .taken)
-
-array-copy-out-d : tie.Need-array-copy-out-d
-array-copy-out-d c = search needs
-
-registers-requires : tie.Need-registers-requires
-registers-requires c κs = search needs
-
-cast-if2 : tie.Need-cast-if2
-cast-if2 c = search needs
+    let i = c .before .before in
+    let a = i .before .before .before .args in
+    λ body budget.
+    c .how-written .ensures body budget
+    ∙ sym (ap (howOf (factsIn (now (a .facts)) body budget) (ownUses (take (a .n) (a .code)))) (i .i .given .1))
 
 returns-2 : tie.Need-returns-2
+unfolding howOf
 returns-2 c =
-    let g = c .before .before in
-    let t = g .before .before .before in
-    let r = t .before .before in
-    let a = r .before .before .args in
+    let i = c .before .before in
+    let a = i .before .before .before .args in
     λ body budget.
-    how-new (factsIn (now (a .facts)) body budget) (ownUses (take (a .n) (a .code))) (a .i) (r .roles-of .ensures) (t .if1 .left)
-    (omega (arith, g .registers .ensures, c .if2 .taken))
-
-is-single-requires : tie.Need-is-single-requires
-is-single-requires c κs = search needs
-
-how-single-requires : tie.Need-how-single-requires
-how-single-requires c κs = search needs
+    c .how-written2 .ensures body budget
+    ∙ sym (ap (howOf (factsIn (now (a .facts)) body budget) (ownUses (take (a .n) (a .code)))) (i .i2 .given .1))
 
 returns-3 : tie.Need-returns-3
+unfolding howOf
 returns-3 c =
-    let s = c .before .before in
-    let g = s .before .before .before in
-    let t = g .before .before .before in
-    let r = t .before .before in
-    let a = r .before .before .args in
+    let i = c .before .before in
+    let a = i .before .before .before .args in
     λ body budget.
-    c .how-single .ensures
-    ∙ how-one (factsIn (now (a .facts)) body budget) (ownUses (take (a .n) (a .code))) (a .i) (r .roles-of .ensures) (t .if1 .left)
-    (omega (arith, g .registers .ensures, s .before .if2 .left))
-    (sym (s .is-single .ensures) ∙ c .before .if3 .taken)
+    c .how-written3 .ensures body budget
+    ∙ sym (ap (howOf (factsIn (now (a .facts)) body budget) (ownUses (take (a .n) (a .code)))) (i .i3 .given .1))
 
 returns-4 : tie.Need-returns-4
 returns-4 c =
-    let g = c .before .before .before .before in
-    let t = g .before .before .before in
-    let r = t .before .before in
-    let a = r .before .before .args in
-    λ body budget.
-    how-many (factsIn (now (a .facts)) body budget) (ownUses (take (a .n) (a .code))) (a .i) (r .roles-of .ensures) (t .if1 .left)
-    (sym (c .before .is-single .ensures) ∙ c .if3 .left)
+    let a = c .before .before .before .args in
+    λ body budget. by-defs (factsIn (now (a .facts)) body budget) (ownUses (take (a .n) (a .code))) (a .i) (ap defsOf (c .enum-told .given .1))
+
+returns-5 : tie.Need-returns-5
+returns-5 c =
+    let a = c .before .before .before .args in
+    λ body budget. by-defs (factsIn (now (a .facts)) body budget) (ownUses (take (a .n) (a .code))) (a .i) (ap defsOf (c .enum-told2 .given .1))
+
+returns-6 : tie.Need-returns-6
+returns-6 c = search needs
 
 pub how-of-spec : {M : Type 1} → statement M
 how-of-spec =
     tie.close
     (tie.spec
-    roles-of-requires
+    enum-known-i
+    how-written-requires
+    enum-known-i-2
+    how-written-requires-2
+    enum-known-i-3
+    how-written-requires-3
+    enum-told
+    enum-told-2
+    how-by-roles-requires
     returns
-    array-copy-out-d
-    registers-requires
-    cast-if2
     returns-2
-    is-single-requires
-    how-single-requires
     returns-3
-    returns-4)
+    returns-4
+    returns-5
+    returns-6)

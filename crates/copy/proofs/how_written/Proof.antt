@@ -1,0 +1,61 @@
+use denote.Ref.{now}
+use lib.ListN.{take}
+use mathlib.Core.Path.{sym, _∙_}
+use native.Mathlib.Omega.{arith}
+use Rattle.ends.specs.Forms.{fixedOf}
+use Rattle.steps.specs.Copy.{ownUses}
+use Rattle.facts.specs.Storage.{factsIn}
+use Rattle.copy.proofs.Hows.{written-new, written-many, written-one}
+use borrow.Author.Needs.{needs}
+use Rattle.copy.proofs.how_written.Statement.{statement}
+use Rattle.copy.proofs.how_written.Tie as tie
+
+registers-requires : tie.Need-registers-requires
+registers-requires c κs = search needs
+
+cast-if1 : tie.Need-cast-if1
+cast-if1 c = search needs
+
+returns : tie.Need-returns
+returns c =
+    let g = c .before .before in
+    let a = g .before .before .args in
+    λ body budget.
+    written-new (factsIn (now (a .facts)) body budget) (ownUses (take (a .n) (a .code))) (fixedOf (a .i)) (a .d .0)
+    (omega (arith, g .registers .ensures, c .if1 .taken))
+
+is-single-requires : tie.Need-is-single-requires
+is-single-requires c κs = search needs
+
+how-single-requires : tie.Need-how-single-requires
+how-single-requires c κs = search needs
+
+returns-2 : tie.Need-returns-2
+returns-2 c =
+    let s = c .before .before in
+    let g = s .before .before .before in
+    let a = g .before .before .args in
+    λ body budget.
+    c .how-single .ensures
+    ∙ written-one (factsIn (now (a .facts)) body budget) (ownUses (take (a .n) (a .code))) (fixedOf (a .i)) (a .d .0)
+    (omega (arith, g .registers .ensures, s .before .if1 .left))
+    (sym (s .is-single .ensures) ∙ c .before .if2 .taken)
+
+returns-3 : tie.Need-returns-3
+returns-3 c =
+    let a = c .before .before .before .before .before .before .args in
+    λ body budget.
+    written-many (factsIn (now (a .facts)) body budget) (ownUses (take (a .n) (a .code))) (fixedOf (a .i)) (a .d .0)
+    (sym (c .before .is-single .ensures) ∙ c .if2 .left)
+
+pub how-written-spec : {M : Type 1} → statement M
+how-written-spec =
+    tie.close
+    (tie.spec
+    registers-requires
+    cast-if1
+    returns
+    is-single-requires
+    how-single-requires
+    returns-2
+    returns-3)
