@@ -113,6 +113,6 @@ pub few-all : {q : Roles} (i : Inst) → q ≡ rolesOf i → q .n ≤ 5
 few-all i g = rw g (n-few i)
 
 -- what is counted at a record is what is counted at its row of the table of kinds
-pub counted-as : (b t : List ℕ) (r : Record) (k : ℕ) → r .kind ≡ k
-    → countInst (operandsIn b) t (getD (instsOf r) k Stmt) ≡ countInst (operandsIn b) t (instOf r)
-counted-as b t r k e = ap (countInst (operandsIn b) t) (inst-at r k e)
+pub counted-as : (b t : List ℕ) (r : Record) (k : ℕ) {q : Record} → r ≡ q → r .kind ≡ k
+    → countInst (operandsIn b) t (getD (instsOf r) k Stmt) ≡ countInst (operandsIn b) t (instOf q)
+counted-as b t r k i e = ap (countInst (operandsIn b) t) (inst-at r k e ∙ ap instOf i)

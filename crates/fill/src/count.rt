@@ -1,12 +1,12 @@
 ghost use mathlib.Core.Path.{_≡_};
 ghost use Prim.Native.Nat.{_≤_, _<_};
 ghost use lib.ListN.{take, drop};
+ghost use Rattle.format.specs.Record.{recordAt};
 ghost use Rattle.codec.specs.Codec.{instOf};
 ghost use Rattle.roles.specs.Roles.{boolUses, operandsOf, numbersOf};
 ghost use Rattle.procedure.specs.Procedure.{codesOf};
 ghost use Rattle.facts.specs.Storage.{cap, operandsIn};
 ghost use Rattle.fill.specs.Filling.{over, counted, countInst, countCode};
-use format::Record;
 use inst::BoolOp;
 use inst::Inst;
 use inst::Reg;
@@ -103,10 +103,12 @@ fn bump_bool(table: &mut [u64], op: BoolOp, d: u32, a: u32, b: u32)
     }
 }
 
-// The same for a record: the kinds that most code has are counted by their fields.
-fn count_record(table: &mut [u64], operands: &[u8], r: Record)
-    ensures { λ u. ⌜ now (table .exit) ≡ countInst (operandsIn (now (operands .entry))) (now (table .entry)) (instOf r) ⌝ }
+// The same for record k: the kinds that most code has are counted by their fields; for another it is read again as a whole.
+fn count_record(table: &mut [u64], operands: &[u8], code: &[u8], k: usize)
+    ensures { λ u. ⌜ now (table .exit)
+        ≡ countInst (operandsIn (now (operands .entry))) (now (table .entry)) (instOf (recordAt (now (code .entry)) k)) ⌝ }
 {
+    let r = format::record_at(code, k);
     let kind = r.kind;
     match kind {
         0 => bump(table, 1, 255, Reg(r.p1)),
@@ -121,7 +123,7 @@ fn count_record(table: &mut [u64], operands: &[u8], r: Record)
         18 => {}
         19 => bump(table, 2, 4294967295, Reg(r.p1)),
         23 => {}
-        _ => count_inst(table, operands, codec::inst_of(r)),
+        _ => count_inst(table, operands, codec::inst_of(format::record_at(code, k))),
     }
 }
 
@@ -131,7 +133,7 @@ pub fn count(code: &[u8], operands: &[u8], table: &mut [u64])
 {
     let mut k = 0;
     while k < code.len() / 32 {
-        count_record(table, operands, format::record_at(code, k));
+        count_record(table, operands, code, k);
         k += 1;
     }
 }

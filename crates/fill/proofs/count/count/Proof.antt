@@ -25,9 +25,6 @@ abbrev μ-loop : tie.MeasureT-loop
 loop-holds : tie.Need-loop-holds Inv-loop μ-loop
 loop-holds c = (refl, refl)
 
-record-at-requires : tie.Need-record-at-requires Inv-loop μ-loop
-record-at-requires c κs = search needs
-
 count-record-requires : tie.Need-count-record-requires Inv-loop μ-loop
 count-record-requires c κs = search needs
 
@@ -39,13 +36,13 @@ loop-less c = search needs
 
 loop-again : tie.Need-loop-again Inv-loop μ-loop
 loop-again c =
-    let l = c .before .before .before .before .before .before in
+    let l = c .before .before .before .before .before in
     let a = l .before .before .before .before .args in
     let b = now (a .code) in
     let ops = operandsIn (now (a .operands)) in
-    let at = inst-at b (l .loop .k) (c .before .before .before .record-at .ensures) refl in
+    let at = inst-at b (l .loop .k) refl refl in
     let one = c .before .before .count-record .ensures ∙ ap (countInst ops (l .loop .table)) at in
-    let more : l .loop .k < length (codesOf b) = rw (length-codes b) (c .before .before .before .before .before .loop-test .taken) in
+    let more : l .loop .k < length (codesOf b) = rw (length-codes b) (c .before .before .before .before .loop-test .taken) in
     (over-again (countCode ops) (codesOf b) (l .loop .k) (codeOf blank) more one (l .loop .inv .0), search needs)
 
 same-length : tie.Need-same-length Inv-loop μ-loop
@@ -65,7 +62,6 @@ count-spec =
     Inv-loop
     μ-loop
     loop-holds
-    record-at-requires
     count-record-requires
     add-k
     loop-less

@@ -3,6 +3,7 @@ use native.Mathlib.Omega.{arith}
 use mathlib.Core.Path.{sym, ap, _∙_}
 use mathlib.Core.List.{append-nil}
 use Rattle.inst.specs.declared.BoolOp.{BoolOp}
+use Rattle.codec.specs.Codec.{instOf}
 use Rattle.codec.proofs.Table.{inst-past}
 use Rattle.ops.specs.Ops.{boolOf}
 use Rattle.roles.specs.Roles.{boolUses}
@@ -12,6 +13,9 @@ use Rattle.fill.proofs.Laws.{counted-as}
 use borrow.Author.Needs.{needs}
 use Rattle.fill.proofs.count.count_record.Statement.{statement}
 use Rattle.fill.proofs.count.count_record.Tie as tie
+
+record-at-requires : tie.Need-record-at-requires
+record-at-requires c κs = search needs
 
 bump-requires : tie.Need-bump-requires
 bump-requires c κs = search needs
@@ -46,6 +50,9 @@ bump-reads-requires c κs = search needs
 bump-requires-4 : tie.Need-bump-requires-4
 bump-requires-4 c κs = search needs
 
+record-at-requires-2 : tie.Need-record-at-requires-2
+record-at-requires-2 c κs = search needs
+
 inst-of-requires : tie.Need-inst-of-requires
 inst-of-requires c κs = search needs
 
@@ -59,8 +66,9 @@ returns : tie.Need-returns
 unfolding over
 returns c =
     let m = c .before .before .before .before in
-    let a = m .before .before .before .args in
-    c .before .before .bump .ensures ∙ counted-as (now (a .operands)) (now (a .table)) (a .r) 0 (m .match .keys1)
+    let r = m .before in
+    let a = r .before .before .before .before .args in
+    c .before .before .bump .ensures ∙ counted-as (now (a .operands)) (now (a .table)) (r .record-at .result) 0 (r .record-at .ensures) (m .match .keys1)
 
 same-length-2 : tie.Need-same-length-2
 same-length-2 c = search needs
@@ -69,8 +77,9 @@ returns-2 : tie.Need-returns-2
 unfolding over
 returns-2 c =
     let m = c .before .before .before .before in
-    let a = m .before .before .before .args in
-    c .before .before .bump2 .ensures ∙ counted-as (now (a .operands)) (now (a .table)) (a .r) 1 (m .match .keys2)
+    let r = m .before in
+    let a = r .before .before .before .before .args in
+    c .before .before .bump2 .ensures ∙ counted-as (now (a .operands)) (now (a .table)) (r .record-at .result) 1 (r .record-at .ensures) (m .match .keys2)
 
 same-length-3 : tie.Need-same-length-3
 same-length-3 c = search needs
@@ -79,8 +88,9 @@ returns-3 : tie.Need-returns-3
 unfolding over
 returns-3 c =
     let m = c .before .before .before .before in
-    let a = m .before .before .before .args in
-    c .before .before .bump-two .ensures ∙ counted-as (now (a .operands)) (now (a .table)) (a .r) 2 (m .match .keys3)
+    let r = m .before in
+    let a = r .before .before .before .before .args in
+    c .before .before .bump-two .ensures ∙ counted-as (now (a .operands)) (now (a .table)) (r .record-at .result) 2 (r .record-at .ensures) (m .match .keys3)
 
 same-length-4 : tie.Need-same-length-4
 same-length-4 c = search needs
@@ -89,8 +99,9 @@ returns-4 : tie.Need-returns-4
 unfolding over
 returns-4 c =
     let m = c .before .before .before .before in
-    let a = m .before .before .before .args in
-    c .before .before .bump3 .ensures ∙ counted-as (now (a .operands)) (now (a .table)) (a .r) 3 (m .match .keys4)
+    let r = m .before in
+    let a = r .before .before .before .before .args in
+    c .before .before .bump3 .ensures ∙ counted-as (now (a .operands)) (now (a .table)) (r .record-at .result) 3 (r .record-at .ensures) (m .match .keys4)
 
 same-length-5 : tie.Need-same-length-5
 same-length-5 c = search needs
@@ -99,8 +110,9 @@ returns-5 : tie.Need-returns-5
 unfolding over
 returns-5 c =
     let m = c .before .before .before .before in
-    let a = m .before .before .before .args in
-    c .before .before .bump-three .ensures ∙ counted-as (now (a .operands)) (now (a .table)) (a .r) 5 (m .match .keys5)
+    let r = m .before in
+    let a = r .before .before .before .before .args in
+    c .before .before .bump-three .ensures ∙ counted-as (now (a .operands)) (now (a .table)) (r .record-at .result) 5 (r .record-at .ensures) (m .match .keys5)
 
 same-length-6 : tie.Need-same-length-6
 same-length-6 c = search needs
@@ -109,13 +121,14 @@ returns-6 : tie.Need-returns-6
 unfolding over
 returns-6 c =
     let m = c .before .before .before .before .before in
-    let a = m .before .before .before .args in
-    let t = counted 1 255 (now (a .table)) (a .r .p1) in
-    let uses = boolUses (boolOf (a .r .op)) (a .r .p2) (a .r .p3) in
+    let r = m .before in
+    let a = r .before .before .before .before .args in
+    let t = counted 1 255 (now (a .table)) (r .record-at .result .p1) in
+    let uses = boolUses (boolOf (r .record-at .result .op)) (r .record-at .result .p2) (r .record-at .result .p3) in
     c .before .before .bump-bool .ensures
-    ∙ ap (λ (o : BoolOp). over (counted 2 cap) t (boolUses o (a .r .p2) (a .r .p3))) (c .before .before .before .bool-of .ensures)
+    ∙ ap (λ (o : BoolOp). over (counted 2 cap) t (boolUses o (r .record-at .result .p2) (r .record-at .result .p3))) (c .before .before .before .bool-of .ensures)
     ∙ ap (over (counted 2 cap) t) (sym (append-nil uses))
-    ∙ counted-as (now (a .operands)) (now (a .table)) (a .r) 6 (m .match .keys6)
+    ∙ counted-as (now (a .operands)) (now (a .table)) (r .record-at .result) 6 (r .record-at .ensures) (m .match .keys6)
 
 same-length-7 : tie.Need-same-length-7
 same-length-7 c = search needs
@@ -124,8 +137,9 @@ returns-7 : tie.Need-returns-7
 unfolding over
 returns-7 c =
     let m = c .before .before .before .before in
-    let a = m .before .before .before .args in
-    c .before .before .bump-three2 .ensures ∙ counted-as (now (a .operands)) (now (a .table)) (a .r) 7 (m .match .keys7)
+    let r = m .before in
+    let a = r .before .before .before .before .args in
+    c .before .before .bump-three2 .ensures ∙ counted-as (now (a .operands)) (now (a .table)) (r .record-at .result) 7 (r .record-at .ensures) (m .match .keys7)
 
 same-length-8 : tie.Need-same-length-8
 same-length-8 c = search needs
@@ -134,8 +148,9 @@ returns-8 : tie.Need-returns-8
 unfolding over
 returns-8 c =
     let m = c .before .before .before .before in
-    let a = m .before .before .before .args in
-    c .before .before .bump-two2 .ensures ∙ counted-as (now (a .operands)) (now (a .table)) (a .r) 9 (m .match .keys8)
+    let r = m .before in
+    let a = r .before .before .before .before .args in
+    c .before .before .bump-two2 .ensures ∙ counted-as (now (a .operands)) (now (a .table)) (r .record-at .result) 9 (r .record-at .ensures) (m .match .keys8)
 
 same-length-9 : tie.Need-same-length-9
 same-length-9 c = search needs
@@ -144,14 +159,16 @@ returns-9 : tie.Need-returns-9
 unfolding over
 returns-9 c =
     let m = c .before .before .before .before in
-    let a = m .before .before .before .args in
-    c .before .before .bump-reads .ensures ∙ counted-as (now (a .operands)) (now (a .table)) (a .r) 10 (m .match .keys9)
+    let r = m .before in
+    let a = r .before .before .before .before .args in
+    c .before .before .bump-reads .ensures ∙ counted-as (now (a .operands)) (now (a .table)) (r .record-at .result) 10 (r .record-at .ensures) (m .match .keys9)
 
 returns-10 : tie.Need-returns-10
 unfolding over
 returns-10 c =
-    let a = c .before .before .before .args in
-    counted-as (now (a .operands)) (now (a .table)) (a .r) 18 (c .match .keys10)
+    let r = c .before in
+    let a = r .before .before .before .before .args in
+    counted-as (now (a .operands)) (now (a .table)) (r .record-at .result) 18 (r .record-at .ensures) (c .match .keys10)
 
 same-length-10 : tie.Need-same-length-10
 same-length-10 c = search needs
@@ -160,14 +177,17 @@ returns-11 : tie.Need-returns-11
 unfolding over
 returns-11 c =
     let m = c .before .before .before .before in
-    let a = m .before .before .before .args in
-    c .before .before .bump4 .ensures ∙ counted-as (now (a .operands)) (now (a .table)) (a .r) 19 (m .match .keys11)
+    let r = m .before in
+    let a = r .before .before .before .before .args in
+    c .before .before .bump4 .ensures ∙ counted-as (now (a .operands)) (now (a .table)) (r .record-at .result) 19 (r .record-at .ensures) (m .match .keys11)
 
 returns-12 : tie.Need-returns-12
 unfolding over
 returns-12 c =
-    let a = c .before .before .before .args in
-    ap (countInst (operandsIn (now (a .operands))) (now (a .table))) (inst-past (a .r) (omega (arith, c .match .keys12)))
+    let r = c .before in
+    let a = r .before .before .before .before .args in
+    ap (countInst (operandsIn (now (a .operands))) (now (a .table)))
+    (inst-past (r .record-at .result) (omega (arith, c .match .keys12)) ∙ ap instOf (r .record-at .ensures))
 
 same-length-11 : tie.Need-same-length-11
 same-length-11 c = search needs
@@ -175,13 +195,16 @@ same-length-11 c = search needs
 returns-13 : tie.Need-returns-13
 unfolding over
 returns-13 c =
-    let a = c .before .before .before .before .before .before .before .before .args in
-    c .before .before .count-inst .ensures ∙ ap (countInst (operandsIn (now (a .operands))) (now (a .table))) (c .before .before .before .inst-of .ensures)
+    let i = c .before .before .before in
+    let a = i .before .before .before .before .before .before .before .before .args in
+    c .before .before .count-inst .ensures
+    ∙ ap (countInst (operandsIn (now (a .operands))) (now (a .table))) (i .inst-of .ensures ∙ ap instOf (i .before .record-at2 .ensures))
 
 pub count-record-spec : {M : Type 1} → statement M
 count-record-spec =
     tie.close
     (tie.spec
+    record-at-requires
     bump-requires
     bump-requires-2
     bump-two-requires
@@ -193,6 +216,7 @@ count-record-spec =
     bump-two-requires-2
     bump-reads-requires
     bump-requires-4
+    record-at-requires-2
     inst-of-requires
     count-inst-requires
     same-length
