@@ -24,7 +24,7 @@ pub record Lent (p : Procedure) (x : Parts) (body : Option ℕ) (known copy n : 
   pub code : take (length (x .code)) work ≡ x .code
   pub bytes : Bytes work
   pub heads : table ≡ x .heads
-  pub space : 4 * length (joined (p .blocks)) + 76 ≤ length work / 32
+  pub space : 2 * length (joined (p .blocks)) + (3 * length (joined (p .blocks)) / 8 + 27) ≤ length work / 32
   pub words : length work / 32 ≤ 4294967295
   pub registers : length (joined (p .blocks)) / 2 + 40 ≤ length kinds
   pub five : length facts ≡ 5 * length (p .registers)

@@ -1,8 +1,8 @@
 -- Threading over the storage is the definition's, where the storage has room: each block is moved to the top once at most.
 use Prim.Native.Nat.{ℕ, zero, suc, _+_, _-_, _*_, _/_, _≤_, _<_, _^_, min}
 use native.Mathlib.Omega.{arith}
-use mathlib.Core.Path.{_≡_, refl, ap, subst, _∙_}
-use mathlib.Core.Bool.{Bool, true, false, _&&_}
+use mathlib.Core.Path.{_≡_, refl, sym, ap, subst, _∙_}
+use mathlib.Core.Bool.{Bool, true, false, _&&_, cond}
 use mathlib.Core.List.{List, [], _∷_}
 use mathlib.Core.Logic.{_⊎_, inl, inr}
 use mathlib.Core.Option.{Option}
@@ -30,14 +30,16 @@ use Rattle.branch.specs.declared.Turn.the-variants as u
 use Rattle.branch.specs.Storage.{turned, before, turnedIn}
 use Rattle.branch.proofs.Laws.{turned-length}
 use Rattle.arena.specs.Arena.{sizeOf, isLast}
+use Rattle.arena.proofs.Moved.{lastTop, last-top-le}
 use Rattle.join.specs.Storage.{replaced, givenIn, targetIn}
 use Rattle.sized.proofs.Threads.{Inv}
 use Rattle.thread.specs.Storage.{Store, store, turnedAt, appendIn, hopBrIn, hopCondBrIn, hopAtIn, hopIn, threadIn}
-use Rattle.thread.proofs.Refined.{workOf, arenaOf, Room, new, join-grown}
+use Rattle.thread.proofs.Laws.{join-few}
+use Rattle.thread.proofs.Refined.{workOf, arenaOf, Room, new, join-grown, join-cut}
 use Rattle.thread.proofs.Same.{Fine, Tested, end-tested, thread-same, thread-holds}
 use Rattle.thread.proofs.Kept.{Stored, hop-edits, hop-kept}
 use Rattle.thread.proofs.Space.{fine}
-use Rattle.thread.proofs.Tops.{Far, replaced-far, replaced-last-far, kinds-long}
+use Rattle.thread.proofs.Tops.{Far, replaced-far, kinds-long}
 
 -- the places of m blocks from block a on
 abbrev pub sizesFrom : ℕ → ℕ → List ℕ → ℕ
@@ -87,27 +89,36 @@ module _ (C W T K : ℕ) where
   abbrev nb : ℕ
   nb = T / 32
 
+  -- from block a on, records that are in use or may be; a hop appends four at most in place of one
+  abbrev Bound : ℕ → Store → Type 0
+  Bound a s = 4 * (sizesFrom (nb - a) a (s .table) + s .at .top) ≤ 4 * C + 3 * s .at .grown
+
   -- block a is where it was, or was moved
   pub record Sizes (a : ℕ) (s : Store) : Type 0 where
     pub long : Long W T K s
-    pub top : (sizesFrom (nb - a) a (s .table) + s .at .top ≤ C + s .at .grown)
-        ⊎ ((isLast (recordAt (s .table) a) (s .at .top) ≡ true) × (sizesFrom (nb - suc a) (suc a) (s .table) + s .at .top ≤ C + s .at .grown))
+    pub top : Bound a s ⊎ ((isLast (recordAt (s .table) a) (s .at .top) ≡ true) × Bound (suc a) s)
 
-  top-le : (a : ℕ) (s : Store) → Sizes a s → s .at .top ≤ C + s .at .grown
-  top-le a s g = by (g .top)
+  -- where it is moved to, it ends within the bound
+  last-le : (a : ℕ) (s : Store) → a < nb → Sizes a s
+      → 4 * (sizesFrom (nb - suc a) (suc a) (s .table) + lastTop (recordAt (s .table) a) (s .at .top)) ≤ 4 * C + 3 * s .at .grown
+  last-le a s i g = by (g .top)
     where
-      by : (sizesFrom (nb - a) a (s .table) + s .at .top ≤ C + s .at .grown)
-          ⊎ ((isLast (recordAt (s .table) a) (s .at .top) ≡ true) × (sizesFrom (nb - suc a) (suc a) (s .table) + s .at .top ≤ C + s .at .grown))
-          → s .at .top ≤ C + s .at .grown
-      by (inl h) = omega arith
-      by (inr h) = let i = h .1 in omega arith
+      by : Bound a s ⊎ ((isLast (recordAt (s .table) a) (s .at .top) ≡ true) × Bound (suc a) s)
+          → 4 * (sizesFrom (nb - suc a) (suc a) (s .table) + lastTop (recordAt (s .table) a) (s .at .top)) ≤ 4 * C + 3 * s .at .grown
+      by (inl h) =
+          let first = sizes-first nb a (s .table) i in
+          let far = last-top-le (recordAt (s .table) a) (s .at .top) in
+          omega arith
+      by (inr h) =
+          let top = s .at .top in
+          let same = ap (λ (b : Bool). cond b top (top + sizeOf (recordAt (s .table) a))) (h .0) in
+          let bound = h .1 in
+          omega arith
 
   sizes-lead : (a : ℕ) (s : Store) → Sizes a s → Sizes (suc a) s
   sizes-lead a s g = record { long = g .long; top = inl (by (g .top)) }
     where
-      by : (sizesFrom (nb - a) a (s .table) + s .at .top ≤ C + s .at .grown)
-          ⊎ ((isLast (recordAt (s .table) a) (s .at .top) ≡ true) × (sizesFrom (nb - suc a) (suc a) (s .table) + s .at .top ≤ C + s .at .grown))
-          → sizesFrom (nb - suc a) (suc a) (s .table) + s .at .top ≤ C + s .at .grown
+      by : Bound a s ⊎ ((isLast (recordAt (s .table) a) (s .at .top) ≡ true) × Bound (suc a) s) → Bound (suc a) s
       by (inl h) = let n = sizes-next nb a (s .table) in omega arith
       by (inr h) = h .1
 
@@ -150,25 +161,20 @@ module _ (C W T K : ℕ) where
                   kinds = kinds-long (s .kinds) (s .at .fresh) (givenIn facts body budget (targetIn (arenaOf s) l)) ∙ o .kinds;
                   fresh = omega arith;
                 };
-            top = inr (is-last, by (g .top));
+            top = inr (is-last, bound);
           }
         where
-          by : (sizesFrom (nb - a) a (s .table) + s .at .top ≤ C + s .at .grown)
-              ⊎ ((isLast (recordAt (s .table) a) (s .at .top) ≡ true) × (sizesFrom (nb - suc a) (suc a) (s .table) + s .at .top ≤ C + s .at .grown))
-              → sizesFrom (nb - suc a) (suc a) (replaced a c (arenaOf s) .table) + replaced a c (arenaOf s) .top ≤ C + (s .at .grown + length c)
-          by (inl h) =
+          bound : 4 * (sizesFrom (nb - suc a) (suc a) (replaced a c (arenaOf s) .table) + replaced a c (arenaOf s) .top)
+              ≤ 4 * C + 3 * (s .at .grown + length c)
+          bound =
               let far = replaced-far a c (arenaOf s) in
               let there = r .there in
               let blocks = g .long .table in
-              let first = sizes-first nb a (s .table) (omega arith) in
               let rest = behind far in
               let top = far .top in
-              omega arith
-          by (inr h) =
-              let far = replaced-last-far a c (arenaOf s) (h .0) in
-              let rest = behind far in
-              let top = far .top in
-              let bound = h .1 in
+              let cut = join-cut facts body budget known copy s a l (w .sound) r in
+              let last = last-le a s (omega arith) g in
+              let few = join-few facts body budget a l (s .at .fresh) (arenaOf s) (s .kinds) refl in
               omega arith
 
     sizes-append : (b : Bool) (l : ℕ) → (b ≡ false → Room facts body budget s a l) → Sizes a (appendIn facts body budget known copy b s a l .to)
@@ -213,7 +219,8 @@ module _
     (top : ℕ)
     (stored : Stored (store work table kinds (record { top = top; grown = 0; fresh = 0; edited = false })))
     (inv : (v : Work) → Edits (factsIn facts body budget) (unthreaded (blocksOf work table)) v → Inv (factsIn facts body budget) n N v)
-    (space : sizesFrom (length table / 32) 0 table + top + (2 * N + 76) ≤ min (length work / 32) 4294967295)
+    (half : budget ≡ N / 2 + 32)
+    (space : sizesFrom (length table / 32) 0 table + top + (3 * N / 8 + 27) ≤ min (length work / 32) 4294967295)
     (registers : N / 2 + 40 ≤ length kinds)
     (numbers : length (kindsIn facts) + (N / 2 + 40) ≤ 65535)
     (known-words : N + (N / 2 + 36) ≤ known / 2)
@@ -234,7 +241,7 @@ module _
         let few = z .long .fresh in
         let long = z .long .kinds in
         let bytes = z .long .work in
-        let high = top-le C (length work) (length table) (length kinds) a s z in
+        let blocks = z .long .table in
         let block = block-le (workOf s .blocks) a in
         let all = v .code in
         let more = v .grown in
@@ -242,7 +249,7 @@ module _
         let count = length-take-le (s .at .fresh) (s .kinds) (omega arith) in
         fine facts body budget known copy n N s a (g .stored-at .sound) v
         (record {
-          code = rw bytes (omega arith);
+          code = λ i few. rw bytes (let high = last-le C (length work) (length table) (length kinds) a s (rw (sym blocks) i) z in omega arith);
           kinds = omega arith;
           numbers = omega arith;
           known-words = omega arith;
