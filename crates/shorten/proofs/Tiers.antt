@@ -20,7 +20,7 @@ use Rattle.shorten.specs.Storage.{Fits, Done}
 
 -- the sizes of storage for so many registers and instructions, and so many blocks
 pub record Lends (most blocks : ℕ) (x : Parts) (s : Lent) : Type 0 where
-  pub work : length (s .work) ≡ 32 * (4 * most + 76)
+  pub work : length (s .work) ≡ 32 * (2 * most + (3 * most / 8 + 27))
   pub table : length (s .table) ≡ 32 * min (length (x .heads) / 32) blocks
   pub kinds : length (s .kinds) ≡ most / 2 + 40
   pub facts : length (s .facts) ≡ 5 * min (length (x .registers) / 32) most
@@ -62,7 +62,7 @@ module _
     (l : Layout)
     (most blocks w t k f n : ℕ)
     (few : most ≤ 480)
-    (work : w ≡ 32 * (4 * most + 76))
+    (work : w ≡ 32 * (2 * most + (3 * most / 8 + 27)))
     (table : t ≡ 32 * blocks)
     (kinds : k ≡ most / 2 + 40)
     (facts : f ≡ 5 * most)

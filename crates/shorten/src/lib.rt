@@ -34,7 +34,7 @@ fn refused(number: u32, place: u32) -> Answer
 fn shorten_small(b: &[u8], l: Layout, out: &mut [u8]) -> Answer
     ensures { λ r. ⌜ (Fits 24 24 (partsOf (now (b .entry)) l) → Done (partsOf (now (b .entry)) l) r (now (out .entry)) (now (out .exit))) ⌝ }
 {
-    let mut work = [0u8; 5504];
+    let mut work = [0u8; 2688];
     let mut table = [0u8; 768];
     let mut kinds = [0u8; 52];
     let mut known = [0u64; 144];
@@ -59,7 +59,7 @@ fn shorten_small(b: &[u8], l: Layout, out: &mut [u8]) -> Answer
 fn shorten_medium(b: &[u8], l: Layout, out: &mut [u8]) -> Answer
     ensures { λ r. ⌜ (Fits 120 120 (partsOf (now (b .entry)) l) → Done (partsOf (now (b .entry)) l) r (now (out .entry)) (now (out .exit))) ⌝ }
 {
-    let mut work = [0u8; 17792];
+    let mut work = [0u8; 9984];
     let mut table = [0u8; 3840];
     let mut kinds = [0u8; 100];
     let mut known = [0u64; 432];
@@ -84,7 +84,7 @@ fn shorten_medium(b: &[u8], l: Layout, out: &mut [u8]) -> Answer
 fn shorten_large(b: &[u8], l: Layout, out: &mut [u8]) -> Answer
     ensures { λ r. ⌜ (Fits 480 160 (partsOf (now (b .entry)) l) → Done (partsOf (now (b .entry)) l) r (now (out .entry)) (now (out .exit))) ⌝ }
 {
-    let mut work = [0u8; 63872];
+    let mut work = [0u8; 37344];
     let mut table = [0u8; 5120];
     let mut kinds = [0u8; 280];
     let mut known = [0u64; 1512];
