@@ -96,6 +96,10 @@ module _
         record { work = omega arith; table = omega arith; kinds = omega arith; facts = omega arith; known = omega arith; copy = omega arith } in
         e ∙ short-run p x o s (enough p x most blocks s few o fits lends) (zero-bytes w) out
 
+-- every file has at most 160 blocks
+pub blocks-fit : {n m : ℕ} (p : Procedure) (x : Parts) → Opened p x → Fits n m x → Fits n 160 x
+blocks-fit p x o f = let h = opened-few o .heads in record { registers = f .registers; heads = omega arith; code = f .code }
+
 -- every file within the limits
 pub all-fit : (p : Procedure) (x : Parts) → Opened p x → Fits 480 160 x
 all-fit p x o =

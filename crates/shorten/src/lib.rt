@@ -80,6 +80,31 @@ fn shorten_medium(b: &[u8], l: Layout, out: &mut [u8]) -> Answer
     )
 }
 
+// At most 240 registers and instructions, half of the limits, and 160 blocks.
+fn shorten_half(b: &[u8], l: Layout, out: &mut [u8]) -> Answer
+    ensures { λ r. ⌜ (Fits 240 160 (partsOf (now (b .entry)) l) → Done (partsOf (now (b .entry)) l) r (now (out .entry)) (now (out .exit))) ⌝ }
+{
+    let mut work = [0u8; 19104];
+    let mut table = [0u8; 5120];
+    let mut kinds = [0u8; 160];
+    let mut known = [0u64; 792];
+    let mut copy = [0u32; 792];
+    let mut facts = [0u64; 1200];
+    let nb = blocks::least(classes::part(b, l.blocks, l.bodies).len() / 32, 160);
+    let nr = blocks::least(classes::part(b, 0, l.blocks).len() / 32, 240);
+    shortening::shorten_in(
+        b,
+        l,
+        out,
+        &mut work,
+        &mut table[..32 * nb],
+        &mut kinds,
+        &mut known,
+        &mut copy,
+        &mut facts[..5 * nr],
+    )
+}
+
 // At most 480 registers and instructions, and 160 blocks.
 fn shorten_large(b: &[u8], l: Layout, out: &mut [u8]) -> Answer
     ensures { λ r. ⌜ (Fits 480 160 (partsOf (now (b .entry)) l) → Done (partsOf (now (b .entry)) l) r (now (out .entry)) (now (out .exit))) ⌝ }
@@ -118,7 +143,20 @@ fn fits(b: &[u8], l: Layout, n: usize) -> bool
     classes::part(b, l.code, l.operands).len() / 32 <= n
 }
 
-// A file that is read and within the limits. One that the steps leave as it is needs no storage.
+// A file of any size within the limits.
+fn shorten_more(b: &[u8], l: Layout, out: &mut [u8]) -> Answer
+    ensures { λ r. ⌜ Done (partsOf (now (b .entry)) l) r (now (out .entry)) (now (out .exit)) ⌝ }
+{
+    if fits(b, l, 120) {
+        return shorten_medium(b, l, out);
+    }
+    if fits(b, l, 240) {
+        return shorten_half(b, l, out);
+    }
+    shorten_large(b, l, out)
+}
+
+// A file that is read and within the limits. One that the steps leave as it is needs no storage, a small one little.
 fn shorten_read(b: &[u8], l: Layout, out: &mut [u8]) -> Answer
     ensures { λ r. ⌜ Done (partsOf (now (b .entry)) l) r (now (out .entry)) (now (out .exit)) ⌝ }
 {
@@ -128,10 +166,7 @@ fn shorten_read(b: &[u8], l: Layout, out: &mut [u8]) -> Answer
     if fits(b, l, 24) {
         return shorten_small(b, l, out);
     }
-    if fits(b, l, 120) {
-        return shorten_medium(b, l, out);
-    }
-    shorten_large(b, l, out)
+    shorten_more(b, l, out)
 }
 
 // Shortens a file into the output buffer, or refuses it.

@@ -2,7 +2,6 @@ use mathlib.Core.Path.{_∙_}
 use denote.Ref.{now}
 use Rattle.opened.specs.Opened.{partsOf}
 use Rattle.shortening.proofs.Shortened.{sent-run}
-use Rattle.shorten.proofs.Tiers.{all-fit}
 use borrow.Author.Needs.{needs}
 use Rattle.shorten.proofs.shorten_read.Statement.{statement}
 use Rattle.shorten.proofs.shorten_read.Tie as tie
@@ -35,27 +34,14 @@ returns-2 : tie.Need-returns-2
 returns-2 c =
     c .before .before .shorten-small .ensures (c .before .before .before .before .before .fits2 .ensures (c .before .before .before .before .if2 .taken))
 
-fits-requires-2 : tie.Need-fits-requires-2
-fits-requires-2 c κs = search needs
-
-shorten-medium-requires : tie.Need-shorten-medium-requires
-shorten-medium-requires c κs = search needs
+shorten-more-requires : tie.Need-shorten-more-requires
+shorten-more-requires c κs = search needs
 
 same-length-3 : tie.Need-same-length-3
 same-length-3 c = search needs
 
 returns-3 : tie.Need-returns-3
-returns-3 c =
-    c .before .before .shorten-medium .ensures (c .before .before .before .before .before .fits3 .ensures (c .before .before .before .before .if3 .taken))
-
-shorten-large-requires : tie.Need-shorten-large-requires
-shorten-large-requires c κs = search needs
-
-same-length-4 : tie.Need-same-length-4
-same-length-4 c = search needs
-
-returns-4 : tie.Need-returns-4
-returns-4 c p o = c .before .before .shorten-large .ensures (all-fit p _ o) p o
+returns-3 c = c .before .before .shorten-more .ensures
 
 pub shorten-read-spec : {M : Type 1} → statement M
 shorten-read-spec =
@@ -69,10 +55,6 @@ shorten-read-spec =
     shorten-small-requires
     same-length-2
     returns-2
-    fits-requires-2
-    shorten-medium-requires
+    shorten-more-requires
     same-length-3
-    returns-3
-    shorten-large-requires
-    same-length-4
-    returns-4)
+    returns-3)
