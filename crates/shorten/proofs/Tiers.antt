@@ -1,5 +1,5 @@
 -- Storage of some size is enough for a file that fits it.
-use Prim.Native.Nat.{ℕ, zero, suc, _+_, _*_, _/_, _≤_, _<_, min}
+use Prim.Native.Nat.{ℕ, zero, suc, _+_, _*_, _/_, _≤_, min}
 use native.Mathlib.Omega.{arith}
 use mathlib.Core.Path.{_≡_, ap, _∙_}
 use mathlib.Core.List.{List}
@@ -24,8 +24,8 @@ pub record Lends (most blocks : ℕ) (x : Parts) (s : Lent) : Type 0 where
   pub table : length (s .table) ≡ 32 * min (length (x .heads) / 32) blocks
   pub kinds : length (s .kinds) ≡ most / 2 + 40
   pub facts : length (s .facts) ≡ 5 * min (length (x .registers) / 32) most
-  pub known : s .known ≡ 2 * (most + (most / 2 + 36))
-  pub copy : s .copy ≡ 2 * (most + (most / 2 + 36))
+  pub known : s .known ≡ 2 * (most + 15)
+  pub copy : s .copy ≡ 2 * (most + 15)
 
 pub enough : (p : Procedure) (x : Parts) (most blocks : ℕ) (s : Lent) → most ≤ 480 → Opened p x → Fits most blocks x → Lends most blocks x s → Enough x s
 enough p x most blocks s few o f l =
@@ -66,7 +66,7 @@ module _
     (table : t ≡ 32 * blocks)
     (kinds : k ≡ most / 2 + 40)
     (facts : f ≡ 5 * most)
-    (words : n ≡ 2 * (most + (most / 2 + 36)))
+    (words : n ≡ 2 * (most + 15))
   where
     abbrev x : Parts
     x = partsOf b l

@@ -37,8 +37,8 @@ fn shorten_small(b: &[u8], l: Layout, out: &mut [u8]) -> Answer
     let mut work = [0u8; 2688];
     let mut table = [0u8; 768];
     let mut kinds = [0u8; 52];
-    let mut known = [0u64; 144];
-    let mut copy = [0u32; 144];
+    let mut known = [0u64; 78];
+    let mut copy = [0u32; 78];
     let mut facts = [0u64; 120];
     let nb = blocks::least(classes::part(b, l.blocks, l.bodies).len() / 32, 24);
     let nr = blocks::least(classes::part(b, 0, l.blocks).len() / 32, 24);
@@ -62,8 +62,8 @@ fn shorten_medium(b: &[u8], l: Layout, out: &mut [u8]) -> Answer
     let mut work = [0u8; 9984];
     let mut table = [0u8; 3840];
     let mut kinds = [0u8; 100];
-    let mut known = [0u64; 432];
-    let mut copy = [0u32; 432];
+    let mut known = [0u64; 270];
+    let mut copy = [0u32; 270];
     let mut facts = [0u64; 600];
     let nb = blocks::least(classes::part(b, l.blocks, l.bodies).len() / 32, 120);
     let nr = blocks::least(classes::part(b, 0, l.blocks).len() / 32, 120);
@@ -87,8 +87,8 @@ fn shorten_half(b: &[u8], l: Layout, out: &mut [u8]) -> Answer
     let mut work = [0u8; 19104];
     let mut table = [0u8; 5120];
     let mut kinds = [0u8; 160];
-    let mut known = [0u64; 792];
-    let mut copy = [0u32; 792];
+    let mut known = [0u64; 510];
+    let mut copy = [0u32; 510];
     let mut facts = [0u64; 1200];
     let nb = blocks::least(classes::part(b, l.blocks, l.bodies).len() / 32, 160);
     let nr = blocks::least(classes::part(b, 0, l.blocks).len() / 32, 240);
@@ -112,8 +112,8 @@ fn shorten_large(b: &[u8], l: Layout, out: &mut [u8]) -> Answer
     let mut work = [0u8; 37344];
     let mut table = [0u8; 5120];
     let mut kinds = [0u8; 280];
-    let mut known = [0u64; 1512];
-    let mut copy = [0u32; 1512];
+    let mut known = [0u64; 990];
+    let mut copy = [0u32; 990];
     let mut facts = [0u64; 2400];
     let nb = blocks::least(classes::part(b, l.blocks, l.bodies).len() / 32, 160);
     let nr = blocks::least(classes::part(b, 0, l.blocks).len() / 32, 480);

@@ -68,5 +68,5 @@ pub record Enough (x : Parts) (s : Lent) : Type 0 where
   pub table : length (s .table) ≡ length (x .heads)
   pub kinds : sizeOf x / 2 + 40 ≤ length (s .kinds)
   pub facts : length (s .facts) ≡ 5 * (length (x .registers) / 32)
-  pub known : sizeOf x + (sizeOf x / 2 + 36) ≤ s .known / 2
-  pub copy : sizeOf x + (sizeOf x / 2 + 36) ≤ s .copy / 2
+  pub known : sizeOf x + 15 ≤ s .known / 2
+  pub copy : sizeOf x + 15 ≤ s .copy / 2

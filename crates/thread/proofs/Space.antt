@@ -8,15 +8,20 @@ use mathlib.Core.Logic.{_⊎_, inl, inr}
 use mathlib.Core.Option.{Option}
 use borrow.Author.Tests.{le-leb, not-false}
 use lib.Dec.{eqb, ltb}
-use lib.ListN.{length, getD, take, length-take, List·getD-eq-default}
+use lib.ListN.{length, getD, take, drop, length-take, length-drop, length-map, List·getD-eq-default}
 use lib.Seq.{length-take-le}
 use Rattle.general.proofs.Booleans.{and-first}
 use Rattle.general.proofs.Numbers.{order}
-use Rattle.format.specs.Record.{recordAt}
+use Rattle.format.specs.Record.{recordsOf, recordAt}
+use Rattle.format.proofs.Laws.{length-records}
 use Rattle.shape.specs.declared.exist.Counts.{Counts}
 use Rattle.inst.specs.declared.Code.{Code}
+use Rattle.codec.specs.Codec.{codeOf}
 use Rattle.procedure.specs.Lists.{present, holds}
 use Rattle.ends.specs.Ends.{endOf}
+use Rattle.blocks.specs.Blocks.{blockRecordsIn}
+use Rattle.blocks.proofs.Apart.{last-place}
+use Rattle.blocks.proofs.Parts.{codes-at, records-at}
 use Rattle.blocks.proofs.Rewrites.{front-take}
 use Rattle.steps.specs.Small.{small, copyable, readsKonst}
 use Rattle.steps.specs.Facts.{Facts}
@@ -25,6 +30,7 @@ use Rattle.steps.specs.Copy.{copyOf, kindsOf, ownUses}
 use Rattle.steps.specs.Thread.{Work, blockAt, nextNumber, stops}
 use Rattle.facts.specs.Storage.{factsIn, kindsIn}
 use Rattle.branch.specs.Storage.{before}
+use Rattle.arena.specs.Arena.{sizeOf}
 use Rattle.arena.proofs.Moved.{Sound, lastTop}
 use Rattle.arena.proofs.Appended.{AllInRange}
 use Rattle.join.specs.Storage.{targetIn, copyIn, givenIn}
@@ -40,6 +46,31 @@ use Rattle.thread.proofs.Laws.{copy-short, grown-le}
 use Rattle.thread.proofs.Refined.{workOf, arenaOf, Room}
 use Rattle.thread.proofs.Same.{Fine}
 use Rattle.thread.proofs.Kept.{isBr, br-there, br-holds}
+
+-- a block's place is as large as the block
+pub block-size : (s : Store) → Sound (arenaOf s) → (a : ℕ) → sizeOf (recordAt (s .table) a) ≡ length (blockAt (workOf s) a)
+block-size s w a = by (order (recordAt (s .table) a .p1) (recordAt (s .table) a .p2))
+  where
+    count : length (blockAt (workOf s) a)
+        ≡ min (recordAt (s .table) a .p2 - recordAt (s .table) a .p1) (length (drop (recordAt (s .table) a .p1) (recordsOf (s .work))))
+    count =
+        let r = recordAt (s .table) a in
+        ap length (codes-at (s .work) (s .table) a)
+        ∙ length-map (getD (blockRecordsIn (s .work) (s .table)) a []) codeOf
+        ∙ ap length (records-at (s .work) (s .table) a)
+        ∙ length-take (r .p2 - r .p1) (drop (r .p1) (recordsOf (s .work)))
+
+    by : (recordAt (s .table) a .p1 < recordAt (s .table) a .p2) ⊎ (recordAt (s .table) a .p2 ≤ recordAt (s .table) a .p1)
+        → sizeOf (recordAt (s .table) a) ≡ length (blockAt (workOf s) a)
+    by (inl i) =
+        let r = recordAt (s .table) a in
+        let c = count in
+        let d = length-drop (r .p1) (recordsOf (s .work)) in
+        let n = length-records (s .work) in
+        let b = w .apart .within a (r .p2 - 1) (last-place r i) in
+        let f = w .fit in
+        omega arith
+    by (inr i) = let c = count in omega arith
 
 -- a target that is copied is small, and there
 stops-small : (f : Facts) (w : Work) (a l : ℕ) → stops f w a l ≡ false → small (blockAt w l) ≡ true
