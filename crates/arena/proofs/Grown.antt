@@ -96,6 +96,9 @@ module _ (s : Arena) (w : Sound s) (k : ℕ) (h : k < length (s .table) / 32) (l
         let t : true ≡ popped r (s .top) = sym (rw (lt-ltb (r .p1) (r .p2) g, eq-eqb (r .p2) (s .top) (l .end))) in
         by-popped k (topped (s .table) (s .top)) refl t
 
+    pub popped-top : pop k (topped (s .table) (s .top)) .top ≡ s .top - 1
+    popped-top = ap (λ (t : Topped). t .top) (sym pops)
+
     pop-there : recordAt table-popped k ≡ blockAt (recordAt (s .table) k .p1) (recordAt (s .table) k .p2 - 1)
     unfolding table-popped
     pop-there =

@@ -2,7 +2,7 @@
 use Prim.Native.Nat.{ℕ, _+_, _-_, _*_, _/_, _≤_, _<_, _^_}
 use native.Mathlib.Omega.{arith}
 use mathlib.Core.Path.{_≡_, refl, sym, ap, subst, _∙_}
-use mathlib.Core.Bool.{Bool, true, false, _&&_}
+use mathlib.Core.Bool.{Bool, true, false, _&&_, not, cond}
 use mathlib.Core.List.{List, [], _++_, append-assoc}
 use borrow.Author.Tests.{leb-true, le-leb, eqb-true}
 use lib.Dec.{leb}
@@ -34,6 +34,28 @@ pub record Sound (s : Arena) : Type 0 where
 pub record Last (r : Record) (top : ℕ) : Type 0 where
   pub ordered : r .p1 ≤ r .p2
   pub end : r .p2 ≡ top
+
+-- where a block ends once it is made the last
+abbrev pub lastTop : Record → ℕ → ℕ
+lastTop r top = cond (isLast r top) top (top + sizeOf r)
+
+pub last-top-le : (r : Record) (top : ℕ) → lastTop r top ≤ top + sizeOf r
+last-top-le r top = go (isLast r top)
+  where
+    go : (b : Bool) → cond b top (top + sizeOf r) ≤ top + sizeOf r
+    go true = omega arith
+    go false = omega arith
+
+pub end-top : (k : ℕ) (s : Arena) → toEnd k s .top ≤ lastTop (recordAt (s .table) k) (s .top)
+end-top k s =
+    let r = recordAt (s .table) k in
+    subst (λ (t : Arena). t .top ≤ lastTop r (s .top)) (by-moves k s refl (moves-by (s .work) r (s .top) refl refl))
+    (go r (isLast r (s .top)) (leb (r .p1 + sizeOf r) (s .top) && room (s .work) (s .top) (sizeOf r)))
+  where
+    go : (r : Record) (b c : Bool) → moveIf (not b && c) k r s .top ≤ cond b (s .top) (s .top + sizeOf r)
+    go r true c = omega arith
+    go r false true = omega arith
+    go r false false = omega arith
 
 -- a copy, before its place and there
 module _ (d : List ℕ) (at : ℕ) (s : List ℕ) (n : ℕ) (h : at ≤ length d) (g : n ≤ length s) where
@@ -133,8 +155,9 @@ module _ (s : Arena) (w : Sound s) (k : ℕ) (h : k < length (s .table) / 32) wh
           last = record { ordered = rw there (omega arith); end = ap (λ (q : Record). q .p2) there };
         }
 
-  -- block k, which holds code and has room at the top, is made the last
-  pub to-end : recordAt (s .table) k .p1 < recordAt (s .table) k .p2 → room (s .work) (s .top) (sizeOf (recordAt (s .table) k)) ≡ true
+  -- block k, which holds code and has room at the top where it isn't there, is made the last
+  pub to-end : recordAt (s .table) k .p1 < recordAt (s .table) k .p2
+      → (isLast (recordAt (s .table) k) (s .top) ≡ false → room (s .work) (s .top) (sizeOf (recordAt (s .table) k)) ≡ true)
       → Ready s (toEnd k s) k
   to-end g free = go (isLast r (s .top)) refl
     where
@@ -154,5 +177,5 @@ module _ (s : Arena) (w : Sound s) (k : ℕ) (h : k < length (s .table) / 32) wh
           let b = w .apart .within k (q .p2 - 1) (last-place q g) in
           let below : true ≡ leb (q .p1 + sizeOf q) (s .top) = sym (le-leb (q .p1 + sizeOf q) (s .top) (omega arith)) in
           let goes : true ≡ moves (s .work) q (s .top) =
-          sym free ∙ ap (λ (t : Bool). t && room (s .work) (s .top) (sizeOf q)) below ∙ moves-by (s .work) q (s .top) (sym e) refl in
+          sym (free e) ∙ ap (λ (t : Bool). t && room (s .work) (s .top) (sizeOf q)) below ∙ moves-by (s .work) q (s .top) (sym e) refl in
           subst (λ (t : Arena). Ready s t k) (by-moves k s refl goes) (moved (moving (s .work) q (s .top) (sym goes)))

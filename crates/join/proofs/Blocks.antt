@@ -2,7 +2,7 @@
 use Prim.Native.Nat.{ℕ, _+_, _-_, _/_, _≤_, _<_, min}
 use native.Mathlib.Omega.{arith}
 use mathlib.Core.Path.{_≡_, refl, sym, ap, subst, _∙_}
-use mathlib.Core.Bool.{Bool, true, false}
+use mathlib.Core.Bool.{Bool, true, false, cond}
 use mathlib.Core.List.{List, [], _++_, map, map-append}
 use borrow.Author.Tests.{leb-true, le-leb}
 use lib.ListN.{length, getD, take, drop, set, length-set, length-map, length-take, length-drop, List·getD-map}
@@ -18,10 +18,10 @@ use Rattle.blocks.specs.Blocks.{blockRecordsIn, blocksOf, Canonical}
 use Rattle.blocks.proofs.Parts.{records-at, length-table}
 use Rattle.blocks.proofs.Rewrites.{front-take}
 use Rattle.blocks.proofs.Apart.{last-place}
-use Rattle.arena.specs.Arena.{Arena, Topped, topped, sizeOf, room, moves, toEnd, popped, pop}
-use Rattle.arena.proofs.Laws.{moving, by-moves, by-popped}
-use Rattle.arena.proofs.Moved.{Sound, Ready, copied-length, to-end}
-use Rattle.arena.proofs.Grown.{Grown, frontRecords, grown-then, grown-block, popped-last}
+use Rattle.arena.specs.Arena.{Arena, sizeOf, isLast, room, moves, toEnd}
+use Rattle.arena.proofs.Laws.{moving, by-moves}
+use Rattle.arena.proofs.Moved.{Sound, Ready, lastTop, end-top, copied-length, to-end}
+use Rattle.arena.proofs.Grown.{Grown, frontRecords, grown-then, grown-block, popped-top, popped-last}
 use Rattle.arena.proofs.Appended.{AllInRange, appended}
 use Rattle.join.specs.Storage.{cut, replaced}
 
@@ -63,7 +63,7 @@ module _
     (a : ℕ)
     (h : a < length (s .table) / 32)
     (g : recordAt (s .table) a .p1 < recordAt (s .table) a .p2)
-    (free : room (s .work) (s .top) (sizeOf (recordAt (s .table) a)) ≡ true)
+    (free : isLast (recordAt (s .table) a) (s .top) ≡ false → room (s .work) (s .top) (sizeOf (recordAt (s .table) a)) ≡ true)
   where
     holds-still : recordAt (toEnd a s .table) a .p1 < recordAt (toEnd a s .table) a .p2
     holds-still =
@@ -104,37 +104,17 @@ module _
             last = u .last;
           }
 
--- how far block a goes when it is made the last, and cut
-module _ (s : Arena) (a : ℕ) where
-  abbrev Far : Arena → Type 0
-  Far t = (length (t .work) ≡ length (s .work)) × (t .top ≤ s .top + sizeOf (recordAt (s .table) a))
+-- as many bytes of code
+end-length : (s : Arena) (a : ℕ) → length (toEnd a s .work) ≡ length (s .work)
+end-length s a = go (moves (s .work) (recordAt (s .table) a) (s .top)) refl
+  where
+    go : (b : Bool) → moves (s .work) (recordAt (s .table) a) (s .top) ≡ b → length (toEnd a s .work) ≡ length (s .work)
+    go true e =
+        let r = recordAt (s .table) a in
+        sym (ap (λ (t : Arena). length (t .work)) (by-moves a s refl (sym e))) ∙ copied-length (s .work) r (s .top) (moving (s .work) r (s .top) e)
+    go false e = sym (ap (λ (t : Arena). length (t .work)) (by-moves a s refl (sym e)))
 
-  moved-far : Far (toEnd a s)
-  moved-far = go (moves (s .work) (recordAt (s .table) a) (s .top)) refl
-    where
-      go : (b : Bool) → moves (s .work) (recordAt (s .table) a) (s .top) ≡ b → Far (toEnd a s)
-      go true e =
-          let r = recordAt (s .table) a in
-          let m = moving (s .work) r (s .top) e in
-          subst Far (by-moves a s refl (sym e)) (copied-length (s .work) r (s .top) m, omega arith)
-      go false e = subst Far (by-moves a s refl (sym e)) (refl, omega arith)
-
-  pop-below : (t : Topped) → pop a t .top ≤ t .top
-  pop-below t = go (popped (recordAt (t .table) a) (t .top)) refl
-    where
-      go : (b : Bool) → popped (recordAt (t .table) a) (t .top) ≡ b → pop a t .top ≤ t .top
-      go true e = subst (λ (u : Topped). u .top ≤ t .top) (by-popped a t refl (sym e)) (omega arith)
-      go false e = subst (λ (u : Topped). u .top ≤ t .top) (by-popped a t refl (sym e)) (omega arith)
-
-  cut-far : Far (cut a (toEnd a s))
-  unfolding cut
-  cut-far =
-      let t = toEnd a s in
-      let below = pop-below (topped (t .table) (t .top)) in
-      let far = moved-far .1 in
-      (moved-far .0, omega arith)
-
--- room for block a and some code is all that is asked
+-- room for some code in place of block a's last record, once block a is the last
 module _
     (s : Arena)
     (w : Sound s)
@@ -142,20 +122,36 @@ module _
     (h : a < length (s .table) / 32)
     (g : recordAt (s .table) a .p1 < recordAt (s .table) a .p2)
     (c : List Code)
-    (free : room (s .work) (s .top) (sizeOf (recordAt (s .table) a) + length c) ≡ true)
+    (free : room (s .work) (lastTop (recordAt (s .table) a) (s .top)) (length c - 1) ≡ true)
   where
-    all : s .top + (sizeOf (recordAt (s .table) a) + length c) ≤ min (length (s .work) / 32) 4294967295
-    all = leb-true (s .top + (sizeOf (recordAt (s .table) a) + length c)) (min (length (s .work) / 32) 4294967295) free
+    all : lastTop (recordAt (s .table) a) (s .top) + (length c - 1) ≤ min (length (s .work) / 32) 4294967295
+    all = leb-true (lastTop (recordAt (s .table) a) (s .top) + (length c - 1)) (min (length (s .work) / 32) 4294967295) free
 
-    first : room (s .work) (s .top) (sizeOf (recordAt (s .table) a)) ≡ true
-    first = le-leb (s .top + sizeOf (recordAt (s .table) a)) (min (length (s .work) / 32) 4294967295) (let i = all in omega arith)
+    first : isLast (recordAt (s .table) a) (s .top) ≡ false → room (s .work) (s .top) (sizeOf (recordAt (s .table) a)) ≡ true
+    first e =
+        let n = sizeOf (recordAt (s .table) a) in
+        let i = all in
+        let z = ap (λ (b : Bool). cond b (s .top) (s .top + n)) e in
+        le-leb (s .top + n) (min (length (s .work) / 32) 4294967295) (omega arith)
+
+    pub cut-top : cut a (toEnd a s) .top + 1 ≤ lastTop (recordAt (s .table) a) (s .top)
+    unfolding cut
+    cut-top =
+        let t = toEnd a s in
+        let r = to-end s w a h g first in
+        let some = holds-still s w a h g first in
+        let end = r .last .end in
+        let p = popped-top t (r .sound) a (rw (grown-table r) h) (r .last) some in
+        let far = end-top a s in
+        omega arith
 
     rest : room (cut a (toEnd a s) .work) (cut a (toEnd a s) .top) (length c) ≡ true
+    unfolding cut
     rest =
         let t = cut a (toEnd a s) in
         let i = all in
-        let n = cut-far s a .0 in
-        let e = cut-far s a .1 in
+        let n = end-length s a in
+        let e = cut-top in
         le-leb (t .top + length c) (min (length (t .work) / 32) 4294967295) (rw n (omega arith))
 
     pub replaced-block : AllInRange c → Grown s (replaced a c s) a

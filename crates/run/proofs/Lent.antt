@@ -24,12 +24,12 @@ pub record Lent (p : Procedure) (x : Parts) (body : Option ℕ) (known copy n : 
   pub code : take (length (x .code)) work ≡ x .code
   pub bytes : Bytes work
   pub heads : table ≡ x .heads
-  pub space : 4 * length (joined (p .blocks)) + 76 ≤ length work / 32
+  pub space : 2 * length (joined (p .blocks)) + (3 * length (joined (p .blocks)) / 8 + 27) ≤ length work / 32
   pub words : length work / 32 ≤ 4294967295
   pub registers : length (joined (p .blocks)) / 2 + 40 ≤ length kinds
   pub five : length facts ≡ 5 * length (p .registers)
-  pub known-words : length (joined (p .blocks)) + (length (joined (p .blocks)) / 2 + 36) ≤ known / 2
-  pub copy-words : length (joined (p .blocks)) + (length (joined (p .blocks)) / 2 + 36) ≤ copy / 2
+  pub known-words : length (joined (p .blocks)) + 15 ≤ known / 2
+  pub copy-words : length (joined (p .blocks)) + 15 ≤ copy / 2
 
 pub held : {p : Procedure} {x : Parts} {body : Option ℕ} {known copy n : ℕ} {work table kinds facts : List ℕ}
     → Lent p x body known copy n work table kinds facts → Held p x work

@@ -130,11 +130,14 @@ module _ {p : Procedure} {x : Parts} {known copy : ℕ} {work kinds facts : List
         canonical = c .canonical;
       }
 
-  space-there : w.sizesFrom (length (x .heads) / 32) 0 (x .heads) + N + (2 * N + 76) ≤ min (length after / 32) 4294967295
+  space-there : w.sizesFrom (length (x .heads) / 32) 0 (x .heads) + N + (3 * N / 8 + 27) ≤ min (length after / 32) 4294967295
   space-there =
       let long = j.arms-long (held h) in
       let size = j.sizes (held h) in
       omega arith
+
+  words : {m : ℕ} → N + 15 ≤ m → w.sizesFrom (length (x .heads) / 32) 0 (x .heads) + 15 ≤ m
+  words e = let size = j.sizes (held h) in omega arith
 
   numbers : length (kindsIn counted) + (N / 2 + 40) ≤ 65535
   unfolding factsOf
@@ -147,7 +150,7 @@ module _ {p : Procedure} {x : Parts} {known copy : ℕ} {work kinds facts : List
   own-is : thread (factsIn counted (p .body) (N / 2 + 32)) (blocksOf after (x .heads)) ≡ workOf left
   own-is =
       w.thread-is counted (p .body) (N / 2 + 32) known copy (countsIn p) N after (x .heads) kinds N
-      stored-at inv-at space-there (h .registers) numbers (h .known-words) (h .copy-words)
+      stored-at inv-at refl space-there (h .registers) numbers (words (h .known-words)) (words (h .copy-words))
 
   -- what is left is what Thread leaves
   pub thread-is : thread (s.countedIn q) (q .blocks) ≡ workOf left
@@ -159,13 +162,13 @@ module _ {p : Procedure} {x : Parts} {known copy : ℕ} {work kinds facts : List
   pub stored : Stored left
   stored =
       w.thread-stored counted (p .body) (N / 2 + 32) known copy (countsIn p) N after (x .heads) kinds N
-      stored-at inv-at space-there (h .registers) numbers (h .known-words) (h .copy-words)
+      stored-at inv-at refl space-there (h .registers) numbers (words (h .known-words)) (words (h .copy-words))
 
   pub long : w.Long (length work) (length (x .heads)) (length kinds) left
   long =
       subst (λ (m : ℕ). w.Long m (length (x .heads)) (length kinds) left) (j.arms-long (held h))
       (w.thread-long counted (p .body) (N / 2 + 32) known copy (countsIn p) N after (x .heads) kinds N
-      stored-at inv-at space-there (h .registers) numbers (h .known-words) (h .copy-words))
+      stored-at inv-at refl space-there (h .registers) numbers (words (h .known-words)) (words (h .copy-words)))
 
   pub inv : Inv (factsIn counted (p .body) (N / 2 + 32)) (countsIn p) N (workOf left)
   inv =

@@ -1,5 +1,5 @@
 -- Storage of some size is enough for a file that fits it.
-use Prim.Native.Nat.{ℕ, zero, suc, _+_, _*_, _/_, _≤_, _<_, min}
+use Prim.Native.Nat.{ℕ, zero, suc, _+_, _*_, _/_, _≤_, min}
 use native.Mathlib.Omega.{arith}
 use mathlib.Core.Path.{_≡_, ap, _∙_}
 use mathlib.Core.List.{List}
@@ -20,12 +20,12 @@ use Rattle.shorten.specs.Storage.{Fits, Done}
 
 -- the sizes of storage for so many registers and instructions, and so many blocks
 pub record Lends (most blocks : ℕ) (x : Parts) (s : Lent) : Type 0 where
-  pub work : length (s .work) ≡ 32 * (4 * most + 76)
+  pub work : length (s .work) ≡ 32 * (2 * most + (3 * most / 8 + 27))
   pub table : length (s .table) ≡ 32 * min (length (x .heads) / 32) blocks
   pub kinds : length (s .kinds) ≡ most / 2 + 40
   pub facts : length (s .facts) ≡ 5 * min (length (x .registers) / 32) most
-  pub known : s .known ≡ 2 * (most + (most / 2 + 36))
-  pub copy : s .copy ≡ 2 * (most + (most / 2 + 36))
+  pub known : s .known ≡ 2 * (most + 15)
+  pub copy : s .copy ≡ 2 * (most + 15)
 
 pub enough : (p : Procedure) (x : Parts) (most blocks : ℕ) (s : Lent) → most ≤ 480 → Opened p x → Fits most blocks x → Lends most blocks x s → Enough x s
 enough p x most blocks s few o f l =
@@ -62,11 +62,11 @@ module _
     (l : Layout)
     (most blocks w t k f n : ℕ)
     (few : most ≤ 480)
-    (work : w ≡ 32 * (4 * most + 76))
+    (work : w ≡ 32 * (2 * most + (3 * most / 8 + 27)))
     (table : t ≡ 32 * blocks)
     (kinds : k ≡ most / 2 + 40)
     (facts : f ≡ 5 * most)
-    (words : n ≡ 2 * (most + (most / 2 + 36)))
+    (words : n ≡ 2 * (most + 15))
   where
     abbrev x : Parts
     x = partsOf b l
@@ -95,6 +95,10 @@ module _
         let lends : Lends most blocks x s =
         record { work = omega arith; table = omega arith; kinds = omega arith; facts = omega arith; known = omega arith; copy = omega arith } in
         e ∙ short-run p x o s (enough p x most blocks s few o fits lends) (zero-bytes w) out
+
+-- every file has at most 160 blocks
+pub blocks-fit : {n m : ℕ} (p : Procedure) (x : Parts) → Opened p x → Fits n m x → Fits n 160 x
+blocks-fit p x o f = let h = opened-few o .heads in record { registers = f .registers; heads = omega arith; code = f .code }
 
 -- every file within the limits
 pub all-fit : (p : Procedure) (x : Parts) → Opened p x → Fits 480 160 x

@@ -34,11 +34,11 @@ fn refused(number: u32, place: u32) -> Answer
 fn shorten_small(b: &[u8], l: Layout, out: &mut [u8]) -> Answer
     ensures { λ r. ⌜ (Fits 24 24 (partsOf (now (b .entry)) l) → Done (partsOf (now (b .entry)) l) r (now (out .entry)) (now (out .exit))) ⌝ }
 {
-    let mut work = [0u8; 5504];
+    let mut work = [0u8; 2688];
     let mut table = [0u8; 768];
     let mut kinds = [0u8; 52];
-    let mut known = [0u64; 144];
-    let mut copy = [0u32; 144];
+    let mut known = [0u64; 78];
+    let mut copy = [0u32; 78];
     let mut facts = [0u64; 120];
     let nb = blocks::least(classes::part(b, l.blocks, l.bodies).len() / 32, 24);
     let nr = blocks::least(classes::part(b, 0, l.blocks).len() / 32, 24);
@@ -59,14 +59,39 @@ fn shorten_small(b: &[u8], l: Layout, out: &mut [u8]) -> Answer
 fn shorten_medium(b: &[u8], l: Layout, out: &mut [u8]) -> Answer
     ensures { λ r. ⌜ (Fits 120 120 (partsOf (now (b .entry)) l) → Done (partsOf (now (b .entry)) l) r (now (out .entry)) (now (out .exit))) ⌝ }
 {
-    let mut work = [0u8; 17792];
+    let mut work = [0u8; 9984];
     let mut table = [0u8; 3840];
     let mut kinds = [0u8; 100];
-    let mut known = [0u64; 432];
-    let mut copy = [0u32; 432];
+    let mut known = [0u64; 270];
+    let mut copy = [0u32; 270];
     let mut facts = [0u64; 600];
     let nb = blocks::least(classes::part(b, l.blocks, l.bodies).len() / 32, 120);
     let nr = blocks::least(classes::part(b, 0, l.blocks).len() / 32, 120);
+    shortening::shorten_in(
+        b,
+        l,
+        out,
+        &mut work,
+        &mut table[..32 * nb],
+        &mut kinds,
+        &mut known,
+        &mut copy,
+        &mut facts[..5 * nr],
+    )
+}
+
+// At most 240 registers and instructions, half of the limits, and 160 blocks.
+fn shorten_half(b: &[u8], l: Layout, out: &mut [u8]) -> Answer
+    ensures { λ r. ⌜ (Fits 240 160 (partsOf (now (b .entry)) l) → Done (partsOf (now (b .entry)) l) r (now (out .entry)) (now (out .exit))) ⌝ }
+{
+    let mut work = [0u8; 19104];
+    let mut table = [0u8; 5120];
+    let mut kinds = [0u8; 160];
+    let mut known = [0u64; 510];
+    let mut copy = [0u32; 510];
+    let mut facts = [0u64; 1200];
+    let nb = blocks::least(classes::part(b, l.blocks, l.bodies).len() / 32, 160);
+    let nr = blocks::least(classes::part(b, 0, l.blocks).len() / 32, 240);
     shortening::shorten_in(
         b,
         l,
@@ -84,11 +109,11 @@ fn shorten_medium(b: &[u8], l: Layout, out: &mut [u8]) -> Answer
 fn shorten_large(b: &[u8], l: Layout, out: &mut [u8]) -> Answer
     ensures { λ r. ⌜ (Fits 480 160 (partsOf (now (b .entry)) l) → Done (partsOf (now (b .entry)) l) r (now (out .entry)) (now (out .exit))) ⌝ }
 {
-    let mut work = [0u8; 63872];
+    let mut work = [0u8; 37344];
     let mut table = [0u8; 5120];
     let mut kinds = [0u8; 280];
-    let mut known = [0u64; 1512];
-    let mut copy = [0u32; 1512];
+    let mut known = [0u64; 990];
+    let mut copy = [0u32; 990];
     let mut facts = [0u64; 2400];
     let nb = blocks::least(classes::part(b, l.blocks, l.bodies).len() / 32, 160);
     let nr = blocks::least(classes::part(b, 0, l.blocks).len() / 32, 480);
@@ -124,6 +149,9 @@ fn shorten_more(b: &[u8], l: Layout, out: &mut [u8]) -> Answer
 {
     if fits(b, l, 120) {
         return shorten_medium(b, l, out);
+    }
+    if fits(b, l, 240) {
+        return shorten_half(b, l, out);
     }
     shorten_large(b, l, out)
 }

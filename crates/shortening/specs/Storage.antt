@@ -63,10 +63,10 @@ shortIn x s out = writtenIn x (leftIn x s) out
 
 -- storage that is enough for a file
 pub record Enough (x : Parts) (s : Lent) : Type 0 where
-  pub work : 4 * sizeOf x + 76 ≤ length (s .work) / 32
+  pub work : 2 * sizeOf x + (3 * sizeOf x / 8 + 27) ≤ length (s .work) / 32
   pub word : length (s .work) / 32 ≤ 4294967295
   pub table : length (s .table) ≡ length (x .heads)
   pub kinds : sizeOf x / 2 + 40 ≤ length (s .kinds)
   pub facts : length (s .facts) ≡ 5 * (length (x .registers) / 32)
-  pub known : sizeOf x + (sizeOf x / 2 + 36) ≤ s .known / 2
-  pub copy : sizeOf x + (sizeOf x / 2 + 36) ≤ s .copy / 2
+  pub known : sizeOf x + 15 ≤ s .known / 2
+  pub copy : sizeOf x + 15 ≤ s .copy / 2

@@ -23,7 +23,7 @@ use Rattle.steps.specs.Small.{readsKonst}
 use Rattle.steps.specs.Gate.{copied}
 use Rattle.steps.specs.Facts.{Facts}
 use Rattle.steps.specs.Copy.{How, leftOut, renumbered, kept, howOf, ownUses, place, copyFrom}
-use Rattle.steps.specs.Thread.{stops}
+use Rattle.steps.specs.Thread.{Work, blockAt, stops}
 use Rattle.facts.specs.Storage.{factsIn}
 use Rattle.branch.specs.declared.Turn.{Turn}
 use Rattle.branch.specs.Storage.{turned, before, turnedIn}
@@ -55,19 +55,18 @@ join-few facts body budget a l fresh s kinds e =
     let k = length-take 4 (codesOf (blockBytes (s .work) (s .table) l)) in
     omega (arith, e, g, k)
 
+-- where a Br is replaced, no more than the budget was copied before
+pub grown-le : (f : Facts) (w : Work) (a l : ℕ) → stops f w a l ≡ false → w .grown ≤ f .budget
+unfolding stops
+grown-le f w a l e =
+    let wide = present (f .body) in
+    let first = eqb l a || holds (f .body) l || wide && readsKonst (f .konst) (blockAt w l) in
+    let over = ltb (f .budget) (w .grown) in
+    ltb-false (f .budget) (w .grown) (or-second first over (or-first (first || over) (not (copied wide (w .blocks) l)) e))
+
 module _ (facts : List ℕ) (body : Option ℕ) (budget known copy : ℕ) (work table kinds : List ℕ) (at : Threaded) (a : ℕ) where
   abbrev s : Store
   s = store work table kinds at
-
-  pub grown-le : (l : ℕ) → stops (factsIn facts body budget) (grownTo (blocksOf work table) (at .grown)) a l ≡ false → at .grown ≤ budget
-  unfolding stops
-  grown-le l e =
-      let f = factsIn facts body budget in
-      let P = blocksOf work table in
-      let wide = present body in
-      let first = eqb l a || holds body l || wide && readsKonst (f .konst) (getD P l []) in
-      let over = ltb budget (at .grown) in
-      ltb-false budget (at .grown) (or-second first over (or-first (first || over) (not (copied wide P l)) e))
 
   pub br-stays : (l : ℕ) → stops (factsIn facts body budget) (grownTo (blocksOf work table) (at .grown)) a l ≡ true
       → hopping work table kinds (hopped at false) ≡ hopBrIn facts body budget known copy s a l

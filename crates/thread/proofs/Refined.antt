@@ -1,5 +1,5 @@
 -- Where the blocks lie apart and there is room, a hop over the storage is the definition's hop over the blocks.
-use Prim.Native.Nat.{ℕ, _+_, _/_, _≤_, _<_, _^_}
+use Prim.Native.Nat.{ℕ, _+_, _-_, _/_, _≤_, _<_, _^_}
 use native.Mathlib.Omega.{arith}
 use mathlib.Core.Path.{_≡_, refl, sym, ap, _∙_}
 use mathlib.Core.Bool.{Bool, true, false, _&&_, cond, true≢false}
@@ -22,12 +22,12 @@ use Rattle.branch.specs.declared.Turn.{Turn}
 use Rattle.branch.specs.declared.Turn.the-variants as u
 use Rattle.branch.specs.Storage.{turned, before, armIn, turnIf, decideIn, turnedIn, workIn, hopOf}
 use Rattle.branch.proofs.Laws.{turned-hop}
-use Rattle.arena.specs.Arena.{Arena, arena, sizeOf, room}
-use Rattle.arena.proofs.Moved.{Sound}
+use Rattle.arena.specs.Arena.{Arena, arena, room, toEnd}
+use Rattle.arena.proofs.Moved.{Sound, lastTop}
 use Rattle.arena.proofs.Grown.{Grown, frontRecords}
 use Rattle.arena.proofs.Appended.{AllInRange}
-use Rattle.join.specs.Storage.{targetIn, copyIn, givenIn, kindsPut, replaced}
-use Rattle.join.proofs.Blocks.{replaced-block}
+use Rattle.join.specs.Storage.{targetIn, copyIn, givenIn, kindsPut, cut, replaced}
+use Rattle.join.proofs.Blocks.{cut-top, replaced-block}
 use Rattle.join.proofs.Hop as j
 use Rattle.thread.specs.Storage.{Store, store, Hopping, turnedAt, freshTo, appendIn, hopBrIn, hopCondBrIn}
 
@@ -98,12 +98,12 @@ module _ (facts : List ℕ) (body : Option ℕ) (budget known copy : ℕ) (s : S
       ∙ by-turn s (z .turn) (z .code) (stay-turned (s .table) a (s .work) body c t f facts true) rest
       ∙ ap (λ (b : Bool). goes (turnedAt s (turnedIn (s .table) a facts body (s .work) c t f b)) rest) (sym enough)
 
--- what a join asks: a block that holds code, and room for it with the copy, for the new registers' kinds and their numbers
+-- what a join asks: a block that holds code, and room for the copy once it is the last, for the new registers' kinds and their numbers
 pub record Room (facts : List ℕ) (body : Option ℕ) (budget : ℕ) (s : Store) (a l : ℕ) : Type 0 where
   pub there : a < length (s .table) / 32
   pub holds : recordAt (s .table) a .p1 < recordAt (s .table) a .p2
-  pub free : room (s .work) (s .at .top)
-      (sizeOf (recordAt (s .table) a) + length (copyIn facts body budget (s .at .fresh) (targetIn (arenaOf s) l))) ≡ true
+  pub free : room (s .work) (lastTop (recordAt (s .table) a) (s .at .top))
+      (length (copyIn facts body budget (s .at .fresh) (targetIn (arenaOf s) l)) - 1) ≡ true
   pub range : AllInRange (copyIn facts body budget (s .at .fresh) (targetIn (arenaOf s) l))
   pub kinds : s .at .fresh + length (givenIn facts body budget (targetIn (arenaOf s) l)) ≤ length (s .kinds)
   pub numbers : length (kindsIn facts) + (s .at .fresh + length (givenIn facts body budget (targetIn (arenaOf s) l))) ≤ 65535
@@ -127,6 +127,9 @@ module _ (facts : List ℕ) (body : Option ℕ) (budget known copy : ℕ) (s : S
         (frontRecords (getD (blockRecordsIn (s .work) (s .table)) a []) ++ map recordOf new)
         (front (getD (blocksOf (s .work) (s .table)) a []) ++ new)
     join-grown = replaced-block (arenaOf s) w a (r .there) (r .holds) new (r .free) (r .range)
+
+    pub join-cut : cut a (toEnd a (arenaOf s)) .top + 1 ≤ lastTop (recordAt (s .table) a) (s .at .top)
+    join-cut = cut-top (arenaOf s) w a (r .there) (r .holds) new (r .free)
 
     joined-work : stops f (workOf s) a l ≡ false
         → appended (workOf s) a (copyOf f (blockAt (workOf s) l) (nextNumber f (workOf s))) (kindsOf f (blockAt (workOf s) l))

@@ -96,18 +96,18 @@ module _ (facts : List ℕ) (body : Option ℕ) (budget known copy : ℕ) where
     unfolding hop hopIn
     hop-same = by-end (endOf (blockAt (workOf s) a)) refl
 
-  -- with what stays true from hop to hop and from block to block
+  -- with what stays true from hop to hop, of which k are left, and from block to block
   module _
-      (Good : ℕ → Store → Type 0)
-      (fine : (a : ℕ) (s : Store) → Good a s → Fine s a)
-      (keeps : (a : ℕ) (s : Store) → Good a s → Good a (hopIn facts body budget known copy s a .to))
-      (leads : (a : ℕ) (s : Store) → Good a s → Good (suc a) s)
+      (Good : ℕ → ℕ → Store → Type 0)
+      (fine : (k a : ℕ) (s : Store) → Good (suc k) a s → Fine s a)
+      (keeps : (k a : ℕ) (s : Store) → Good (suc k) a s → Good k a (hopIn facts body budget known copy s a .to))
+      (leads : (k a : ℕ) (s : Store) → Good k a s → Good 6 (suc a) s)
     where
       module _ (a : ℕ) where
         abbrev Same : ℕ → Type 0
-        Same k = (s : Store) → Good a s → hops f k a (workOf s) ≡ workOf (hopsIn facts body budget known copy k a s)
+        Same k = (s : Store) → Good k a s → hops f k a (workOf s) ≡ workOf (hopsIn facts body budget known copy k a s)
 
-        by-more : (k : ℕ) → Same k → (b : Bool) (t : Store) → Good a t
+        by-more : (k : ℕ) → Same k → (b : Bool) (t : Store) → Good k a t
             → cond b (hops f k a (workOf t)) (workOf t) ≡ workOf (onwardIn facts body budget known copy b t (hopsIn facts body budget known copy k a))
         by-more k h true t g = h t g
         by-more k h false t g = refl
@@ -117,47 +117,47 @@ module _ (facts : List ℕ) (body : Option ℕ) (budget known copy : ℕ) where
         hops-same zero s g = refl
         hops-same (suc k) s g =
             let z = hopIn facts body budget known copy s a in
-            hop-same s a (fine a s g) (hops f k a) ∙ by-more k (hops-same k) (z .more) (z .to) (keeps a s g)
+            hop-same s a (fine k a s g) (hops f k a) ∙ by-more k (hops-same k) (z .more) (z .to) (keeps k a s g)
 
-        still : (k : ℕ) → ((s : Store) → Good a s → Good a (hopsIn facts body budget known copy k a s))
-            → (b : Bool) (t : Store) → Good a t
-            → Good a (onwardIn facts body budget known copy b t (hopsIn facts body budget known copy k a))
+        still : (k : ℕ) → ((s : Store) → Good k a s → Good 6 (suc a) (hopsIn facts body budget known copy k a s))
+            → (b : Bool) (t : Store) → Good k a t
+            → Good 6 (suc a) (onwardIn facts body budget known copy b t (hopsIn facts body budget known copy k a))
         still k h true t g = h t g
-        still k h false t g = g
+        still k h false t g = leads k a t g
 
-        hops-good : (k : ℕ) (s : Store) → Good a s → Good a (hopsIn facts body budget known copy k a s)
+        hops-good : (k : ℕ) (s : Store) → Good k a s → Good 6 (suc a) (hopsIn facts body budget known copy k a s)
         unfolding hopsIn
-        hops-good zero s g = g
+        hops-good zero s g = leads zero a s g
         hops-good (suc k) s g =
             let z = hopIn facts body budget known copy s a in
-            still k (hops-good k) (z .more) (z .to) (keeps a s g)
+            still k (hops-good k) (z .more) (z .to) (keeps k a s g)
 
-      from-same : (n a : ℕ) (s : Store) → Good a s → threadFrom f n a (workOf s) ≡ workOf (threadFromIn facts body budget known copy n a s)
+      from-same : (n a : ℕ) (s : Store) → Good 6 a s → threadFrom f n a (workOf s) ≡ workOf (threadFromIn facts body budget known copy n a s)
       unfolding threadFrom threadFromIn
       from-same zero a s g = refl
       from-same (suc n) a s g =
           let t = hopsIn facts body budget known copy 6 a s in
-          ap (threadFrom f n (suc a)) (hops-same a 6 s g) ∙ from-same n (suc a) t (leads a t (hops-good a 6 s g))
+          ap (threadFrom f n (suc a)) (hops-same a 6 s g) ∙ from-same n (suc a) t (hops-good a 6 s g)
 
       -- threading is the definition's
       pub thread-same : (work table kinds : List ℕ) (top : ℕ)
-          → Good 0 (store work table kinds (record { top = top; grown = 0; fresh = 0; edited = false }))
+          → Good 6 0 (store work table kinds (record { top = top; grown = 0; fresh = 0; edited = false }))
           → thread f (blocksOf work table) ≡ workOf (threadIn facts body budget known copy work table kinds top)
       thread-same work table kinds top g =
           let s = store work table kinds (record { top = top; grown = 0; fresh = 0; edited = false }) in
           ap (λ (n : ℕ). threadFrom f n 0 (workOf s)) (length-blocks work table) ∙ from-same (length table / 32) 0 s g
 
-      from-holds : (Q : Store → Type 0) → ((a : ℕ) (s : Store) → Good a s → Q s) → (n a : ℕ) (s : Store) → Good a s
+      from-holds : (Q : Store → Type 0) → ((a : ℕ) (s : Store) → Good 6 a s → Q s) → (n a : ℕ) (s : Store) → Good 6 a s
           → Q (threadFromIn facts body budget known copy n a s)
       unfolding threadFromIn
       from-holds Q q zero a s g = q a s g
       from-holds Q q (suc n) a s g =
           let t = hopsIn facts body budget known copy 6 a s in
-          from-holds Q q n (suc a) t (leads a t (hops-good a 6 s g))
+          from-holds Q q n (suc a) t (hops-good a 6 s g)
 
       -- and what it says of every block holds at the end
-      pub thread-holds : (Q : Store → Type 0) → ((a : ℕ) (s : Store) → Good a s → Q s) → (work table kinds : List ℕ) (top : ℕ)
-          → Good 0 (store work table kinds (record { top = top; grown = 0; fresh = 0; edited = false }))
+      pub thread-holds : (Q : Store → Type 0) → ((a : ℕ) (s : Store) → Good 6 a s → Q s) → (work table kinds : List ℕ) (top : ℕ)
+          → Good 6 0 (store work table kinds (record { top = top; grown = 0; fresh = 0; edited = false }))
           → Q (threadIn facts body budget known copy work table kinds top)
       thread-holds Q q work table kinds top g =
           from-holds Q q (length table / 32) 0 (store work table kinds (record { top = top; grown = 0; fresh = 0; edited = false })) g

@@ -31,7 +31,7 @@ use Rattle.steps.specs.Thread.{Work, blockAt, nextNumber, stops}
 use Rattle.facts.specs.Storage.{factsIn, kindsIn}
 use Rattle.branch.specs.Storage.{before}
 use Rattle.arena.specs.Arena.{sizeOf}
-use Rattle.arena.proofs.Moved.{Sound}
+use Rattle.arena.proofs.Moved.{Sound, lastTop}
 use Rattle.arena.proofs.Appended.{AllInRange}
 use Rattle.join.specs.Storage.{targetIn, copyIn, givenIn}
 use Rattle.join.proofs.Hop as j
@@ -42,7 +42,7 @@ use Rattle.sized.proofs.Names.{withRegs}
 use Rattle.sized.proofs.Threads.{Inv, countsAt}
 use Rattle.sized.proofs.Copies.{copied-in, kinds-few}
 use Rattle.thread.specs.Storage.{Store}
-use Rattle.thread.proofs.Laws.{copy-short}
+use Rattle.thread.proofs.Laws.{copy-short, grown-le}
 use Rattle.thread.proofs.Refined.{workOf, arenaOf, Room}
 use Rattle.thread.proofs.Same.{Fine}
 use Rattle.thread.proofs.Kept.{isBr, br-there, br-holds}
@@ -97,9 +97,10 @@ module _ (facts : List ℕ) (body : Option ℕ) (budget known copy : ℕ) (n : C
   abbrev f : Facts
   f = factsIn facts body budget
 
-  -- room for block a and four instructions more, and for four new registers
+  -- room for three instructions more once block a is the last, as long as it may get any, and for four new registers
   pub record Spacious (s : Store) (a : ℕ) : Type 0 where
-    pub code : s .at .top + (length (blockAt (workOf s) a) + 4) ≤ min (length (s .work) / 32) 4294967295
+    pub code : a < length (s .table) / 32 → s .at .grown ≤ budget
+        → lastTop (recordAt (s .table) a) (s .at .top) + 3 ≤ min (length (s .work) / 32) 4294967295
     pub kinds : s .at .fresh + 4 ≤ length (s .kinds)
     pub numbers : length (kindsIn facts) + (s .at .fresh + 4) ≤ 65535
     pub known-words : length (blockAt (workOf s) a) ≤ known / 2
@@ -135,19 +136,19 @@ module _ (facts : List ℕ) (body : Option ℕ) (budget known copy : ℕ) (n : C
       room-by br =
           let c = blockAt (workOf s) l in
           let four = short in
-          let size = block-size s w a in
-          let space = h .code in
+          let space = h .code (br-there s a br) (grown-le f (workOf s) a l q) in
           let few = copy-short f (ownUses c) c [] (nextNumber f (workOf s)) in
           let new = ap length same in
           let ks = kinds-few f (ownUses c) (countsAt f n (workOf s)) c in
           let gs = ap length given in
           let some = h .kinds in
           let low = h .numbers in
-          let all = sizeOf (recordAt (s .table) a) + length (copyIn facts body budget (s .at .fresh) (targetIn (arenaOf s) l)) in
+          let top = lastTop (recordAt (s .table) a) (s .at .top) in
+          let more = length (copyIn facts body budget (s .at .fresh) (targetIn (arenaOf s) l)) - 1 in
           record {
             there = br-there s a br;
             holds = br-holds s a br;
-            free = le-leb (s .at .top + all) (min (length (s .work) / 32) 4294967295) (omega arith);
+            free = le-leb (top + more) (min (length (s .work) / 32) 4294967295) (omega arith);
             range = subst AllInRange (sym same) range;
             kinds = omega arith;
             numbers = omega arith;

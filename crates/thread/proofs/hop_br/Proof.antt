@@ -2,8 +2,10 @@ use Prim.Native.Nat.{_+_, _<_, _^_}
 use mathlib.Core.Path.{sym, ap, _∙_}
 use native.Mathlib.Omega.{arith}
 use denote.Ref.{now}
+use Rattle.blocks.specs.Blocks.{blocksOf}
 use Rattle.arena.specs.Arena.{arena}
-use Rattle.join.specs.Storage.{Left}
+use Rattle.facts.specs.Storage.{factsIn}
+use Rattle.join.specs.Storage.{Left, grownTo}
 use Rattle.pausing.specs.Storage.{bodyIn}
 use Rattle.thread.proofs.Laws.{join-few, grown-le, br-stays, br-joins}
 use borrow.Author.Needs.{needs}
@@ -39,7 +41,7 @@ add-t23 c =
     let body = bodyIn (a .pause) in
     let few = join-few (now (a .facts)) body (a .budget) (a .a) (a .l .0) (a .s .fresh) (arena (now (a .work)) (now (a .table)) (a .s .top)) (now (a .kinds))
     (ap (λ (z : Left). z .n) (j .join .ensures body (a .budget))) in
-    let le = grown-le (now (a .facts)) body (a .budget) 0 0 (now (a .work)) (now (a .table)) (now (a .kinds)) (a .s) (a .a) (a .l .0)
+    let le = grown-le (factsIn (now (a .facts)) body (a .budget)) (grownTo (blocksOf (now (a .work)) (now (a .table))) (a .s .grown)) (a .a) (a .l .0)
     (sym (x .stops .ensures) ∙ i .if1 .left) in
     let fits : a .s .grown + j .join .result .n < 2 ^ 64 = omega (arith, few, le, start .fits .budget .fits) in
     record { fits = fits }
