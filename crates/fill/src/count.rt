@@ -92,6 +92,23 @@ fn bump_reads(table: &mut [u64], a: u32, b: u32)
     bump(table, 2, 4294967295, Reg(b));
 }
 
+// One register written and three read.
+fn bump_four(table: &mut [u64], d: u32, a: u32, b: u32, e: u32)
+    ensures { λ u. ⌜ now (table .exit) ≡ counted 2 cap (counted 2 cap (counted 2 cap (counted 1 255 (now (table .entry)) d) a) b) e ⌝ }
+{
+    bump_two(table, d, a);
+    bump_reads(table, b, e);
+}
+
+// One register written and four read.
+fn bump_five(table: &mut [u64], d: u32, a: u32, b: u32, l: u32, h: u32)
+    ensures { λ u. ⌜ now (table .exit)
+        ≡ counted 2 cap (counted 2 cap (counted 2 cap (counted 2 cap (counted 1 255 (now (table .entry)) d) a) b) l) h ⌝ }
+{
+    bump_three(table, d, a, b);
+    bump_reads(table, l, h);
+}
+
 fn bump_bool(table: &mut [u64], op: BoolOp, d: u32, a: u32, b: u32)
     ensures { λ u. ⌜ now (table .exit) ≡ over (counted 2 cap) (counted 1 255 (now (table .entry)) d) (boolUses op a b) ⌝ }
 {
@@ -115,13 +132,20 @@ fn count_record(table: &mut [u64], operands: &[u8], code: &[u8], k: usize)
         1 => bump(table, 1, 255, Reg(r.p1)),
         2 => bump_two(table, r.p1, r.p2),
         3 => bump(table, 1, 255, Reg(r.p1)),
+        4 => bump_four(table, r.p1, r.p2, r.p3, r.p4),
         5 => bump_three(table, r.p1, r.p2, r.p3),
         6 => bump_bool(table, ops::bool_of(r.op), r.p1, r.p2, r.p3),
         7 => bump_three(table, r.p1, r.p2, r.p3),
+        8 => bump_five(table, r.p1, r.p2, r.p3, r.p4, r.p5),
         9 => bump_two(table, r.p1, r.p2),
         10 => bump_reads(table, r.p1, r.p2),
+        13 => bump_two(table, r.p1, r.p2),
+        14 => bump_four(table, r.p1, r.p2, r.p3, r.p4),
+        15 => bump_two(table, r.p1, r.p2),
         18 => {}
         19 => bump(table, 2, 4294967295, Reg(r.p1)),
+        20 => bump(table, 2, 4294967295, Reg(r.p1)),
+        22 => {}
         23 => {}
         _ => count_inst(table, operands, codec::inst_of(format::record_at(code, k))),
     }
