@@ -4,7 +4,7 @@ use mathlib.Core.List.{List, [], _∷_, _++_, map}
 use mathlib.Core.Option.{none}
 use mathlib.Core.Bool.{Bool, true, _&&_, _||_, not, cond}
 use lib.Dec.{leb, ltb}
-use lib.ListN.{length, getD}
+use lib.ListN.{length, getD, take}
 use Rattle.format.specs.declared.Record.{Record}
 use Rattle.store.specs.Store.{putOf}
 use Rattle.inst.specs.declared.Inst.{Inst}
@@ -54,6 +54,10 @@ puts (r ∷ rs) s = puts rs (put r s)
 -- the instructions of some blocks
 abbrev pub codesIn : List (List Record) → List (List Code)
 codesIn R = map (map codeOf) R
+
+-- the marks of at most 160 blocks
+abbrev pub marksIn : List Bool → List Bool
+marksIn seen = take 160 seen
 
 -- block b stays; one that has no mark does
 abbrev pub staysAt : List Bool → List (List Code) → ℕ → Bool

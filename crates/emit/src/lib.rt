@@ -10,7 +10,7 @@ ghost use Rattle.procedure.specs.Lists.{joined};
 ghost use Rattle.procedure.specs.Procedure.{codesOf};
 ghost use Rattle.blocks.specs.Blocks.{blockRecordsIn, blocksOf};
 ghost use Rattle.steps.specs.Emit as steps;
-ghost use Rattle.emit.specs.Emitted.{rescuedBy, staysBy, rescuedIn, branchRecord};
+ghost use Rattle.emit.specs.Emitted.{marksIn, rescuedBy, staysBy, rescuedIn, branchRecord};
 ghost use Rattle.emit.specs.Emitted.{place, put as putOne, puts};
 ghost use Rattle.emit.specs.Emitted.{staysAt, lostAt, newAt, rescuesIn, emptyIn, endAfter, headsFrom, counted};
 use ends::End;
@@ -182,18 +182,18 @@ pub fn put_emptied(out: &mut [u8], at: usize, next: BlockId, code: &[u8]) -> usi
 }
 
 // The mark of block b; a block without a mark stays.
-fn mark_at(seen: [bool; 160], b: usize) -> bool
-    ensures { λ z. ⌜ z ≡ getD seen b true ⌝ }
+fn mark_at(seen: &[bool], b: usize) -> bool
+    ensures { λ z. ⌜ z ≡ getD (marksIn (now (seen .entry))) b true ⌝ }
 {
-    if b < 160 {
+    if b < blocks::least(160, seen.len()) {
         return seen[b];
     }
     true
 }
 
 // Block b stays.
-fn keeps(work: &[u8], table: &[u8], seen: [bool; 160], b: usize) -> bool
-    ensures { λ z. ⌜ z ≡ staysAt seen (blocksOf (now (work .entry)) (now (table .entry))) b ⌝ }
+fn keeps(work: &[u8], table: &[u8], seen: &[bool], b: usize) -> bool
+    ensures { λ z. ⌜ z ≡ staysAt (marksIn (now (seen .entry))) (blocksOf (now (work .entry)) (now (table .entry))) b ⌝ }
 {
     let nb = table.len() / 32;
     let last = nb - blocks::least(1, nb) <= b;
@@ -206,12 +206,12 @@ fn put_lost(
     at: usize,
     work: &[u8],
     table: &[u8],
-    seen: [bool; 160],
+    seen: &[bool],
     facts: &[u64],
     b: usize,
 ) -> usize
     ensures { λ z. ⌜ place (now (out .exit)) z
-        ≡ puts (lostAt (now (facts .entry)) seen (blockRecordsIn (now (work .entry)) (now (table .entry))) b)
+        ≡ puts (lostAt (now (facts .entry)) (marksIn (now (seen .entry))) (blockRecordsIn (now (work .entry)) (now (table .entry))) b)
         (place (now (out .entry)) at) ⌝ }
 {
     if keeps(work, table, seen, b) {
@@ -226,11 +226,11 @@ pub fn put_keep(
     at: usize,
     work: &[u8],
     table: &[u8],
-    seen: [bool; 160],
+    seen: &[bool],
     facts: &[u64],
 ) -> usize
     ensures { λ z. ⌜ place (now (out .exit)) z
-        ≡ puts (rescuesIn (now (facts .entry)) seen (blockRecordsIn (now (work .entry)) (now (table .entry))))
+        ≡ puts (rescuesIn (now (facts .entry)) (marksIn (now (seen .entry))) (blockRecordsIn (now (work .entry)) (now (table .entry))))
         (place (now (out .entry)) at) ⌝ }
 {
     let nb = table.len() / 32;
@@ -244,16 +244,9 @@ pub fn put_keep(
 }
 
 // Block b as it is emitted is written from a place on; returns the next place.
-fn put_new(
-    out: &mut [u8],
-    at: usize,
-    work: &[u8],
-    table: &[u8],
-    seen: [bool; 160],
-    b: usize,
-) -> usize
+fn put_new(out: &mut [u8], at: usize, work: &[u8], table: &[u8], seen: &[bool], b: usize) -> usize
     ensures { λ z. ⌜ place (now (out .exit)) z
-        ≡ puts (newAt seen (blockRecordsIn (now (work .entry)) (now (table .entry))) b) (place (now (out .entry)) at) ⌝ }
+        ≡ puts (newAt (marksIn (now (seen .entry))) (blockRecordsIn (now (work .entry)) (now (table .entry))) b) (place (now (out .entry)) at) ⌝ }
 {
     let code = blocks::block(work, table, b);
     if keeps(work, table, seen, b) {
@@ -263,9 +256,9 @@ fn put_new(
 }
 
 // The blocks as they are emitted are written from a place on, without what is rescued; returns the next place.
-pub fn put_code(out: &mut [u8], at: usize, work: &[u8], table: &[u8], seen: [bool; 160]) -> usize
+pub fn put_code(out: &mut [u8], at: usize, work: &[u8], table: &[u8], seen: &[bool]) -> usize
     ensures { λ z. ⌜ place (now (out .exit)) z
-        ≡ puts (joined (emptyIn 0 seen (blockRecordsIn (now (work .entry)) (now (table .entry)))))
+        ≡ puts (joined (emptyIn 0 (marksIn (now (seen .entry))) (blockRecordsIn (now (work .entry)) (now (table .entry)))))
         (place (now (out .entry)) at) ⌝ }
 {
     let nb = table.len() / 32;
@@ -279,8 +272,8 @@ pub fn put_code(out: &mut [u8], at: usize, work: &[u8], table: &[u8], seen: [boo
 }
 
 // How many records block b has as it is emitted.
-fn size_at(work: &[u8], table: &[u8], seen: [bool; 160], b: usize) -> usize
-    ensures { λ z. ⌜ z ≡ length (newAt seen (blockRecordsIn (now (work .entry)) (now (table .entry))) b) ⌝ }
+fn size_at(work: &[u8], table: &[u8], seen: &[bool], b: usize) -> usize
+    ensures { λ z. ⌜ z ≡ length (newAt (marksIn (now (seen .entry))) (blockRecordsIn (now (work .entry)) (now (table .entry))) b) ⌝ }
 {
     if keeps(work, table, seen, b) {
         return blocks::block(work, table, b).len() / 32;
@@ -303,10 +296,10 @@ pub fn put_heads(
     keep: u32,
     work: &[u8],
     table: &[u8],
-    seen: [bool; 160],
+    seen: &[bool],
 ) -> usize
     ensures { λ z. ⌜ place (now (out .exit)) z
-        ≡ puts (headsFrom 0 keep (emptyIn 0 seen (blockRecordsIn (now (work .entry)) (now (table .entry))))) (place (now (out .entry)) at) ⌝ }
+        ≡ puts (headsFrom 0 keep (emptyIn 0 (marksIn (now (seen .entry))) (blockRecordsIn (now (work .entry)) (now (table .entry))))) (place (now (out .entry)) at) ⌝ }
 {
     let nb = table.len() / 32;
     let mut top = at;
@@ -334,8 +327,8 @@ pub fn plus(a: usize, b: usize) -> usize
 }
 
 // How many records of block b are rescued: none where it stays.
-fn lost_at(work: &[u8], table: &[u8], seen: [bool; 160], facts: &[u64], b: usize) -> usize
-    ensures { λ z. ⌜ z ≡ length (lostAt (now (facts .entry)) seen (blockRecordsIn (now (work .entry)) (now (table .entry))) b) ⌝ }
+fn lost_at(work: &[u8], table: &[u8], seen: &[bool], facts: &[u64], b: usize) -> usize
+    ensures { λ z. ⌜ z ≡ length (lostAt (now (facts .entry)) (marksIn (now (seen .entry))) (blockRecordsIn (now (work .entry)) (now (table .entry))) b) ⌝ }
 {
     if keeps(work, table, seen, b) {
         return 0;
@@ -344,9 +337,9 @@ fn lost_at(work: &[u8], table: &[u8], seen: [bool; 160], facts: &[u64], b: usize
 }
 
 // How many records are rescued.
-pub fn keep_count(work: &[u8], table: &[u8], seen: [bool; 160], facts: &[u64]) -> usize
+pub fn keep_count(work: &[u8], table: &[u8], seen: &[bool], facts: &[u64]) -> usize
     ensures { λ z. ⌜ z
-        ≡ counted (length (rescuesIn (now (facts .entry)) seen (blockRecordsIn (now (work .entry)) (now (table .entry))))) ⌝ }
+        ≡ counted (length (rescuesIn (now (facts .entry)) (marksIn (now (seen .entry))) (blockRecordsIn (now (work .entry)) (now (table .entry))))) ⌝ }
 {
     let nb = table.len() / 32;
     let mut n = 0;
@@ -359,9 +352,9 @@ pub fn keep_count(work: &[u8], table: &[u8], seen: [bool; 160], facts: &[u64]) -
 }
 
 // How many records the emitted blocks have, without what is rescued.
-pub fn code_count(work: &[u8], table: &[u8], seen: [bool; 160]) -> usize
+pub fn code_count(work: &[u8], table: &[u8], seen: &[bool]) -> usize
     ensures { λ z. ⌜ z
-        ≡ counted (length (joined (emptyIn 0 seen (blockRecordsIn (now (work .entry)) (now (table .entry)))))) ⌝ }
+        ≡ counted (length (joined (emptyIn 0 (marksIn (now (seen .entry))) (blockRecordsIn (now (work .entry)) (now (table .entry)))))) ⌝ }
 {
     let nb = table.len() / 32;
     let mut n = 0;

@@ -4,7 +4,7 @@ ghost use mathlib.Core.Path.{_≡_};
 ghost use mathlib.Core.List.{[]};
 ghost use lib.ListN.{length};
 ghost use Rattle.steps.specs.Shorten.{refusal};
-ghost use Rattle.emit.specs.Emitted.{place, puts, counted};
+ghost use Rattle.emit.specs.Emitted.{marksIn, place, puts, counted};
 ghost use Rattle.output.specs.Filed.{outcome, counts, filed, wrote, short as shortOf, sameRecords, kindRecords, recordsBy, emittedIn};
 use steps::Answer;
 
@@ -151,7 +151,7 @@ fn write_all(
     kinds: &[u8],
     work: &[u8],
     table: &[u8],
-    seen: [bool; 160],
+    seen: &[bool],
     facts: &[u64],
     keep: u32,
     body: &[u8],
@@ -160,7 +160,7 @@ fn write_all(
 ) -> usize
     ensures { λ z. ⌜ place (now (out .exit)) z
         ≡ puts
-        (recordsBy (now (work .entry)) (now (table .entry)) (now (facts .entry)) seen keep (now (registers .entry)) (now (kinds .entry))
+        (recordsBy (now (work .entry)) (now (table .entry)) (now (facts .entry)) (marksIn (now (seen .entry))) keep (now (registers .entry)) (now (kinds .entry))
         (now (body .entry)) (now (operands .entry)) (now (arms .entry)))
         (place (now (out .entry)) 0) ⌝ }
 {
@@ -192,8 +192,8 @@ pub fn emit(
         (now (body .entry)) (now (operands .entry)) grown (now (out .entry)) ⌝ }
 {
     let seen = reach::reached(work, table, arms);
-    let keep = emit::keep_count(work, table, seen, facts);
-    let code = emit::code_count(work, table, seen);
+    let keep = emit::keep_count(work, table, &seen, facts);
+    let code = emit::code_count(work, table, &seen);
     let n = count_all(registers, kinds, table, body, keep, code, operands, arms);
     if out.len() / 32 < n {
         return refused();
@@ -205,7 +205,7 @@ pub fn emit(
         kinds,
         work,
         table,
-        seen,
+        &seen,
         facts,
         rescued,
         body,

@@ -9,7 +9,7 @@ use Rattle.format.specs.declared.Record.{Record}
 use Rattle.procedure.specs.Lists.{joined}
 use Rattle.blocks.specs.Blocks.{blockRecordsIn}
 use Rattle.blocks.proofs.Parts.{length-table}
-use Rattle.emit.specs.Emitted.{counted, newAt, emptyIn}
+use Rattle.emit.specs.Emitted.{marksIn, counted, newAt, emptyIn}
 use Rattle.emit.proofs.Passes.{empty-one, empty-end}
 use Rattle.emit.proofs.Measure.{count-more, count-end}
 use Rattle.emit.proofs.code_count.Statement.{statement}
@@ -20,8 +20,8 @@ Inv-loop work table seen nb n₀ b₀ n b =
     (b ≤ nb)
     × (nb ≡ length table / 32)
     × (n ≡ counted n)
-    × (counted (n + length (joined (emptyIn b (drop b seen) (drop b (blockRecordsIn work table)))))
-    ≡ counted (length (joined (emptyIn 0 seen (blockRecordsIn work table)))))
+    × (counted (n + length (joined (emptyIn b (drop b (marksIn seen)) (drop b (blockRecordsIn work table)))))
+    ≡ counted (length (joined (emptyIn 0 (marksIn seen) (blockRecordsIn work table)))))
 
 abbrev μ-loop : tie.MeasureT-loop
 μ-loop work table seen nb n₀ b₀ n b = nb - b
@@ -44,9 +44,9 @@ loop-less c = search needs
 loop-again : tie.Need-loop-again Inv-loop μ-loop
 loop-again c =
     let l = c .before .before .before in
-    let a = l .before .before .before .args in
+    let a = l .before .before .before .before .args in
     let R = blockRecordsIn (now (a .work)) (now (a .table)) in
-    let m = a .seen in
+    let m = marksIn (now (a .seen)) in
     let b = l .loop .b in
     let n = length-table (now (a .work)) (now (a .table)) in
     let rest = joined (emptyIn (b + 1) (drop (b + 1) m) (drop (b + 1) R)) in
@@ -60,10 +60,10 @@ loop-again c =
 returns : tie.Need-returns Inv-loop μ-loop
 returns c =
     let l = c .before in
-    let a = l .before .before .before .args in
+    let a = l .before .before .before .before .args in
     let R = blockRecordsIn (now (a .work)) (now (a .table)) in
     let n = length-table (now (a .work)) (now (a .table)) in
-    let e = ap (λ (r : List Record). length r) (empty-end (a .seen) R (l .loop .b) (omega arith)) in
+    let e = ap (λ (r : List Record). length r) (empty-end (marksIn (now (a .seen))) R (l .loop .b) (omega arith)) in
     count-end (l .loop .inv .2) e (l .loop .inv .3)
 
 pub code-count-spec : {M : Type 1} → statement M

@@ -8,7 +8,7 @@ use lib.ListN.{length, drop, length-append}
 use Rattle.format.specs.declared.Record.{Record}
 use Rattle.blocks.specs.Blocks.{blockRecordsIn}
 use Rattle.blocks.proofs.Parts.{length-table}
-use Rattle.emit.specs.Emitted.{counted, lostAt, rescuesIn}
+use Rattle.emit.specs.Emitted.{marksIn, counted, lostAt, rescuesIn}
 use Rattle.emit.proofs.Passes.{rescues-one, rescues-end}
 use Rattle.emit.proofs.Measure.{count-more, count-end}
 use Rattle.emit.proofs.keep_count.Statement.{statement}
@@ -19,8 +19,8 @@ Inv-loop work table seen facts nb n₀ b₀ n b =
     (b ≤ nb)
     × (nb ≡ length table / 32)
     × (n ≡ counted n)
-    × (counted (n + length (rescuesIn facts (drop b seen) (drop b (blockRecordsIn work table))))
-    ≡ counted (length (rescuesIn facts seen (blockRecordsIn work table))))
+    × (counted (n + length (rescuesIn facts (drop b (marksIn seen)) (drop b (blockRecordsIn work table))))
+    ≡ counted (length (rescuesIn facts (marksIn seen) (blockRecordsIn work table))))
 
 abbrev μ-loop : tie.MeasureT-loop
 μ-loop work table seen facts nb n₀ b₀ n b = nb - b
@@ -43,10 +43,10 @@ loop-less c = search needs
 loop-again : tie.Need-loop-again Inv-loop μ-loop
 loop-again c =
     let l = c .before .before .before in
-    let a = l .before .before .before .before .args in
+    let a = l .before .before .before .before .before .args in
     let R = blockRecordsIn (now (a .work)) (now (a .table)) in
     let f = now (a .facts) in
-    let m = a .seen in
+    let m = marksIn (now (a .seen)) in
     let b = l .loop .b in
     let n = length-table (now (a .work)) (now (a .table)) in
     let rest = rescuesIn f (drop (b + 1) m) (drop (b + 1) R) in
@@ -60,10 +60,10 @@ loop-again c =
 returns : tie.Need-returns Inv-loop μ-loop
 returns c =
     let l = c .before in
-    let a = l .before .before .before .before .args in
+    let a = l .before .before .before .before .before .args in
     let R = blockRecordsIn (now (a .work)) (now (a .table)) in
     let n = length-table (now (a .work)) (now (a .table)) in
-    let e = ap (λ (r : List Record). length r) (rescues-end (a .seen) R (l .loop .b) (now (a .facts)) (omega arith)) in
+    let e = ap (λ (r : List Record). length r) (rescues-end (marksIn (now (a .seen))) R (l .loop .b) (now (a .facts)) (omega arith)) in
     count-end (l .loop .inv .2) e (l .loop .inv .3)
 
 pub keep-count-spec : {M : Type 1} → statement M

@@ -9,7 +9,7 @@ use lib.ListN.{length, getD}
 use Rattle.procedure.specs.Procedure.{codesOf}
 use Rattle.blocks.specs.Blocks.{blocksOf}
 use Rattle.blocks.proofs.Parts.{block-codes, length-blocks}
-use Rattle.emit.specs.Emitted.{staysBy}
+use Rattle.emit.specs.Emitted.{marksIn, staysBy}
 use Rattle.emit.proofs.keeps.Statement.{statement}
 use Rattle.emit.proofs.keeps.Tie as tie
 
@@ -33,7 +33,7 @@ returns c =
     let b = c .before in
     let m = b .before in
     let l = m .before in
-    let a = l .before .before .before .args in
+    let a = l .before .before .before .before .args in
     let P = blocksOf (now (a .work)) (now (a .table)) in
     let nb = length (now (a .table)) / 32 in
     let n = length-blocks (now (a .work)) (now (a .table)) in
@@ -41,8 +41,8 @@ returns c =
     let last : nb - l .least .result ≡ length P - 1 = omega arith in
     c .stays .ensures
     ∙ ap (λ (t : Bool). staysBy t (leb (nb - l .least .result) (a .b)) (codesOf (now (b .block .result)))) (m .mark-at .ensures)
-    ∙ ap (λ (k : ℕ). staysBy (getD (a .seen) (a .b) true) (leb k (a .b)) (codesOf (now (b .block .result)))) last
-    ∙ ap (staysBy (getD (a .seen) (a .b) true) (leb (length P - 1) (a .b)))
+    ∙ ap (λ (k : ℕ). staysBy (getD (marksIn (now (a .seen))) (a .b) true) (leb k (a .b)) (codesOf (now (b .block .result)))) last
+    ∙ ap (staysBy (getD (marksIn (now (a .seen))) (a .b) true) (leb (length P - 1) (a .b)))
     (ap codesOf (b .block .ensures) ∙ block-codes (now (a .work)) (now (a .table)) (a .b))
 
 pub keeps-spec : {M : Type 1} → statement M

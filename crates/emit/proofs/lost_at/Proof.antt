@@ -17,7 +17,7 @@ keeps-requires c κs = search needs
 
 returns : tie.Need-returns
 returns c =
-    let a = c .before .before .before .before .before .args in
+    let a = c .before .before .before .before .before .before .args in
     let R = blockRecordsIn (now (a .work)) (now (a .table)) in
     let t = sym (c .before .keeps .ensures) ∙ c .if1 .taken in
     ap (λ (l : List Record). length l) (chosen [] (rescuedIn (now (a .facts)) (getD R (a .b) [])) t)
@@ -31,7 +31,7 @@ rescued-in-requires c κs = search needs
 returns-2 : tie.Need-returns-2
 returns-2 c =
     let i = c .before .before in
-    let a = i .before .before .before .before .before .args in
+    let a = i .before .before .before .before .before .before .args in
     let R = blockRecordsIn (now (a .work)) (now (a .table)) in
     let f = now (a .facts) in
     let t = sym (i .before .keeps .ensures) ∙ i .if1 .left in

@@ -1,26 +1,34 @@
-use mathlib.Core.Path.{_≡_}
+use mathlib.Core.Path.{sym, _∙_}
 use mathlib.Core.Bool.{true, false}
 use native.Mathlib.Omega.{arith}
-use borrow.Author.Needs.{needs}
-use lib.ListN.{length}
+use denote.Ref.{now}
+use lib.ListN.{length-take}
+use lib.Seq.{getD-take}
 use Rattle.general.proofs.Lists.{getD-any, at-rest}
+use Rattle.emit.specs.Emitted.{marksIn}
+use borrow.Author.Needs.{needs}
 use Rattle.emit.proofs.mark_at.Statement.{statement}
 use Rattle.emit.proofs.mark_at.Tie as tie
 
-array-read-result : tie.Need-array-read-result
-array-read-result c = search needs
+least-requires : tie.Need-least-requires
+least-requires c κs = search needs
+
+shared-slice-read-result : tie.Need-shared-slice-read-result
+shared-slice-read-result c = search needs
 
 returns : tie.Need-returns
 returns c =
-    let a = c .before .args in
-    let n : length (a .t1) ≡ 160 = search needs in
-    getD-any (a .t1) (a .b) false true (omega arith)
+    let a = c .before .before .before .before .args in
+    let e = c .before .before .least .ensures in
+    let t = c .before .if1 .taken in
+    getD-any (now (a .seen)) (a .b) false true (omega arith) ∙ sym (getD-take 160 (now (a .seen)) (a .b) true (omega arith))
 
 returns-2 : tie.Need-returns-2
 returns-2 c =
-    let a = c .before .args in
-    let n : length (a .t1) ≡ 160 = search needs in
-    at-rest (a .t1) true (omega arith)
+    let a = c .before .before .before .args in
+    let e = c .before .least .ensures in
+    let n = length-take 160 (now (a .seen)) in
+    at-rest (marksIn (now (a .seen))) true (omega (arith, c .if1 .left))
 
 pub mark-at-spec : {M : Type 1} → statement M
-mark-at-spec = tie.close (tie.spec array-read-result returns returns-2)
+mark-at-spec = tie.close (tie.spec least-requires shared-slice-read-result returns returns-2)

@@ -9,7 +9,7 @@ use Rattle.format.specs.declared.Record.{Record}
 use Rattle.procedure.specs.Lists.{joined}
 use Rattle.blocks.specs.Blocks.{blockRecordsIn}
 use Rattle.blocks.proofs.Parts.{length-table}
-use Rattle.emit.specs.Emitted.{place, puts, newAt, emptyIn}
+use Rattle.emit.specs.Emitted.{marksIn, place, puts, newAt, emptyIn}
 use Rattle.emit.proofs.Passes.{puts-append, empty-one, empty-end}
 use Rattle.emit.proofs.put_code.Statement.{statement}
 use Rattle.emit.proofs.put_code.Tie as tie
@@ -19,8 +19,8 @@ Inv-loop out₀ at work table seen nb top₀ b₀ out top b =
     (b ≤ nb)
     × (nb ≡ length table / 32)
     × (length out ≡ length out₀)
-    × (puts (joined (emptyIn b (drop b seen) (drop b (blockRecordsIn work table)))) (place out top)
-    ≡ puts (joined (emptyIn 0 seen (blockRecordsIn work table))) (place out₀ at))
+    × (puts (joined (emptyIn b (drop b (marksIn seen)) (drop b (blockRecordsIn work table)))) (place out top)
+    ≡ puts (joined (emptyIn 0 (marksIn seen) (blockRecordsIn work table))) (place out₀ at))
 
 abbrev μ-loop : tie.MeasureT-loop
 μ-loop out₀ at work table seen nb top₀ b₀ out top b = nb - b
@@ -41,9 +41,9 @@ loop-again : tie.Need-loop-again Inv-loop μ-loop
 loop-again c =
     let p = c .before .before .put-new in
     let l = c .before .before .before .before .before in
-    let a = l .before .before .before .before .args in
+    let a = l .before .before .before .before .before .args in
     let R = blockRecordsIn (now (a .work)) (now (a .table)) in
-    let m = a .seen in
+    let m = marksIn (now (a .seen)) in
     let b = l .loop .b in
     let s = place (l .loop .out) (l .loop .top) in
     let n = length-table (now (a .work)) (now (a .table)) in
@@ -63,11 +63,11 @@ returns : tie.Need-returns Inv-loop μ-loop
 unfolding puts
 returns c =
     let l = c .before in
-    let a = l .before .before .before .before .args in
+    let a = l .before .before .before .before .before .args in
     let R = blockRecordsIn (now (a .work)) (now (a .table)) in
     let s = place (l .loop .out) (l .loop .top) in
     let n = length-table (now (a .work)) (now (a .table)) in
-    sym (ap (λ (r : List Record). puts r s) (empty-end (a .seen) R (l .loop .b) (omega arith))) ∙ l .loop .inv .3
+    sym (ap (λ (r : List Record). puts r s) (empty-end (marksIn (now (a .seen))) R (l .loop .b) (omega arith))) ∙ l .loop .inv .3
 
 pub put-code-spec : {M : Type 1} → statement M
 put-code-spec = tie.close (tie.spec Inv-loop μ-loop loop-holds put-new-requires add-b loop-less loop-again same-length returns)

@@ -8,7 +8,7 @@ use Rattle.format.specs.declared.Record.{Record}
 use Rattle.items.specs.Items.{blockRecord}
 use Rattle.blocks.specs.Blocks.{blockRecordsIn}
 use Rattle.blocks.proofs.Parts.{length-table}
-use Rattle.emit.specs.Emitted.{place, put, puts, emptyIn, endAfter, headsFrom}
+use Rattle.emit.specs.Emitted.{marksIn, place, put, puts, emptyIn, endAfter, headsFrom}
 use Rattle.emit.proofs.Passes.{empty-cons, empty-none}
 use Rattle.emit.proofs.put_heads.Statement.{statement}
 use Rattle.emit.proofs.put_heads.Tie as tie
@@ -18,8 +18,8 @@ Inv-loop out₀ at keep work table seen nb top₀ start₀ front₀ b₀ out top
     (b ≤ nb)
     × (nb ≡ length table / 32)
     × (length out ≡ length out₀)
-    × (puts (headsFrom start front (emptyIn b (drop b seen) (drop b (blockRecordsIn work table)))) (place out top)
-    ≡ puts (headsFrom 0 keep (emptyIn 0 seen (blockRecordsIn work table))) (place out₀ at))
+    × (puts (headsFrom start front (emptyIn b (drop b (marksIn seen)) (drop b (blockRecordsIn work table)))) (place out top)
+    ≡ puts (headsFrom 0 keep (emptyIn 0 (marksIn seen) (blockRecordsIn work table))) (place out₀ at))
 
 abbrev μ-loop : tie.MeasureT-loop
 μ-loop out₀ at keep work table seen nb top₀ start₀ front₀ b₀ out top start front b = nb - b
@@ -51,9 +51,9 @@ loop-again c =
     let p = c .before .before in
     let e = p .before .before .before in
     let l = e .before .before .before in
-    let a = l .before .before .before .before .args in
+    let a = l .before .before .before .before .before .args in
     let R = blockRecordsIn (now (a .work)) (now (a .table)) in
-    let m = a .seen in
+    let m = marksIn (now (a .seen)) in
     let b = l .loop .b in
     let s = place (l .loop .out) (l .loop .top) in
     let n = length-table (now (a .work)) (now (a .table)) in
@@ -75,11 +75,11 @@ returns : tie.Need-returns Inv-loop μ-loop
 unfolding puts headsFrom
 returns c =
     let l = c .before in
-    let a = l .before .before .before .before .args in
+    let a = l .before .before .before .before .before .args in
     let R = blockRecordsIn (now (a .work)) (now (a .table)) in
     let s = place (l .loop .out) (l .loop .top) in
     let n = length-table (now (a .work)) (now (a .table)) in
-    sym (ap (λ r. puts (headsFrom (l .loop .start) (l .loop .front) r) s) (empty-none (a .seen) R (l .loop .b) (omega arith))) ∙ l .loop .inv .3
+    sym (ap (λ r. puts (headsFrom (l .loop .start) (l .loop .front) r) s) (empty-none (marksIn (now (a .seen))) R (l .loop .b) (omega arith))) ∙ l .loop .inv .3
 
 pub put-heads-spec : {M : Type 1} → statement M
 put-heads-spec =

@@ -8,7 +8,7 @@ use lib.ListN.{length, drop}
 use Rattle.format.specs.declared.Record.{Record}
 use Rattle.blocks.specs.Blocks.{blockRecordsIn}
 use Rattle.blocks.proofs.Parts.{length-table}
-use Rattle.emit.specs.Emitted.{place, puts, lostAt, rescuesIn}
+use Rattle.emit.specs.Emitted.{marksIn, place, puts, lostAt, rescuesIn}
 use Rattle.emit.proofs.Passes.{puts-append, rescues-one, rescues-end}
 use Rattle.emit.proofs.put_keep.Statement.{statement}
 use Rattle.emit.proofs.put_keep.Tie as tie
@@ -18,8 +18,8 @@ Inv-loop out₀ at work table seen facts nb top₀ b₀ out top b =
     (b ≤ nb)
     × (nb ≡ length table / 32)
     × (length out ≡ length out₀)
-    × (puts (rescuesIn facts (drop b seen) (drop b (blockRecordsIn work table))) (place out top)
-    ≡ puts (rescuesIn facts seen (blockRecordsIn work table)) (place out₀ at))
+    × (puts (rescuesIn facts (drop b (marksIn seen)) (drop b (blockRecordsIn work table))) (place out top)
+    ≡ puts (rescuesIn facts (marksIn seen) (blockRecordsIn work table)) (place out₀ at))
 
 abbrev μ-loop : tie.MeasureT-loop
 μ-loop out₀ at work table seen facts nb top₀ b₀ out top b = nb - b
@@ -40,10 +40,10 @@ loop-again : tie.Need-loop-again Inv-loop μ-loop
 loop-again c =
     let p = c .before .before .put-lost in
     let l = c .before .before .before .before .before in
-    let a = l .before .before .before .before .before .args in
+    let a = l .before .before .before .before .before .before .args in
     let R = blockRecordsIn (now (a .work)) (now (a .table)) in
     let f = now (a .facts) in
-    let m = a .seen in
+    let m = marksIn (now (a .seen)) in
     let b = l .loop .b in
     let s = place (l .loop .out) (l .loop .top) in
     let n = length-table (now (a .work)) (now (a .table)) in
@@ -63,11 +63,11 @@ returns : tie.Need-returns Inv-loop μ-loop
 unfolding puts
 returns c =
     let l = c .before in
-    let a = l .before .before .before .before .before .args in
+    let a = l .before .before .before .before .before .before .args in
     let R = blockRecordsIn (now (a .work)) (now (a .table)) in
     let s = place (l .loop .out) (l .loop .top) in
     let n = length-table (now (a .work)) (now (a .table)) in
-    sym (ap (λ (r : List Record). puts r s) (rescues-end (a .seen) R (l .loop .b) (now (a .facts)) (omega arith))) ∙ l .loop .inv .3
+    sym (ap (λ (r : List Record). puts r s) (rescues-end (marksIn (now (a .seen))) R (l .loop .b) (now (a .facts)) (omega arith))) ∙ l .loop .inv .3
 
 pub put-keep-spec : {M : Type 1} → statement M
 put-keep-spec = tie.close (tie.spec Inv-loop μ-loop loop-holds put-lost-requires add-b loop-less loop-again same-length returns)

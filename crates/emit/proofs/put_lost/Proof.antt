@@ -18,7 +18,7 @@ keeps-requires c κs = search needs
 returns : tie.Need-returns
 unfolding puts
 returns c =
-    let a = c .before .before .before .before .before .before .args in
+    let a = c .before .before .before .before .before .before .before .args in
     let R = blockRecordsIn (now (a .work)) (now (a .table)) in
     let s = place (now (a .out)) (a .at) in
     let t = sym (c .before .keeps .ensures) ∙ c .if1 .taken in
@@ -37,7 +37,7 @@ returns-2 : tie.Need-returns-2
 returns-2 c =
     let p = c .before .before in
     let i = p .before .before .before in
-    let a = i .before .before .before .before .before .before .args in
+    let a = i .before .before .before .before .before .before .before .args in
     let R = blockRecordsIn (now (a .work)) (now (a .table)) in
     let s = place (now (a .out)) (a .at) in
     let f = now (a .facts) in

@@ -5,13 +5,13 @@ use mathlib.Core.Path.{_≡_, sym, ap, _∙_}
 use mathlib.Core.List.{List, [], _∷_, map}
 use denote.Ref.{now}
 use borrow.Author.Needs.{needs}
-use lib.ListN.{length, getD}
+use lib.ListN.{getD, length-take}
 use Rattle.format.specs.declared.Record.{Record}
 use Rattle.format.specs.Record.{recordsOf}
 use Rattle.codec.specs.Codec.{codeOf, blockOf}
 use Rattle.blocks.specs.Blocks.{blockRecordsIn, blocksOf}
 use Rattle.blocks.proofs.Parts.{block-records}
-use Rattle.emit.specs.Emitted.{branchRecord, place, puts}
+use Rattle.emit.specs.Emitted.{marksIn, branchRecord, place, puts}
 use Rattle.emit.proofs.Laws.{chosen, other}
 use Rattle.emit.proofs.Passes.{has-mark}
 use Rattle.emit.proofs.put_new.Statement.{statement}
@@ -34,7 +34,7 @@ returns c =
     let p = c .before .before in
     let i = p .before .before in
     let k = i .before in
-    let a = k .before .before .before .before .before .args in
+    let a = k .before .before .before .before .before .before .args in
     let R = blockRecordsIn (now (a .work)) (now (a .table)) in
     let e = ap recordsOf (k .before .block .ensures) ∙ block-records (now (a .work)) (now (a .table)) (a .b) in
     let t = sym (k .keeps .ensures) ∙ i .if1 .taken in
@@ -46,20 +46,18 @@ add-t13 : tie.Need-add-t13
 add-t13 c =
     let i = c .before in
     let k = i .before in
-    let start = k .before .before .before .before .before in
-    let a = start .args in
-    let n : length (a .seen) ≡ 160 = search (needs, start .good .1 .1 .1 .1 .0 .1) in
-    let h = has-mark (a .seen) (blocksOf (now (a .work)) (now (a .table))) (a .b) (sym (k .keeps .ensures) ∙ i .if1 .left) in
+    let a = k .before .before .before .before .before .before .args in
+    let n = length-take 160 (now (a .seen)) in
+    let h = has-mark (marksIn (now (a .seen))) (blocksOf (now (a .work)) (now (a .table))) (a .b) (sym (k .keeps .ensures) ∙ i .if1 .left) in
     omega (arith, h, n)
 
 cast-t14 : tie.Need-cast-t14
 cast-t14 c =
     let i = c .before in
     let k = i .before in
-    let start = k .before .before .before .before .before in
-    let a = start .args in
-    let n : length (a .seen) ≡ 160 = search (needs, start .good .1 .1 .1 .1 .0 .1) in
-    let h = has-mark (a .seen) (blocksOf (now (a .work)) (now (a .table))) (a .b) (sym (k .keeps .ensures) ∙ i .if1 .left) in
+    let a = k .before .before .before .before .before .before .args in
+    let n = length-take 160 (now (a .seen)) in
+    let h = has-mark (marksIn (now (a .seen))) (blocksOf (now (a .work)) (now (a .table))) (a .b) (sym (k .keeps .ensures) ∙ i .if1 .left) in
     omega (arith, h, n)
 
 put-emptied-requires : tie.Need-put-emptied-requires
@@ -74,7 +72,7 @@ returns-2 c =
     let p = c .before .before in
     let i = p .before .before in
     let k = i .before in
-    let a = k .before .before .before .before .before .args in
+    let a = k .before .before .before .before .before .before .args in
     let R = blockRecordsIn (now (a .work)) (now (a .table)) in
     let s = place (now (a .out)) (a .at) in
     let e = ap recordsOf (k .before .block .ensures) ∙ block-records (now (a .work)) (now (a .table)) (a .b) in

@@ -23,7 +23,7 @@ block-requires c κs = search needs
 returns : tie.Need-returns
 returns c =
     let i = c .before in
-    let a = i .before .before .before .before .args in
+    let a = i .before .before .before .before .before .args in
     let w = now (a .work) in
     let t = now (a .table) in
     let r = getD (blockRecordsIn w t) (a .b) [] in
@@ -34,7 +34,7 @@ returns c =
 
 returns-2 : tie.Need-returns-2
 returns-2 c =
-    let a = c .before .before .before .before .args in
+    let a = c .before .before .before .before .before .args in
     let r = getD (blockRecordsIn (now (a .work)) (now (a .table))) (a .b) [] in
     let e = sym (c .before .keeps .ensures) ∙ c .if1 .left in
     ap (λ (l : List Record). length l) (other r (branchRecord (blockOf (suc (a .b))) (map codeOf r) ∷ []) e)

@@ -2,7 +2,10 @@ use Prim.Native.Nat.{ℕ, _*_}
 use mathlib.Core.Path.{ap, _∙_}
 use mathlib.Core.Bool.{true}
 use lib.ListN.{length}
+use lib.Seq.{take-all}
+use native.Mathlib.Omega.{arith}
 use denote.Ref.{now}
+use Rattle.emit.specs.Emitted.{marksIn}
 use borrow.Author.Needs.{needs}
 use Rattle.output.specs.Filed.{counts, wrote}
 use Rattle.output.proofs.Laws.{room, under, emit-refused, emit-written}
@@ -12,8 +15,14 @@ use Rattle.output.proofs.emit.Tie as tie
 reached-requires : tie.Need-reached-requires
 reached-requires c κs = search needs
 
+slice-aggregate-keep-count : tie.Need-slice-aggregate-keep-count
+slice-aggregate-keep-count c = search needs
+
 keep-count-requires : tie.Need-keep-count-requires
 keep-count-requires c κs = search needs
+
+slice-aggregate-code-count : tie.Need-slice-aggregate-code-count
+slice-aggregate-code-count c = search needs
 
 code-count-requires : tie.Need-code-count-requires
 code-count-requires c κs = search needs
@@ -29,8 +38,8 @@ returns c =
     let i = c .before in
     let n = i .before in
     let d = n .before in
-    let k = d .before in
-    let r = k .before in
+    let k = d .before .before in
+    let r = k .before .before in
     let a = r .before .before .before .before .before .before .before .before .before .before .args in
     emit-refused
     (now (a .work))
@@ -43,8 +52,8 @@ returns c =
     (now (a .operands))
     (a .grown)
     (now (a .out))
-    (r .reached .result)
-    (r .reached .ensures)
+    (marksIn (r .reached .result))
+    (take-all 160 (r .reached .result) (omega (arith, slice-aggregate-keep-count (k .before))) ∙ r .reached .ensures)
     (k .keep-count .ensures)
     (d .code-count .ensures)
     (n .count-all .ensures)
@@ -54,6 +63,9 @@ returns c =
 short-requires : tie.Need-short-requires
 short-requires c κs = search needs
 
+slice-aggregate-write-all : tie.Need-slice-aggregate-write-all
+slice-aggregate-write-all c = search needs
+
 write-all-requires : tie.Need-write-all-requires
 write-all-requires c κs = search needs
 
@@ -62,8 +74,8 @@ short-requires-2 c κs = search needs
 
 answered-requires : tie.Need-answered-requires
 answered-requires c κs =
-    let i = c .before .before .before .before .before .before in
-    let o = i .before .before .before .before .before .before .before .before .before .before .before .before .before .before in
+    let i = c .before .before .before .before .before .before .before in
+    let o = i .before .before .before .before .before .before .before .before .before .before .before .before .before .before .before .before in
     room (length (now (o .args .out))) _ (i .if1 .left) (o .good .0 .0)
 
 same-length : tie.Need-same-length
@@ -72,12 +84,12 @@ same-length c = search needs
 returns-2 : tie.Need-returns-2
 returns-2 c =
     let w = c .before .before .before .before in
-    let s = w .before .before in
+    let s = w .before .before .before in
     let i = s .before in
     let n = i .before in
     let d = n .before in
-    let k = d .before in
-    let r = k .before in
+    let k = d .before .before in
+    let r = k .before .before in
     let o = r .before .before .before .before .before .before .before .before .before .before in
     let a = o .args in
     emit-written
@@ -91,8 +103,8 @@ returns-2 c =
     (now (a .operands))
     (a .grown)
     (now (a .out))
-    (r .reached .result)
-    (r .reached .ensures)
+    (marksIn (r .reached .result))
+    (take-all 160 (r .reached .result) (omega (arith, slice-aggregate-keep-count (k .before))) ∙ r .reached .ensures)
     (k .keep-count .ensures)
     (d .code-count .ensures)
     (n .count-all .ensures)
@@ -107,12 +119,15 @@ emit-spec =
     tie.close
     (tie.spec
     reached-requires
+    slice-aggregate-keep-count
     keep-count-requires
+    slice-aggregate-code-count
     code-count-requires
     count-all-requires
     refused-requires
     returns
     short-requires
+    slice-aggregate-write-all
     write-all-requires
     short-requires-2
     answered-requires
