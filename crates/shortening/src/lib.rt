@@ -30,7 +30,7 @@ fn put_front(b: &mut [u8], s: &[u8])
 }
 
 // The body, if there is one.
-fn pause_of(body: &[u8]) -> Pause
+pub fn pause_of(body: &[u8]) -> Pause
     ensures { λ z. ⌜ bodyIn z ≡ firstOf (map (λ r. r .p1) (recordsOf (now (body .entry)))) ⌝ }
 {
     if body.len() / 32 == 0 {
