@@ -1,3 +1,4 @@
 pub mod Laws
 pub mod Learnt
+pub mod ByKind
 pub mod Gathered

@@ -8,7 +8,7 @@ use lib.ListN.{length}
 use Rattle.inst.specs.declared.BoolOp.{BoolOp}
 use Rattle.inst.specs.declared.BoolOp.the-variants as b
 use Rattle.steps.specs.Facts.{Facts}
-use Rattle.steps.specs.Note.{Known, sourceOf, valueOf, noteMove, boolOf}
+use Rattle.steps.specs.Note.{Known, withValueIf, sourceOf, valueOf, noteMove, boolOf}
 use Rattle.facts.specs.Storage.{factsIn}
 use Rattle.entries.specs.declared.Held.{Held}
 use Rattle.entries.specs.Storage.{heldIn}
@@ -36,6 +36,10 @@ newEntry d (some v) = (d, v) ∷ []
 -- Move, of a source as it is written
 abbrev pub moved : Facts → ℕ → ℕ → Known → Known
 moved f d s k = cond (eqb d s) k (noteMove f d (sourceOf k s) k)
+
+-- Bool
+abbrev pub booled : Facts → BoolOp → ℕ → ℕ → ℕ → Known → Known
+booled f op d x y k = withValueIf d (boolOf op (valueOf f k x) (valueOf f k y)) k
 
 -- room for one entry more of each, and one entry more of each at most
 pub record Roomy (h : Held) (known copy : List ℕ) : Type 0 where

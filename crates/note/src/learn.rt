@@ -4,7 +4,7 @@ ghost use mathlib.Core.List.{[], _∷_, _++_};
 ghost use mathlib.Core.Option.{none};
 ghost use Prim.Native.Nat.{_+_, _/_, _≤_, _<_};
 ghost use lib.ListN.{length};
-ghost use Rattle.steps.specs.Note.{learn as learnOf, alike};
+ghost use Rattle.steps.specs.Note.{alike};
 ghost use Rattle.facts.specs.Storage.{factsIn, wordIn};
 ghost use Rattle.entries.specs.Storage.{entries as entriesIn, heldIn};
 ghost use Rattle.note.specs.Noted.{Roomy, OneMore, moved, newEntry, boolIn};
@@ -12,7 +12,6 @@ use crate::bools;
 use entries::Held;
 use facts::Word;
 use inst::BoolOp;
-use inst::Inst;
 use inst::Reg;
 
 // Both of one kind, I64 or Ptr.
@@ -31,7 +30,7 @@ fn copies(facts: &[u64], d: Reg, s: Reg) -> bool
 }
 
 // One value more where there is one.
-fn learn_value(known: &mut [u64], n: usize, d: Reg, v: Word) -> usize
+pub fn learn_value(known: &mut [u64], n: usize, d: Reg, v: Word) -> usize
     requires { ⌜ n < length (now known) / 2 ⌝ }
     ensures { λ z. ⌜ (entriesIn z (now (known .exit)) ≡ entriesIn n (now (known .entry)) ++ newEntry (d .0) (wordIn v)) × (z ≤ n + 1) ⌝ }
 {
@@ -54,7 +53,14 @@ fn learn_copy(copy: &mut [u32], n: usize, facts: &[u64], d: Reg, s: Reg) -> usiz
 }
 
 // Move d s: nothing of a register moved to itself.
-fn learn_move(known: &mut [u64], copy: &mut [u32], h: Held, facts: &[u64], d: Reg, s: Reg) -> Held
+pub fn learn_move(
+    known: &mut [u64],
+    copy: &mut [u32],
+    h: Held,
+    facts: &[u64],
+    d: Reg,
+    s: Reg,
+) -> Held
     requires { ⌜ Roomy h (now known) (now copy) ⌝ }
     ensures { λ z. ⌜ (heldIn z (now (known .exit)) (now (copy .exit))
         ≡ moved (factsIn (now (facts .entry)) none 0) (d .0) (s .0) (heldIn h (now (known .entry)) (now (copy .entry)))) × OneMore z h ⌝ }
@@ -70,7 +76,7 @@ fn learn_move(known: &mut [u64], copy: &mut [u32], h: Held, facts: &[u64], d: Re
 }
 
 // The value of Bool, where its operands tell it.
-fn learn_bool(
+pub fn learn_bool(
     known: &mut [u64],
     h: Held,
     facts: &[u64],
@@ -87,30 +93,4 @@ fn learn_bool(
     let x = entries::value_of(known, h, facts, a);
     let y = entries::value_of(known, h, facts, b);
     learn_value(known, h.known, d, bools::bool_of(op, x, y))
-}
-
-// What an instruction adds, once what it writes is forgotten: Const, Move, Bool.
-pub fn learn(known: &mut [u64], copy: &mut [u32], h: Held, facts: &[u64], i: Inst) -> Held
-    requires { ⌜ Roomy h (now known) (now copy) ⌝ }
-    ensures { λ z. ⌜ (heldIn z (now (known .exit)) (now (copy .exit))
-        ≡ learnOf (factsIn (now (facts .entry)) none 0) (heldIn h (now (known .entry)) (now (copy .entry))) i) × OneMore z h ⌝ }
-{
-    match i {
-        Inst::Const { dst, v } => {
-            let n = learn_value(known, h.known, dst, Word::Some(v));
-            Held {
-                known: n,
-                copy: h.copy,
-            }
-        }
-        Inst::Move { dst, src } => learn_move(known, copy, h, facts, dst, src),
-        Inst::Bool { op, dst, a, b } => {
-            let n = learn_bool(known, h, facts, op, dst, a, b);
-            Held {
-                known: n,
-                copy: h.copy,
-            }
-        }
-        _ => h,
-    }
 }

@@ -3,14 +3,19 @@ ghost use mathlib.Core.Bool.{cond};
 ghost use mathlib.Core.Option.{none, some};
 ghost use Prim.Native.Nat.{_/_, _≤_};
 ghost use lib.ListN.{length};
-ghost use Rattle.steps.specs.Note.{forgetAll, note as noteOf, notes as notesOf, nothing};
-ghost use Rattle.roles.specs.Roles.{defsOf};
+ghost use Rattle.format.specs.Record.{recordAt};
+ghost use Rattle.codec.specs.Codec.{instOf};
+ghost use Rattle.roles.specs.Roles.{optional};
+ghost use Rattle.steps.specs.Note.{forget, forgetAll, withValue, note as noteOf, notes as notesOf, nothing};
 ghost use Rattle.procedure.specs.Procedure.{codesOf};
 ghost use Rattle.facts.specs.Storage.{factsIn};
 ghost use Rattle.entries.specs.Storage.{heldIn, NoMore};
-ghost use Rattle.note.specs.Noted.{Roomy, OneMore, enough, notedIn};
+ghost use Rattle.note.specs.Noted.{Roomy, OneMore, moved, booled, enough, notedIn};
 use entries::Held;
-use inst::Inst;
+use facts::Word;
+use inst::BoolOp;
+use inst::OptReg;
+use inst::Reg;
 
 mod bools;
 mod learn;
@@ -21,37 +26,101 @@ pub enum Noted {
     Full,
 }
 
-// What is known after what an instruction writes is forgotten: of more than two registers, nothing.
-fn forget_all(known: &mut [u64], copy: &mut [u32], h: Held, i: Inst) -> Held
-    ensures { λ z. ⌜ (heldIn z (now (known .exit)) (now (copy .exit))
-        ≡ forgetAll (defsOf i) (heldIn h (now (known .entry)) (now (copy .entry)))) × NoMore z h ⌝ }
-{
-    let q = roles::roles_of(i);
-    let defs = q.defs;
-    let reg = q.reg;
-    if defs == 0 {
-        return h;
-    }
-    if 2 < defs {
-        return Held { known: 0, copy: 0 };
-    }
-    let r = reg[0];
-    let one = entries::forget(known, copy, h, r);
-    if defs == 1 {
-        return one;
-    }
-    let s = reg[1];
-    entries::forget(known, copy, one, s)
-}
-
-// What is known after an instruction: what it writes is forgotten, then Const, Move and Bool are learnt.
-fn note(known: &mut [u64], copy: &mut [u32], h: Held, facts: &[u64], i: Inst) -> Held
+// Const d v: what is known of d is forgotten, then the value is learnt.
+fn note_const(known: &mut [u64], copy: &mut [u32], h: Held, d: Reg, v: u64) -> Held
     requires { ⌜ Roomy h (now known) (now copy) ⌝ }
     ensures { λ z. ⌜ (heldIn z (now (known .exit)) (now (copy .exit))
-        ≡ noteOf (factsIn (now (facts .entry)) none 0) (heldIn h (now (known .entry)) (now (copy .entry))) i) × OneMore z h ⌝ }
+        ≡ withValue (d .0) v (forget (d .0) (heldIn h (now (known .entry)) (now (copy .entry))))) × OneMore z h ⌝ }
 {
-    let left = forget_all(known, copy, h, i);
-    learn::learn(known, copy, left, facts, i)
+    let left = entries::forget(known, copy, h, d);
+    let n = learn::learn_value(known, left.known, d, Word::Some(v));
+    Held {
+        known: n,
+        copy: left.copy,
+    }
+}
+
+// Move d s, in the same way.
+fn note_move(known: &mut [u64], copy: &mut [u32], h: Held, facts: &[u64], d: Reg, s: Reg) -> Held
+    requires { ⌜ Roomy h (now known) (now copy) ⌝ }
+    ensures { λ z. ⌜ (heldIn z (now (known .exit)) (now (copy .exit))
+        ≡ moved (factsIn (now (facts .entry)) none 0) (d .0) (s .0) (forget (d .0) (heldIn h (now (known .entry)) (now (copy .entry)))))
+        × OneMore z h ⌝ }
+{
+    let left = entries::forget(known, copy, h, d);
+    learn::learn_move(known, copy, left, facts, d, s)
+}
+
+// Bool d a b, in the same way.
+fn note_bool(
+    known: &mut [u64],
+    copy: &mut [u32],
+    h: Held,
+    facts: &[u64],
+    op: BoolOp,
+    d: Reg,
+    a: Reg,
+    b: Reg,
+) -> Held
+    requires { ⌜ Roomy h (now known) (now copy) ⌝ }
+    ensures { λ z. ⌜ (heldIn z (now (known .exit)) (now (copy .exit))
+        ≡ booled (factsIn (now (facts .entry)) none 0) op (d .0) (a .0) (b .0) (forget (d .0) (heldIn h (now (known .entry)) (now (copy .entry)))))
+        × OneMore z h ⌝ }
+{
+    let left = entries::forget(known, copy, h, d);
+    let n = learn::learn_bool(known, left, facts, op, d, a, b);
+    Held {
+        known: n,
+        copy: left.copy,
+    }
+}
+
+// CallNative: its result is forgotten, if it has one.
+fn note_call(known: &mut [u64], copy: &mut [u32], h: Held, d: OptReg) -> Held
+    ensures { λ z. ⌜ (heldIn z (now (known .exit)) (now (copy .exit))
+        ≡ forgetAll (optional d) (heldIn h (now (known .entry)) (now (copy .entry)))) × NoMore z h ⌝ }
+{
+    match d {
+        OptReg::Some(r) => entries::forget(known, copy, h, r),
+        OptReg::None => h,
+    }
+}
+
+// What is known after the instruction of record k, by its kind: most write p1 alone; TakeBounds writes three registers.
+fn note_record(
+    known: &mut [u64],
+    copy: &mut [u32],
+    h: Held,
+    facts: &[u64],
+    code: &[u8],
+    k: usize,
+) -> Held
+    requires { ⌜ Roomy h (now known) (now copy) ⌝ }
+    ensures { λ z. ⌜ (heldIn z (now (known .exit)) (now (copy .exit))
+        ≡ noteOf (factsIn (now (facts .entry)) none 0) (heldIn h (now (known .entry)) (now (copy .entry))) (instOf (recordAt (now (code .entry)) k)))
+        × OneMore z h ⌝ }
+{
+    let r = format::record_at(code, k);
+    let kind = r.kind;
+    let d = Reg(r.p1);
+    match kind {
+        0 => note_const(known, copy, h, d, codec::word_of(r.p2, r.p3)),
+        2 => note_move(known, copy, h, facts, d, Reg(r.p2)),
+        6 => note_bool(
+            known,
+            copy,
+            h,
+            facts,
+            ops::bool_of(r.op),
+            d,
+            Reg(r.p2),
+            Reg(r.p3),
+        ),
+        1 | 3 | 4 | 5 | 7 | 8 | 9 | 13 | 14 | 15 => entries::forget(known, copy, h, d),
+        16 => Held { known: 0, copy: 0 },
+        17 => note_call(known, copy, h, ops::opt_of(r.op, r.p4)),
+        _ => h,
+    }
 }
 
 // What is known after the instructions of some records, from nothing.
@@ -63,8 +132,7 @@ fn gather(code: &[u8], known: &mut [u64], copy: &mut [u32], facts: &[u64]) -> He
     let mut h = Held { known: 0, copy: 0 };
     let mut k = 0;
     while k < code.len() / 32 {
-        let i = codec::inst_of(format::record_at(code, k));
-        h = note(known, copy, h, facts, i);
+        h = note_record(known, copy, h, facts, code, k);
         k += 1;
     }
     h

@@ -7,9 +7,8 @@ use lib.ListN.{length, drop}
 use Rattle.format.specs.Record.{blank}
 use Rattle.codec.specs.Codec.{codeOf}
 use Rattle.procedure.specs.Procedure.{codesOf}
-use Rattle.ends.proofs.Laws.{length-codes}
+use Rattle.ends.proofs.Laws.{length-codes, inst-there}
 use Rattle.steps.specs.Note.{note, notes, nothing}
-use Rattle.facts.proofs.Codes.{inst-at}
 use Rattle.facts.specs.Storage.{factsIn}
 use Rattle.entries.specs.Storage.{heldIn}
 use Rattle.entries.proofs.Laws.{held-eq, entries-zero}
@@ -33,37 +32,28 @@ loop-holds c =
     let none-yet = held-eq (entries-zero (now (a .known))) (entries-zero (now (a .copy))) in
     (ap (λ k. notes (factsIn (now (a .facts)) none 0) k (codesOf (now (a .code)))) none-yet, (omega arith, (omega arith, (refl, refl))))
 
-record-at-requires : tie.Need-record-at-requires Inv-loop μ-loop
-record-at-requires c κs = search needs
-
-inst-of-requires : tie.Need-inst-of-requires Inv-loop μ-loop
-inst-of-requires c κs = search needs
-
-note-requires : tie.Need-note-requires Inv-loop μ-loop
-note-requires c κs = search needs
+note-record-requires : tie.Need-note-record-requires Inv-loop μ-loop
+note-record-requires c κs = search needs
 
 add-k : tie.Need-add-k Inv-loop μ-loop
 add-k c =
-    let c5 = c .before .before .before .before .before in
-    let c10 = c5 .before .before .before .before .before in
-    let c15 = c10 .before .before .before .before .before in
-    omega (arith, c5 .before .before .before .before .loop-test .taken, c15 .good .0 .0)
+    let t = c .before .before .before .before .before .before .before in
+    omega (arith, t .loop-test .taken, t .before .before .before .before .before .before .good .0 .0)
 
 loop-less : tie.Need-loop-less Inv-loop μ-loop
-loop-less c = omega (arith, c .before .before .before .before .before .before .before .before .before .loop-test .taken)
+loop-less c = omega (arith, c .before .before .before .before .before .before .before .loop-test .taken)
 
 loop-again : tie.Need-loop-again Inv-loop μ-loop
 loop-again c =
-    let c5 = c .before .before .before .before .before in
-    let c10 = c5 .before .before .before .before .before in
-    let l = c10 in
+    let t = c .before .before .before .before .before .before .before in
+    let l = t .before in
     let a = l .before .before .before .before .before .args in
     let b = now (a .code) in
     let f = factsIn (now (a .facts)) none 0 in
-    let s = c .before .before .before .before .note .ensures in
+    let s = c .before .before .before .before .note-record .ensures in
     let held = heldIn (l .loop .h) (l .loop .known) (l .loop .copy) in
-    let at = inst-at b (l .loop .k) (c5 .before .before .before .record-at .ensures) (c5 .before .before .inst-of .ensures) in
-    let more : l .loop .k < length (codesOf b) = rw (length-codes b) (c5 .before .before .before .before .loop-test .taken) in (
+    let at = inst-there b (l .loop .k) refl in
+    let more : l .loop .k < length (codesOf b) = rw (length-codes b) (t .loop-test .taken) in (
       notes-again f (codesOf b) (l .loop .k) held (codeOf blank) more (s .0 ∙ ap (note f held) at) (l .loop .inv .0),
       (omega (arith, s .1 .known-le), (omega (arith, s .1 .copy-le), (search needs, search needs))),
     )
@@ -89,9 +79,7 @@ gather-spec =
     Inv-loop
     μ-loop
     loop-holds
-    record-at-requires
-    inst-of-requires
-    note-requires
+    note-record-requires
     add-k
     loop-less
     loop-again
