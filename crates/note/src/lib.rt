@@ -87,7 +87,7 @@ fn note_call(known: &mut [u64], copy: &mut [u32], h: Held, d: OptReg) -> Held
 }
 
 // What is known after the instruction of record k, by its kind: most write p1 alone; TakeBounds writes three registers.
-fn note_record(
+fn note(
     known: &mut [u64],
     copy: &mut [u32],
     h: Held,
@@ -132,7 +132,7 @@ fn gather(code: &[u8], known: &mut [u64], copy: &mut [u32], facts: &[u64]) -> He
     let mut h = Held { known: 0, copy: 0 };
     let mut k = 0;
     while k < code.len() / 32 {
-        h = note_record(known, copy, h, facts, code, k);
+        h = note(known, copy, h, facts, code, k);
         k += 1;
     }
     h

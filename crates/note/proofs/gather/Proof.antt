@@ -32,8 +32,8 @@ loop-holds c =
     let none-yet = held-eq (entries-zero (now (a .known))) (entries-zero (now (a .copy))) in
     (ap (λ k. notes (factsIn (now (a .facts)) none 0) k (codesOf (now (a .code)))) none-yet, (omega arith, (omega arith, (refl, refl))))
 
-note-record-requires : tie.Need-note-record-requires Inv-loop μ-loop
-note-record-requires c κs = search needs
+note-requires : tie.Need-note-requires Inv-loop μ-loop
+note-requires c κs = search needs
 
 add-k : tie.Need-add-k Inv-loop μ-loop
 add-k c =
@@ -50,7 +50,7 @@ loop-again c =
     let a = l .before .before .before .before .before .args in
     let b = now (a .code) in
     let f = factsIn (now (a .facts)) none 0 in
-    let s = c .before .before .before .before .note-record .ensures in
+    let s = c .before .before .before .before .note .ensures in
     let held = heldIn (l .loop .h) (l .loop .known) (l .loop .copy) in
     let at = inst-there b (l .loop .k) refl in
     let more : l .loop .k < length (codesOf b) = rw (length-codes b) (t .loop-test .taken) in (
@@ -79,7 +79,7 @@ gather-spec =
     Inv-loop
     μ-loop
     loop-holds
-    note-record-requires
+    note-requires
     add-k
     loop-less
     loop-again

@@ -15,8 +15,8 @@ use Rattle.entries.proofs.Laws.{held-eq, entries-zero}
 use Rattle.note.specs.Noted.{booled}
 use Rattle.note.proofs.ByKind.{noted-as, none-special, none-written, none-written-late, one-written, one-written-late}
 use borrow.Author.Needs.{needs}
-use Rattle.note.proofs.note_record.Statement.{statement}
-use Rattle.note.proofs.note_record.Tie as tie
+use Rattle.note.proofs.note.Statement.{statement}
+use Rattle.note.proofs.note.Tie as tie
 
 record-at-requires : tie.Need-record-at-requires
 record-at-requires c κs = search needs
@@ -182,8 +182,8 @@ returns-8 c =
     (m .match .came) in
     (n .0 ∙ one, record { known-le = omega (arith, n .1 .known-le); copy-le = omega (arith, n .1 .copy-le) })
 
-pub note-record-spec : {M : Type 1} → statement M
-note-record-spec =
+pub note-spec : {M : Type 1} → statement M
+note-spec =
     tie.close
     (tie.spec
     record-at-requires
