@@ -59,19 +59,22 @@ fn dl_error() -> String {
     unsafe { CStr::from_ptr(dlerror()) }.to_string_lossy().into_owned()
 }
 
+/// A function of the shared object at this path, which stays loaded.
+pub fn symbol(path: &str, name: &CStr) -> Result<*mut c_void, String> {
+    let path = CString::new(path).map_err(|e| e.to_string())?;
+    let library = unsafe { dlopen(path.as_ptr(), RTLD_NOW) };
+    if library.is_null() {
+        return Err(dl_error());
+    }
+    let function = unsafe { dlsym(library, name.as_ptr()) };
+    if function.is_null() { Err(dl_error()) } else { Ok(function) }
+}
+
 impl Library {
-    /// The function of the shared object at this path, which stays loaded.
+    /// The functions of the shared object at this path.
     pub fn load(path: &str) -> Result<Library, String> {
-        let path = CString::new(path).map_err(|e| e.to_string())?;
-        let library = unsafe { dlopen(path.as_ptr(), RTLD_NOW) };
-        if library.is_null() {
-            return Err(dl_error());
-        }
-        let function = unsafe { dlsym(library, c"halivomue_shorten".as_ptr()) };
-        if function.is_null() {
-            return Err(dl_error());
-        }
-        let reader = unsafe { dlsym(library, c"halivomue_read".as_ptr()) };
+        let function = symbol(path, c"halivomue_shorten")?;
+        let reader = symbol(path, c"halivomue_read").unwrap_or(std::ptr::null_mut());
         // They have the signatures that include/halivomue.h gives them.
         let shorten = unsafe { std::mem::transmute::<*mut c_void, Function>(function) };
         let read = unsafe { std::mem::transmute::<*mut c_void, Option<Reader>>(reader) };

@@ -1,7 +1,9 @@
 //! Times a library's `halivomue_shorten` beside the published Rust with a plain reader and writer.
 //! Usage: bench-shorten                             all sorts of files and sizes, as a table
 //!        bench-shorten library|rust <sort> <n> [times]  files of n instructions, the first or so many in turn, to be counted
-//! HALIVOMUE_LIBRARY names the shared object. To be built with `--profile speed`.
+//! HALIVOMUE_LIBRARY names the shared object, HALIVOMUE_STEPS that of the steps alone. To be built with `--profile speed`.
+
+mod steps;
 
 use checks::reader;
 use halivomue_reference::library::{Library, Shortening};
@@ -12,6 +14,7 @@ use halivomue_reference::sorts::{SIZES, SORTS, files};
 use std::ffi::c_int;
 use std::hint::black_box;
 use std::time::Duration;
+use steps::{Opened, Steps};
 
 /// The counts of classes 1 to 6, from the Rust reader that Read is timed beside.
 fn read(bytes: &[u8]) -> Result<[usize; 6], Refusal> {
@@ -71,27 +74,38 @@ fn processor_time() -> Duration {
 struct Row {
     library: f64,
     rust: f64,
-    /// The library without its reading, where it can be told; the steps take no longer.
+    /// The library's steps, where the shared object of the steps is there.
     library_steps: Option<f64>,
     run: f64,
 }
 
-fn row(library: Library, files: &[Vec<u8>]) -> Row {
+fn row(library: Library, steps: Option<Steps>, files: &[Vec<u8>]) -> Row {
     let out = std::cell::RefCell::new(vec![0; 65_536]);
     let ready: Vec<Ready> = files.iter().map(|f| Ready::new(f)).collect();
+    let opened: Vec<Opened> = files.iter().map(|f| Opened::new(f)).collect();
     let each = |f: &dyn Fn(&[u8], &mut [u8]) -> Shortening| {
         files.iter().for_each(|file| {
             black_box(f(black_box(file), &mut out.borrow_mut()));
         })
     };
-    let [library_time, rust, read, copy_and_run, copy] = best([
+    let with_steps = |o: &Opened| {
+        o.open();
+        steps.and_then(|s| o.steps(s, &mut out.borrow_mut()))
+    };
+    for (o, file) in opened.iter().zip(files) {
+        if let Some(length) = with_steps(o) {
+            assert_eq!(length, library.shorten(file, &mut out.borrow_mut()).length, "other steps than the library's");
+        }
+    }
+    let [library_time, rust, open_and_step, open, copy_and_run, copy] = best([
         &|| each(&|bytes, out| library.shorten(bytes, out)),
         &|| each(&shorten_into),
         &|| {
-            files.iter().for_each(|file| {
-                black_box(library.read(black_box(file)));
+            opened.iter().for_each(|o| {
+                black_box(with_steps(black_box(o)));
             })
         },
+        &|| opened.iter().for_each(|o| black_box(o).open()),
         &|| ready.iter().for_each(|r| drop(black_box(black_box(r).copy_and_run()))),
         &|| ready.iter().for_each(|r| drop(black_box(black_box(r).copy()))),
     ]);
@@ -99,26 +113,26 @@ fn row(library: Library, files: &[Vec<u8>]) -> Row {
     Row {
         library: each(library_time),
         rust: each(rust),
-        library_steps: library.read(&[]).map(|_| each(library_time) - each(read)),
+        library_steps: steps.map(|_| each(open_and_step) - each(open)),
         run: each(copy_and_run) - each(copy),
     }
 }
 
 /// All sorts and sizes.
 fn table(library: Library) {
+    let steps = Steps::from_environment();
     println!("{:>16} {:>23} {:>6} {:>24} {:>6}", "", "(a) bytes to bytes, ns", "ratio", "(b) steps, ns", "ratio");
     println!(
         "{:>8} {:>7} {:>11} {:>11} {:>6} {:>12} {:>11} {:>6}",
-        "files", "instr.", "library", "Rust", "", "library at", "run", ""
+        "files", "instr.", "library", "Rust", "", "library", "run", ""
     );
-    println!("{:>57} {:>6}", "", "most");
     // The smallest ratios of (a) and (b), and the largest growth of (c).
     let mut worst = [f64::INFINITY, f64::INFINITY, 0.0];
     for sort in SORTS {
         let mut by_size = Vec::new();
         for n in SIZES {
-            let r = row(library, &files(sort, n));
-            let steps =
+            let r = row(library, steps, &files(sort, n));
+            let told =
                 r.library_steps.map_or(("-".into(), "-".into()), |s| (format!("{s:.0}"), format!("{:.2}", r.run / s)));
             println!(
                 "{:>8} {n:>7} {:>11.0} {:>11.0} {:>6.2} {:>12} {:>11.0} {:>6}",
@@ -126,9 +140,9 @@ fn table(library: Library) {
                 r.library,
                 r.rust,
                 r.rust / r.library,
-                steps.0,
+                told.0,
                 r.run,
-                steps.1
+                told.1
             );
             worst[0] = worst[0].min(r.rust / r.library);
             worst[1] = worst[1].min(r.library_steps.map_or(f64::INFINITY, |s| r.run / s));
@@ -138,9 +152,11 @@ fn table(library: Library) {
         println!("{:>8} (c) from 240 to 480: library {:.2}, Rust {:.2}", "", grows(&|r| r.library), grows(&|r| r.rust));
         worst[2] = worst[2].max(grows(&|r| r.library));
     }
-    println!("A ratio is above 1 where the library is the faster.");
+    println!(
+        "A ratio is above 1 where the library is the faster. Its steps are `run` and, where a block was edited, emit with the writing of its result."
+    );
     let [bytes, steps, grows] = worst;
-    let steps = if steps.is_finite() { format!("{steps:.2} or more") } else { "not told".into() };
+    let steps = if steps.is_finite() { format!("{steps:.2}") } else { "not told".into() };
     println!(
         "smallest ratio of (a) {bytes:.2}, asked 2.0; of (b) {steps}, asked 1.0; largest of (c) {grows:.2}, asked at most 2.2"
     );
