@@ -1,0 +1,68 @@
+use Prim.Native.Nat.{ℕ, _-_, _≤_}
+use mathlib.Core.Path.{_≡_, refl, ap, _∙_}
+use mathlib.Core.List.{List}
+use native.Mathlib.Omega.{arith}
+use borrow.Author.Needs.{needs}
+use denote.Ref.{now}
+use lib.ListN.{length, getD, set, length-set}
+use lib.Seq.{paste, paste-zero}
+use Rattle.shortening.proofs.Fronts.{front-step}
+use Rattle.shortening.proofs.copy.Statement.{statement}
+use Rattle.shortening.proofs.copy.Tie as tie
+
+abbrev Inv-loop : tie.InvT-loop
+Inv-loop b₀ s n i₀ b i = (i ≤ n) × (length b ≡ length b₀) × (b ≡ paste b₀ 0 s i)
+
+abbrev μ-loop : tie.MeasureT-loop
+μ-loop b₀ s n i₀ b i = n - i
+
+loop-holds : tie.Need-loop-holds Inv-loop μ-loop
+loop-holds c = let a = c .args in (omega arith, refl, paste-zero (now (a .b)) 0 (now (a .s)))
+
+shared-slice-read-b : tie.Need-shared-slice-read-b Inv-loop μ-loop
+shared-slice-read-b c = search needs
+
+slice-write-b : tie.Need-slice-write-b Inv-loop μ-loop
+slice-write-b c = search needs
+
+add-i : tie.Need-add-i Inv-loop μ-loop
+add-i c = search needs
+
+loop-less : tie.Need-loop-less Inv-loop μ-loop
+loop-less c = search needs
+
+loop-again : tie.Need-loop-again Inv-loop μ-loop
+loop-again c =
+    let l = c .before .before in
+    let a = l .before .args in
+    let i = l .loop .i in
+    let v = l .loop .inv in (
+      omega arith,
+      length-set (l .loop .b) i _ ∙ v .1,
+      ap (λ (x : List ℕ). set x i (getD (now (a .s)) i 0)) (v .2) ∙ front-step (now (a .b)) (now (a .s)) i (omega arith) (omega arith),
+    )
+
+same-length : tie.Need-same-length Inv-loop μ-loop
+same-length c = search needs
+
+returns : tie.Need-returns Inv-loop μ-loop
+returns c =
+    let l = c .before in
+    let a = l .before .args in
+    let m : l .loop .i ≡ a .n = omega arith in
+    l .loop .inv .2 ∙ ap (paste (now (a .b)) 0 (now (a .s))) m
+
+pub copy-spec : {M : Type 1} → statement M
+copy-spec =
+    tie.close
+    (tie.spec
+    Inv-loop
+    μ-loop
+    loop-holds
+    shared-slice-read-b
+    slice-write-b
+    add-i
+    loop-less
+    loop-again
+    same-length
+    returns)
