@@ -18,9 +18,11 @@ ERROR = re.compile(r"([^/\s]+/proofs/[^:\s]+|[^/\s]+/src/[^:\s]+|[^/\s]+/specs/[
 
 
 def fact(log):
-    found = ERROR.search(log)
-    if not found:
+    """The first error that isn't only another one's consequence."""
+    every = list(ERROR.finditer(log))
+    if not every:
         return None
+    found = next((x for x in every if "was not admitted" not in x.group(0)), every[0])
     if found.group(4):
         return found.group(4)
     place = found.group(1).split("/", 1)[1]
