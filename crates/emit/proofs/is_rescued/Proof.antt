@@ -10,38 +10,32 @@ use Rattle.emit.proofs.is_rescued.Tie as tie
 is-single-requires : tie.Need-is-single-requires
 is-single-requires c κs = search needs
 
-is-single-requires-2 : tie.Need-is-single-requires-2
-is-single-requires-2 c κs = search needs
-
-is-single-requires-3 : tie.Need-is-single-requires-3
-is-single-requires-3 c κs = search needs
-
 returns : tie.Need-returns
 returns c =
-    let m = c .before in
-    let a = m .before .before .args in
+    let s = c .before in
+    let a = s .before .before .args in
     let f = now (a .facts) in
-    c .is-single .ensures ∙ const-rescued f _ _ ∙ ap (rescuedBy f) (inst-at (a .r) 0 (m .match .keys1))
+    s .is-single .ensures ∙ const-rescued f _ _ ∙ ap (rescuedBy f) (inst-at (a .r) 0 (c .match .keys1))
 
 returns-2 : tie.Need-returns-2
 returns-2 c =
-    let m = c .before in
-    let a = m .before .before .args in
+    let s = c .before in
+    let a = s .before .before .args in
     let f = now (a .facts) in
-    c .is-single2 .ensures ∙ real-rescued f _ _ ∙ ap (rescuedBy f) (inst-at (a .r) 1 (m .match .keys2))
+    s .is-single .ensures ∙ real-rescued f _ _ ∙ ap (rescuedBy f) (inst-at (a .r) 1 (c .match .keys2))
 
 returns-3 : tie.Need-returns-3
 returns-3 c =
-    let m = c .before in
-    let a = m .before .before .args in
+    let s = c .before in
+    let a = s .before .before .args in
     let f = now (a .facts) in
-    c .is-single3 .ensures ∙ address-rescued f _ _ _ ∙ ap (rescuedBy f) (inst-at (a .r) 3 (m .match .keys3))
+    s .is-single .ensures ∙ address-rescued f _ _ _ ∙ ap (rescuedBy f) (inst-at (a .r) 3 (c .match .keys3))
 
 returns-4 : tie.Need-returns-4
 returns-4 c =
-    let a = c .before .before .args in
+    let a = c .before .before .before .args in
     let rest = c .match .rest in
     other-record (now (a .facts)) (a .r) (rest .0 .0 .1) (rest .0 .1) (rest .1)
 
 pub is-rescued-spec : {M : Type 1} → statement M
-is-rescued-spec = tie.close (tie.spec is-single-requires is-single-requires-2 is-single-requires-3 returns returns-2 returns-3 returns-4)
+is-rescued-spec = tie.close (tie.spec is-single-requires returns returns-2 returns-3 returns-4)
