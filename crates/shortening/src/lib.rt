@@ -2,9 +2,8 @@
 ghost use mathlib.Core.Path.{_≡_};
 ghost use mathlib.Core.Bool.{true, false};
 ghost use mathlib.Core.List.{List, map};
-ghost use Prim.Native.Nat.{ℕ, _≤_};
+ghost use Prim.Native.Nat.{ℕ};
 ghost use lib.ListN.{length};
-ghost use lib.Seq.{paste};
 ghost use Rattle.format.specs.Record.{recordsOf};
 ghost use Rattle.procedure.specs.Procedure.{firstOf};
 ghost use Rattle.pausing.specs.Storage.{bodyIn};
@@ -18,24 +17,16 @@ use pausing::Pause;
 use run::Ran;
 use steps::Answer;
 
-// The first n bytes of s are written over those of b.
-fn copy(b: &mut [u8], s: &[u8], n: usize)
-    requires { ⌜ (n ≤ length (now b)) × (n ≤ length (now s)) ⌝ }
-    ensures { λ u. ⌜ now (b .exit) ≡ paste (now (b .entry)) 0 (now (s .entry)) n ⌝ }
-{
-    let mut i = 0;
-    while i < n {
-        b[i] = s[i];
-        i += 1;
-    }
-}
-
 // Some bytes are written over the first of b, as far as there is room.
 fn put_front(b: &mut [u8], s: &[u8])
     ensures { λ u. ⌜ now (b .exit) ≡ fronted (now (b .entry)) (now (s .entry)) ⌝ }
 {
     let n = blocks::least(s.len(), b.len());
-    copy(b, s, n);
+    let mut i = 0;
+    while i < n {
+        b[i] = s[i];
+        i += 1;
+    }
 }
 
 // The body, if there is one.
