@@ -3,27 +3,25 @@ use Prim.Native.Nat.{ℕ, suc, _+_, _/_, _≤_, _<_}
 use native.Mathlib.Numerals.{add-one}
 use native.Mathlib.Omega.{arith}
 use mathlib.Core.Path.{_≡_, refl, sym, ap, _∙_}
-use mathlib.Core.Bool.{Bool, true, false, _&&_, not, cond, true≢false, false≢true}
-use mathlib.Core.Logic.{_⊎_, inl, inr}
+use mathlib.Core.Bool.{Bool, cond}
 use mathlib.Core.List.{List, [], _∷_, _++_}
-use borrow.Author.Tests.{ne-eqb, lt-ltb, le-ltb}
+use borrow.Author.Tests.{lt-ltb, le-ltb}
 use lib.Dec.{ltb}
 use lib.ListN.{length, getD, drop, set, take, length-take, length-drop, length-map, drop-of-length-le, List·getD-eq-default, List·getD-map}
-use lib.Seq.{drop-cons, getD-take, getD-drop, set-getD}
-use Rattle.general.proofs.Numbers.{Below, below, order}
+use lib.Seq.{drop-cons, getD-take, getD-drop}
 use Rattle.format.specs.declared.Record.{Record}
 use Rattle.format.specs.Record.{recordsOf, recordAt, blank}
 use Rattle.format.proofs.Laws.{length-records}
 use Rattle.inst.specs.declared.Inst.{Inst}
 use Rattle.inst.specs.declared.Inst.the-variants.{Stmt}
 use Rattle.codec.specs.Codec.{instsOf, instOf}
-use Rattle.codec.proofs.Table.{inst-at, inst-past}
+use Rattle.codec.proofs.Table.{inst-at}
 use Rattle.roles.specs.declared.Roles.{Roles}
 use Rattle.roles.specs.Roles.{rolesOf, readsOf, operandsOf, numbersOf}
 use Rattle.roles.proofs.Laws.{n-few, defs-few, defs-first, reads-all}
 use Rattle.facts.specs.Storage.{operandsIn, kindsOf, cap}
 use Rattle.facts.proofs.Rows.{getD-any}
-use Rattle.fill.specs.Filling.{over, bumped, counted, plainKind, countPlain, countInst}
+use Rattle.fill.specs.Filling.{over, bumped, counted, countInst}
 
 module _ (cap : ℕ) (l : List ℕ) (r : ℕ) where
   by : {b : Bool} → ltb (getD l r cap) cap ≡ b → cond b (set l r (getD l r 0 + 1)) l ≡ bumped cap l r
@@ -38,33 +36,6 @@ module _ (cap : ℕ) (l : List ℕ) (r : ℕ) where
 
   pub bump-past : length l ≤ r → l ≡ bumped cap l r
   bump-past h = by (le-ltb (getD l r cap) cap (let e = List·getD-eq-default l cap h in omega arith))
-
--- one more if it counts; else what stands at another place is written back
-pub more-off : (counts : Bool) (x most : ℕ) → not counts ≡ true → x ≡ cond (counts && ltb x most) (x + 1) x
-more-off true x most e = absurd (false≢true e)
-more-off false x most e = refl
-
-pub more-on : (counts : Bool) (x most : ℕ) {y : ℕ} → not counts ≡ false → y ≡ cond (ltb x most) (x + 1) x → y ≡ cond (counts && ltb x most) (x + 1) x
-more-on true x most e i = i
-more-on false x most e i = absurd (true≢false e)
-
-module _ (most : ℕ) (t : List ℕ) (p other : ℕ) {at : ℕ} where
-  pub bumped-if : (counts : Bool) {y : ℕ} → at ≡ cond counts p other → at < length t
-      → y ≡ cond (counts && ltb (getD t at 0) most) (getD t at 0 + 1) (getD t at 0) → set t at y ≡ cond counts (bumped most t p) t
-  bumped-if true {y} e h i = ap (set t at) i ∙ go (order (getD t at 0) most) ∙ ap (bumped most t) e
-    where
-      go : (getD t at 0 < most) ⊎ (most ≤ getD t at 0) → set t at (cond (ltb (getD t at 0) most) (getD t at 0 + 1) (getD t at 0)) ≡ bumped most t at
-      go (inl l) =
-          ap (λ (b : Bool). set t at (cond b (getD t at 0 + 1) (getD t at 0))) (lt-ltb (getD t at 0) most l) ∙ bump-more most t at h l
-      go (inr l) =
-          ap (λ (b : Bool). set t at (cond b (getD t at 0 + 1) (getD t at 0))) (le-ltb (getD t at 0) most l)
-          ∙ set-getD t at 0
-          ∙ bump-full most t at h l
-  bumped-if false {y} e h i = ap (set t at) i ∙ set-getD t at 0
-
-  pub skipped-if : (counts : Bool) → at ≡ cond counts p other → length t ≤ at → t ≡ cond counts (bumped most t p) t
-  skipped-if true e h = bump-past most t at h ∙ ap (bumped most t) e
-  skipped-if false e h = refl
 
 -- what is left from place k on gives w in the end
 module _ {S A : Type 0} (f : S → A → S) (l : List A) (k : ℕ) {s w : S} where
@@ -145,67 +116,3 @@ few-all i g = rw g (n-few i)
 pub counted-as : (b t : List ℕ) (r : Record) (k : ℕ) {q : Record} → r ≡ q → r .kind ≡ k
     → countInst (operandsIn b) t (getD (instsOf r) k Stmt) ≡ countInst (operandsIn b) t (instOf q)
 counted-as b t r k i e = ap (countInst (operandsIn b) t) (inst-at r k e ∙ ap instOf i)
-
--- a plain kind is counted by its fields
-module _ (b t : List ℕ) (r : Record) where
-  abbrev Plain : ℕ → Type 0
-  Plain k = plainKind k ≡ true → countPlain k (r .p1) (r .p2) (r .p3) t ≡ countInst (operandsIn b) t (getD (instsOf r) k Stmt)
-
-  plain-12 : Below Plain 12
-  unfolding over
-  plain-12 = (
-    (
-      (
-        (
-          ((((((((tt, λ q. refl), λ q. refl), λ q. refl), λ q. refl), λ q. absurd (false≢true q)), λ q. refl), λ q. absurd (false≢true q)), λ q. refl),
-          λ q. absurd (false≢true q),
-        ),
-        λ q. absurd (false≢true q),
-      ),
-      λ q. absurd (false≢true q),
-    ),
-    λ q. absurd (false≢true q),
-  )
-
-  plain-23 : Below Plain 23
-  unfolding over
-  plain-23 = (
-    (
-      (
-        (
-          (
-            (
-              (
-                ((((plain-12, λ q. absurd (false≢true q)), λ q. absurd (false≢true q)), λ q. absurd (false≢true q)), λ q. absurd (false≢true q)),
-                λ q. absurd (false≢true q),
-              ),
-              λ q. absurd (false≢true q),
-            ),
-            λ q. refl,
-          ),
-          λ q. refl,
-        ),
-        λ q. refl,
-      ),
-      λ q. absurd (false≢true q),
-    ),
-    λ q. refl,
-  )
-
-  pub plain-as : plainKind (r .kind) ≡ true → countPlain (r .kind) (r .p1) (r .p2) (r .p3) t ≡ countInst (operandsIn b) t (instOf r)
-  unfolding instOf over
-  plain-as q = by-kind (order (r .kind) 23)
-    where
-      by-kind : (r .kind < 23) ⊎ (23 ≤ r .kind) → countPlain (r .kind) (r .p1) (r .p2) (r .p3) t ≡ countInst (operandsIn b) t (instOf r)
-      by-kind (inl h) = below Plain 23 plain-23 (r .kind) h q
-      by-kind (inr h) =
-          let k = r .kind in
-          rw (
-            ne-eqb k 2 (omega arith),
-            ne-eqb k 5 (omega arith),
-            ne-eqb k 7 (omega arith),
-            ne-eqb k 19 (omega arith),
-            ne-eqb k 20 (omega arith),
-            le-ltb k 16 (omega arith),
-          )
-          (ap (countInst (operandsIn b) t) (inst-past r h))

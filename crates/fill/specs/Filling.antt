@@ -1,7 +1,7 @@
 -- Storage, not the paper's: how the private functions fill the table, step by step.
 use Prim.Native.Nat.{ℕ, _+_, _*_}
 use mathlib.Core.List.{List, [], _∷_}
-use mathlib.Core.Bool.{Bool, _&&_, _||_, cond, not}
+use mathlib.Core.Bool.{Bool, _&&_, cond, not}
 use lib.Dec.{eqb, ltb}
 use lib.ListN.{length, getD, set}
 use Rattle.inst.specs.declared.Code.{Code}
@@ -26,28 +26,6 @@ bumped most t at = cond (ltb (getD t at most) most) (set t at (getD t at 0 + 1))
 -- one more in column j of a register's row
 abbrev pub counted : ℕ → ℕ → List ℕ → ℕ → List ℕ
 counted j most t r = bumped most t (5 * r + j)
-
--- if it counts
-abbrev pub countedIf : Bool → ℕ → ℕ → ℕ → List ℕ → List ℕ
-countedIf counts j most r t = cond counts (counted j most t r) t
-
--- kinds whose instructions write at most p1 and read at most p1 alone, p2, or p2 and p3
-abbrev pub plainKind : ℕ → Bool
-plainKind k = ltb k 4 || (eqb k 5 || (eqb k 7 || ltb 17 k && not (eqb k 21)))
-
-abbrev pub testsFirst : ℕ → Bool
-testsFirst k = eqb k 19 || eqb k 20
-
-abbrev pub readsThird : ℕ → Bool
-readsThird k = eqb k 5 || eqb k 7
-
-abbrev pub readsSecond : ℕ → Bool
-readsSecond k = eqb k 2 || readsThird k
-
-abbrev pub countPlain : ℕ → ℕ → ℕ → ℕ → List ℕ → List ℕ
-countPlain k p1 p2 p3 t =
-    countedIf (readsThird k) 2 cap p3
-    (countedIf (readsSecond k) 2 cap p2 (countedIf (testsFirst k) 2 cap p1 (countedIf (ltb k 16) 1 255 p1 t)))
 
 -- what one instruction adds to the counts
 abbrev pub countInst : List ℕ → List ℕ → Inst → List ℕ
