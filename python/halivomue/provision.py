@@ -12,7 +12,7 @@ from typing import IO, Any, Callable, Iterator, List, NamedTuple, Optional, Set,
 
 from . import _library, filing, names, report, work
 from .answers import reason, untidy_reason
-from .filing import Failed, Unreadable
+from .filing import Failed, Folder, Unreadable
 from .progress import Progress
 from .report import Row
 
@@ -111,29 +111,34 @@ class Filer:
         self.sent, self.filed = options.sent + b"/", options.filed + b"/"
         self.strict, self.dry_run, self.flush = options.strict, options.dry_run, options.flush
         self.resumed = options.resumed
-        self.temporary = b"/%s.%d.sent.tmp" % (names.OWN, number), b"/%s.%d.short.tmp" % (names.OWN, number)
-        self.folder: Optional[bytes] = None
+        self.temporary = b"%s.%d.sent.tmp" % (names.OWN, number), b"%s.%d.short.tmp" % (names.OWN, number)
+        self.source: Optional[Folder] = None
+        self.target: Optional[Folder] = None
+        self.made: Optional[bytes] = None
         self.folders: Set[bytes] = set()
         self.touched: Set[bytes] = set()
         _library.functions()
 
     def chunk(self, tasks: List[Task]) -> Done:
         """Does some tasks."""
-        totals, rows, told, now = report.Totals(), [], [], 0
-        for task in tasks:
-            row, filed_now = self.row(task)
-            if row.answer == "not sent" and row.filed == "no":
-                continue
-            rows.append(row)
-            totals.add(row)
-            now += filed_now
-            line = line_of(row)
-            if line is not None:
-                told.append(line)
+        totals, lines, told, now = report.Totals(), [], [], 0
+        try:
+            for task in tasks:
+                row, filed_now = self.row(task)
+                if row.answer == "not sent" and row.filed == "no":
+                    continue
+                lines.append(report.csv_line(row))
+                totals.add(row)
+                now += filed_now
+                line = line_of(row)
+                if line is not None:
+                    told.append(line)
+        finally:
+            self.leave()
         for folder in self.touched:
             filing.flush_folder(folder)
         self.touched.clear()
-        return Done(report.csv_lines(rows), totals, now, told, len(tasks))
+        return Done("".join(lines), totals, now, told, len(tasks))
 
     def row(self, task: Task) -> Tuple[Row, bool]:
         """The row of a task, and whether its file was filed now."""
@@ -142,11 +147,13 @@ class Filer:
             return self.unfiled(task.name, Row(name, "not sent")), False
         if task.how == TOLD:
             return self.unfiled(task.name, Row(name, "unreadable", reason=task.reason)), False
+        folder, _, base = (self.sent + task.name).rpartition(b"/")
         try:
-            content = filing.read(self.sent + task.name)
+            if self.source is None or self.source.path != folder:
+                self.enter(folder)
+            sent = filing.read(base, self.source)
         except Unreadable as error:
             return self.unfiled(task.name, Row(name, "unreadable", reason=str(error))), False
-        sent = content.data
         if task.earlier is not None and self.stands(task.name, sent, task.earlier):
             return task.earlier, False
         shortening, short = _library.shortened(sent)
@@ -190,21 +197,43 @@ class Filer:
             return False
 
     def enter(self, folder: bytes) -> None:
-        """Makes a folder of FILED ready, and learns which folders it has: none can become a file."""
-        filing.make_folder(folder)
+        """Holds a folder of SENT; raises `Unreadable`. Only SENT itself may be a symbolic link."""
+        self.leave()
         try:
-            with os.scandir(folder) as entries:
-                self.folders = {entry.name for entry in entries if entry.is_dir()}
+            self.source = Folder(folder, follow=len(folder) < len(self.sent))
+        except OSError as error:
+            raise Unreadable(filing.why(error)) from error
+
+    def make(self, folder: bytes) -> None:
+        """Holds a folder of FILED. Before the first file which folders are in it is learnt: none can
+        become a file."""
+        try:
+            if folder != self.made:
+                filing.make_folder(folder)
+                with os.scandir(folder) as entries:
+                    self.folders = {entry.name for entry in entries if entry.is_dir()}
+                self.made = folder
+            self.target = Folder(folder, follow=True)
         except OSError as error:
             raise Failed(f"{os.fsdecode(folder)}: {filing.why(error)}") from error
-        self.folder = folder
+
+    def leave(self) -> None:
+        """Lets go of the folders that are held; raises `Failed` where that of FILED was moved."""
+        source, target = self.source, self.target
+        self.source = self.target = None
+        if source is not None:
+            source.close()
+        if target is not None:
+            stands = target.stands()
+            target.close()
+            if not stands:
+                raise Failed(f"{os.fsdecode(target.path)}: moved while files were put in it")
 
     def put(self, name: bytes, sent: bytes, short: bytes) -> None:
         """Files both forms, each at once; the shortened one first, since its name is the longer."""
-        path = self.filed + name
-        folder, _, base = path.rpartition(b"/")
-        if folder != self.folder:
-            self.enter(folder)
+        folder, _, base = (self.filed + name).rpartition(b"/")
+        if self.target is None:
+            self.make(folder)
         if base in self.folders or base + names.SHORT in self.folders:
             raise Unreadable("cannot be filed: " + os.strerror(errno.EISDIR))
         if self.flush and folder not in self.touched:
@@ -213,7 +242,7 @@ class Filer:
                 self.touched.add(above)
                 above = os.path.dirname(above)
         of_sent, of_short = self.temporary
-        filing.write(((path + names.SHORT, folder + of_short, short), (path, folder + of_sent, sent)), self.flush)
+        filing.write(((base + names.SHORT, of_short, short), (base, of_sent, sent)), self.flush, self.target)
 
     def unfiled(self, name: bytes, row: Row) -> Row:
         """The row of a file that isn't filed now, with what an earlier run filed under its name."""

@@ -274,11 +274,11 @@ class Odd(Case):
         path = self.put("a.call", sample("printed"))
         before = filing.read
 
-        def late(asked):
-            if asked == path:
+        def late(name, folder=None):
+            if folder is not None:
                 os.unlink(path)
                 os.symlink(outside, path)
-            return before(asked)
+            return before(name, folder)
 
         with replaced(filing, "read", late):
             _, lines = provision_here(self.sent, self.filed)
@@ -355,10 +355,10 @@ class Changing(Case):
             self.put(name, sample("printed"))
         before = filing.read
 
-        def late(path):
-            if path.endswith(b"sent/b.call"):
-                os.unlink(path)
-            return before(path)
+        def late(name, folder=None):
+            if name == b"b.call" and folder is not None:
+                os.unlink(name, dir_fd=folder.fd)
+            return before(name, folder)
 
         with replaced(filing, "read", late):
             outcome, lines = provision_here(self.sent, self.filed)
