@@ -93,15 +93,17 @@ def described(name: str, answer: str, filed: str, sent: bytes, short: bytes, sho
     )
 
 
-def line_of(row: Row) -> Optional[str]:
-    """What is printed of a file, if anything."""
+def line_of(row: Row) -> str:
+    """What is printed of a file; nothing of one that is filed now."""
+    if row.filed == "yes":
+        return ""
     spoiled = "; what is filed under this name is not as a run files it" if row.filed == "spoiled" else ""
     if row.answer == "refused":
         numbers = "" if row.number is None else f" {row.number} {row.record}"
         return f"{row.name}: refused{numbers} ({row.reason}){spoiled}"
     if row.answer == "unreadable":
         return f"{row.name}: unreadable: {row.reason}{spoiled}"
-    return f"{row.name}: {row.answer}{spoiled}" if spoiled else None
+    return f"{row.name}: {row.answer}{spoiled}" if spoiled else ""
 
 
 class Filer:
@@ -121,24 +123,23 @@ class Filer:
 
     def chunk(self, tasks: List[Task]) -> Done:
         """Does some tasks."""
-        totals, lines, told, now = report.Totals(), [], [], 0
+        rows, now = [], 0
         try:
             for task in tasks:
                 row, filed_now = self.row(task)
-                if row.answer == "not sent" and row.filed == "no":
-                    continue
-                lines.append(report.csv_line(row))
-                totals.add(row)
                 now += filed_now
-                line = line_of(row)
-                if line is not None:
-                    told.append(line)
+                if row.answer != "not sent" or row.filed != "no":
+                    rows.append(row)
         finally:
             self.leave()
         for folder in self.touched:
             filing.flush_folder(folder)
         self.touched.clear()
-        return Done("".join(lines), totals, now, told, len(tasks))
+        totals = report.Totals()
+        for row in rows:
+            totals.add(row)
+        told = [line for line in map(line_of, rows) if line]
+        return Done("".join(map(report.csv_line, rows)), totals, now, told, len(tasks))
 
     def row(self, task: Task) -> Tuple[Row, bool]:
         """The row of a task, and whether its file was filed now."""
@@ -167,7 +168,7 @@ class Filer:
         now = not (self.resumed and self.there(task.name, sent, short))
         if now and not self.dry_run:
             try:
-                self.put(task.name, sent, short)
+                self.put(task.name, base, sent, short)
             except Unreadable as error:
                 return self.unfiled(task.name, Row(name, "unreadable", reason=str(error))), False
         return described(name, "accepted", "yes", sent, short, shortening, tidiness), now
@@ -216,6 +217,9 @@ class Filer:
             self.target = Folder(folder, follow=True)
         except OSError as error:
             raise Failed(f"{os.fsdecode(folder)}: {filing.why(error)}") from error
+        while self.flush and len(folder) >= len(self.filed) - 1:
+            self.touched.add(folder)
+            folder = os.path.dirname(folder)
 
     def leave(self) -> None:
         """Lets go of the folders that are held; raises `Failed` where that of FILED was moved."""
@@ -229,20 +233,15 @@ class Filer:
             if not stands:
                 raise Failed(f"{os.fsdecode(target.path)}: moved while files were put in it")
 
-    def put(self, name: bytes, sent: bytes, short: bytes) -> None:
+    def put(self, name: bytes, base: bytes, sent: bytes, short: bytes) -> None:
         """Files both forms, each at once; the shortened one first, since its name is the longer."""
-        folder, _, base = (self.filed + name).rpartition(b"/")
         if self.target is None:
-            self.make(folder)
-        if base in self.folders or base + names.SHORT in self.folders:
+            self.make(os.path.dirname(self.filed + name))
+        short_base = base + names.SHORT
+        if base in self.folders or short_base in self.folders:
             raise Unreadable("cannot be filed: " + os.strerror(errno.EISDIR))
-        if self.flush and folder not in self.touched:
-            above = folder
-            while len(above) >= len(self.filed) - 1:
-                self.touched.add(above)
-                above = os.path.dirname(above)
         of_sent, of_short = self.temporary
-        filing.write(((base + names.SHORT, of_short, short), (base, of_sent, sent)), self.flush, self.target)
+        filing.write(((short_base, of_short, short), (base, of_sent, sent)), self.flush, self.target)
 
     def unfiled(self, name: bytes, row: Row) -> Row:
         """The row of a file that isn't filed now, with what an earlier run filed under its name."""
