@@ -35,7 +35,7 @@ class Task(NamedTuple):
 
 
 def task_size(task: Task) -> int:
-    return len(task.name)
+    return len(task.name) + (report.ROW_BYTES if task.earlier else 0)
 
 
 class Options(NamedTuple):
@@ -411,7 +411,7 @@ class Walk:
             task = self.told(entry)
             if task is None:
                 continue
-            at = names.key(task.name)
+            at = names.key(task.name) if due is not None else b""
             while due is not None and due[0] < at:
                 yield from self.gone(due[1])
                 due = next(self.earlier, None)

@@ -47,6 +47,8 @@ SUMMED = COLUMNS[COLUMNS.index("instructions_sent") : COLUMNS.index("sha256_sent
 _NUMBERS = frozenset(("number", "record", "reg", *SUMMED))
 _IS_NUMBER = tuple(name in _NUMBERS for name in COLUMNS)
 HEADER = ",".join(COLUMNS)
+#: About the bytes of a row without its name.
+ROW_BYTES = 512
 #: The answer of the last row.
 TOTAL = "total"
 

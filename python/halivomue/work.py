@@ -96,20 +96,19 @@ def _give(link: Any, chunk: List[Any]) -> None:
 
 
 def _results(links: List[Any], coming: Iterator[List[Any]]) -> Iterator[Any]:
-    """The results of the chunks in their order, each done by a process that is free."""
+    """The results of the chunks in their order, each done by the process that has least to do."""
     under_way: Dict[Any, Deque[int]] = {link: deque() for link in links}
     done: Dict[int, Any] = {}
     given = due = 0
     while True:
-        for link in sorted(links * _UNDER_WAY, key=lambda link: len(under_way[link])):
-            if len(under_way[link]) == _UNDER_WAY or given == due + _AHEAD * len(links):
-                continue
+        free = min(links, key=lambda link: len(under_way[link]))
+        if len(under_way[free]) < _UNDER_WAY and given < due + _AHEAD * len(links):
             chunk = next(coming, None)
-            if chunk is None:
-                break
-            _give(link, chunk)
-            under_way[link].append(given)
-            given += 1
+            if chunk is not None:
+                _give(free, chunk)
+                under_way[free].append(given)
+                given += 1
+                continue
         if due == given:
             return
         for link in wait([link for link in links if under_way[link]]):

@@ -9,7 +9,6 @@ import json
 import os
 import pty
 import resource
-import shutil
 import signal
 import stat
 import subprocess
@@ -19,9 +18,8 @@ import time
 from common import Case, ROOT, halivomue, in_child, lines_of, provision, provision_here, replaced, run, sample, tree, unittest
 
 import fleet
-from halivomue import filing, names, report, work
+from halivomue import filing, names, report
 from halivomue.__main__ import main
-from halivomue.filing import Failed
 
 NOBODY = 65534
 
@@ -286,46 +284,6 @@ class Odd(Case):
             _, lines = provision_here(self.sent, self.filed)
         self.assertEqual(lines[0], "a.call: unreadable: a symbolic link, not followed")
 
-    def swapped(self, when):
-        """A run during which a folder of SENT is exchanged for a link to another, before its file of that number is read."""
-        outside = os.path.join(self.folder, "outside")
-        for name in ("1.call", "2.call", "3.call"):
-            self.put(f"a/{name}", sample("printed"))
-            self.put(name, sample("forwarding"), outside)
-        read, enter = filing.read, provision.Filer.enter
-        late = iter(range(1, 9))
-
-        def swap():
-            if next(late) == when:
-                os.rename(os.path.join(self.sent, "a"), os.path.join(self.folder, "moved"))
-                os.symlink(outside, os.path.join(self.sent, "a"))
-
-        def reading(name, folder=None):
-            if folder is not None and when > 0:
-                swap()
-            return read(name, folder)
-
-        def entering(filer, folder):
-            if when == 0 and not os.path.islink(folder):
-                os.rename(folder, os.path.join(self.folder, "moved"))
-                os.symlink(outside, folder)
-            enter(filer, folder)
-
-        with replaced(filing, "read", reading), replaced(provision.Filer, "enter", entering):
-            return provision_here(self.sent, self.filed)
-
-    def test_a_link_that_takes_a_folders_place_is_not_followed(self):
-        outcome, lines = self.swapped(0)
-        self.assertEqual(lines, [f"a/{number}.call: unreadable: Not a directory" for number in (1, 2, 3)])
-        self.assertEqual(outcome.done, 0)
-
-    def test_nor_while_the_folder_is_held(self):
-        outcome, lines = self.swapped(2)
-        self.assertEqual((outcome.done, lines), (3, []))
-        for name in ("1.call", "2.call", "3.call"):
-            with open(os.path.join(self.filed, "a", name), "rb") as file:
-                self.assertEqual(file.read(), sample("printed"))
-
     def test_long_files(self):
         self.put("long.call", sample("printed") + bytes(65_536))
         self.put("limit.call", bytes(65_536))
@@ -550,61 +508,6 @@ class Folders(Case):
         self.assertTrue(lines[1].startswith("c/x.call: unreadable: cannot be filed: "), lines)
         self.assertTrue(lines[2].startswith("d.call: unreadable: cannot be filed: Is a directory"), lines)
         self.assertEqual({name for name in tree(self.filed) if b".call" in name}, {b"a.call", b"b.call", b"b.call.short", b"d.call.short"})
-
-
-    def test_a_folder_of_filed_that_is_moved(self):
-        """Where the run puts files in a folder that isn't in its place any more, it fails, and reports none of them."""
-        for name in ("a/1.call", "a/2.call", "b/1.call"):
-            self.put(name, sample("printed"))
-        folder, aside = os.path.join(self.filed, "a"), os.path.join(self.folder, "aside")
-
-        def gone():
-            os.rename(folder, aside)
-
-        def another():
-            os.rename(folder, aside)
-            os.mkdir(folder)
-
-        def link():
-            os.rename(folder, aside)
-            os.symlink(self.sent, folder)
-
-        write = filing.write
-        for jobs, move in ((1, gone), (2, another), (1, link)):
-            def late(files, flush, target, move=move):
-                if files[1][0] == b"2.call":
-                    move()
-                write(files, flush, target)
-
-            with replaced(filing, "write", late), self.assertRaises(Failed) as caught:
-                provision_here(self.sent, self.filed, jobs=jobs)
-            self.assertEqual(str(caught.exception), f"{folder}: moved while files were put in it")
-            self.assertEqual(tree(os.path.join(self.sent, "a")).keys(), {b"1.call", b"2.call"})
-            if os.path.islink(folder):
-                os.unlink(folder)
-            provision_here(self.sent, self.filed)
-            run("audit", self.filed)
-            for left in (aside, self.filed):
-                shutil.rmtree(left)
-
-    def test_sent_and_filed_may_be_links(self):
-        self.put("a.call", sample("printed"))
-        self.put("b/b.call", sample("printed"))
-        provision_here(self.sent, self.filed + "2")
-        os.mkdir(self.filed)
-        os.symlink("sent", os.path.join(self.folder, "to-sent"))
-        os.symlink("filed", os.path.join(self.folder, "to-filed"))
-        outcome, lines = provision_here(os.path.join(self.folder, "to-sent"), os.path.join(self.folder, "to-filed"))
-        self.assertEqual((outcome.done, lines), (2, []))
-        self.assertEqual(tree(self.filed), tree(self.filed + "2"))
-
-    def test_no_descriptor_is_left_open(self):
-        for name in ("a.call", "b/b.call", "c/c.call"):
-            self.put(name, sample("printed"))
-        before = os.listdir("/proc/self/fd")
-        for jobs in (1, 2):
-            provision_here(self.sent, self.filed + str(jobs), jobs=jobs)
-            self.assertEqual(os.listdir("/proc/self/fd"), before)
 
 
 class Rights(Case):
@@ -862,69 +765,6 @@ class Terminal(Case):
 
 class Parts(Case):
     """Smaller things."""
-
-    def test_a_worker_that_ends_is_told(self):
-        fleet.write(self.sent, 80, 40)
-
-        def ends(*_):
-            os._exit(3)
-
-        with replaced(provision.Filer, "chunk", ends):
-            with self.assertRaises(Failed) as caught:
-                provision_here(self.sent, self.filed, jobs=2)
-        self.assertIn("ended by itself", str(caught.exception))
-
-    def test_results_come_in_order(self):
-        def make(number):
-            def slow(chunk):
-                time.sleep(0.002 * (number == 0))
-                return [value * 2 for value in chunk]
-
-            return slow
-
-        for jobs in (1, 2, 3):
-            found = [value for chunk in work.ordered(range(500), make, jobs, lambda _: 1) for value in chunk]
-            self.assertEqual(found, [2 * value for value in range(500)])
-
-    def test_a_chunk_goes_to_a_process_that_is_free(self):
-        """A slow process holds no other up, but for the chunks that may wait for its result."""
-        def make(number):
-            def slow(chunk):
-                time.sleep(0.3 * (number == 0))
-                return [number]
-
-            return slow
-
-        tasks = iter(range(100_000))
-        found = work.ordered(tasks, make, 2, lambda _: 1, most=1)
-        self.assertEqual(next(found), [0])
-        self.assertLessEqual(next(tasks), 3 * work._AHEAD * 2)
-        done = [next(found) for _ in range(work._AHEAD)]
-        found.close()
-        self.assertLessEqual(done.count([0]), work._UNDER_WAY)
-
-    def test_one_of_several_processes_that_ends_is_told(self):
-        def make(number):
-            def ends(chunk):
-                if number == 1:
-                    os._exit(3)
-                return chunk
-
-            return ends
-
-        with self.assertRaises(Failed) as caught:
-            list(work.ordered(range(5000), make, 3, lambda _: 1))
-        self.assertIn("ended by itself", str(caught.exception))
-
-    def test_what_is_under_way_fits_the_pipes(self):
-        """Long names and large results: nobody waits for the other forever."""
-        names_ = [b"%06d" % number + b"x" * 3900 for number in range(300)]
-
-        def make(number):
-            return lambda chunk: [name * 40 for name in chunk]
-
-        found = [name[:6] for chunk in work.ordered(names_, make, 2, len) for name in chunk]
-        self.assertEqual(found, [name[:6] for name in names_])
 
     def test_lines_are_those_of_the_csv_module(self):
         texts = ("", "plain", "a,b", 'a"b', '"', ",", " a ", "größe", "\\x0a", "None", "'", "=1")
