@@ -118,7 +118,7 @@ def line_of(row: Row) -> str:
 
 
 class Filer:
-    """Files one task after the other, in one process."""
+    """Does tasks, chunk after chunk, in one process."""
 
     def __init__(self, options: Options, number: int) -> None:
         self.sent, self.filed = options.sent + b"/", options.filed + b"/"
@@ -240,8 +240,8 @@ class Filer:
             source.close()
 
     def make(self, folder: bytes) -> None:
-        """Holds a folder of FILED. Before the first file which folders are in it is learnt: none can
-        become a file."""
+        """Holds a folder of FILED, made where it isn't there. Which folders are in it is learnt before
+        its first file: none of them can become a file."""
         self.leave_target()
         try:
             if folder != self.made:
