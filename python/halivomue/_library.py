@@ -127,15 +127,23 @@ def _call(function: Any, data: Data, *out: Any) -> Any:
         _release_buffer(ctypes.byref(view))
 
 
+class _Room:
+    """An output buffer."""
+
+    def __init__(self) -> None:
+        buffer = (ctypes.c_char * ROOM)()
+        self.address = ctypes.addressof(buffer)
+        self.bytes = memoryview(buffer).cast("B")
+
+
 class _Rooms(threading.local):
     """Output buffers of a thread that aren't in use."""
 
     def __init__(self) -> None:
-        self.free: List[Any] = []
+        self.free: List[_Room] = []
 
 
 _rooms = _Rooms()
-_Room = ctypes.c_char * ROOM
 
 
 def read(data: Data) -> Reading:
@@ -157,12 +165,13 @@ def tidy(data: Data) -> Tidiness:
 
 def shortened(data: Data) -> Tuple[Any, bytes]:
     """The C answer of Shorten and the bytes written; no byte where it refuses."""
-    room = _rooms.free.pop() if _rooms.free else _Room()
+    free = _rooms.free
+    room = free.pop() if free else _Room()
     try:
-        answer = _call(functions().shorten, data, ctypes.addressof(room), ROOM)
-        return answer, ctypes.string_at(room, answer.length)
+        answer = _call(functions().shorten, data, room.address, ROOM)
+        return answer, room.bytes[: answer.length].tobytes()
     finally:
-        _rooms.free.append(room)
+        free.append(room)
 
 
 def shorten(data: Data) -> Shortening:

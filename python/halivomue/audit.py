@@ -42,6 +42,10 @@ class Outcome:
         return f"{report.counted(self.compared)} compared: {told or 'all as filed'}"
 
 
+def _size(task: Task) -> int:
+    return len(task.name) + (report.ROW_BYTES if task.row else 0)
+
+
 def _form(path: bytes, what: str, found: List[str]) -> Optional[bytes]:
     """A filed form's bytes; what is wrong with it is added to `found`."""
     try:
@@ -198,7 +202,7 @@ def _compare(filed: bytes, jobs: int, outcome: Outcome, say: Callable[[str], Non
         rows, wrong = report.checked(state.report)
         wrong_json: List[str] = []
         all_tasks = tasks(filed, _json_differs(state, rows, wrong_json))
-        for chunk in work.ordered(all_tasks, make, jobs, lambda task: len(task.name)):
+        for chunk in work.ordered(all_tasks, make, jobs, _size):
             for name, compared, found in chunk:
                 outcome.compared += compared
                 for finding in found:

@@ -5,12 +5,13 @@ from __future__ import annotations
 import errno
 import os
 import stat
-from typing import NamedTuple, Optional, Sequence, Tuple
+from typing import Optional, Sequence, Tuple
 
 from .answers import LONGEST
 
 _READ = os.O_RDONLY | os.O_NOFOLLOW | os.O_NONBLOCK | os.O_CLOEXEC | getattr(os, "O_NOCTTY", 0)
 _WRITE = os.O_WRONLY | os.O_CREAT | os.O_TRUNC | os.O_NOFOLLOW | os.O_CLOEXEC
+_FOLDER = os.O_RDONLY | os.O_DIRECTORY | os.O_CLOEXEC
 
 #: Errors of writing that are of one name; with any other the whole run fails.
 _OF_A_NAME = frozenset((errno.ENAMETOOLONG, errno.EISDIR, errno.ENOTDIR, errno.EEXIST, errno.ELOOP))
@@ -24,11 +25,22 @@ class Failed(Exception):
     """The run itself can't go on, with the reason."""
 
 
-class Content(NamedTuple):
-    """A file's bytes, the first 65,537 of a longer one, and its length."""
+class Folder:
+    """A folder held by its descriptor: names in it are looked up without the way to it."""
 
-    data: bytes
-    length: int
+    def __init__(self, path: bytes, follow: bool) -> None:
+        self.path = path
+        self.fd = os.open(path, _FOLDER if follow else _FOLDER | os.O_NOFOLLOW)
+
+    def stands(self) -> bool:
+        """Does its path still lead to it?"""
+        try:
+            return os.path.samestat(os.stat(self.path), os.fstat(self.fd))
+        except OSError:
+            return False
+
+    def close(self) -> None:
+        os.close(self.fd)
 
 
 def _whole(fd: int, length: int) -> bytes:
@@ -50,10 +62,11 @@ def why(error: OSError) -> str:
     return error.strerror or str(error)
 
 
-def read(path: bytes) -> Content:
-    """A file as it stands; raises `Unreadable`, also where it changes meanwhile."""
+def read(name: bytes, folder: Optional[Folder] = None) -> bytes:
+    """A file as it stands, the first 65,537 bytes of a longer one; raises `Unreadable`, also where
+    it changes meanwhile."""
     try:
-        fd = os.open(path, _READ)
+        fd = os.open(name, _READ, dir_fd=folder and folder.fd)
         try:
             before = os.fstat(fd)
             if not stat.S_ISREG(before.st_mode):
@@ -70,13 +83,13 @@ def read(path: bytes) -> Content:
         or len(data) != min(before.st_size, LONGEST + 1)
     ):
         raise Unreadable("changed while it was read")
-    return Content(data, before.st_size)
+    return data
 
 
 def read_if_there(path: bytes) -> Optional[bytes]:
     """A filed form's bytes, or None where there is no such file."""
     try:
-        return read(path).data
+        return read(path)
     except Unreadable as error:
         cause = error.__cause__
         if isinstance(cause, OSError) and cause.errno in (errno.ENOENT, errno.ENOTDIR, errno.ENAMETOOLONG):
@@ -84,9 +97,9 @@ def read_if_there(path: bytes) -> Optional[bytes]:
         raise
 
 
-def _stage(temporary: bytes, data: bytes, flush: bool) -> None:
+def _stage(temporary: bytes, data: bytes, flush: bool, at: Optional[int]) -> None:
     """Writes a new file, flushed."""
-    fd = os.open(temporary, _WRITE, 0o666)
+    fd = os.open(temporary, _WRITE, 0o666, dir_fd=at)
     try:
         done = os.write(fd, data)
         while done < len(data):
@@ -97,33 +110,35 @@ def _stage(temporary: bytes, data: bytes, flush: bool) -> None:
         os.close(fd)
 
 
-def write(files: Sequence[Tuple[bytes, bytes, bytes]], flush: bool) -> None:
-    """Puts files in their places, each at once: new files beside them (path, temporary and bytes of
-    each), flushed, then renamed over them. Where one can't be written, none is put."""
+def write(files: Sequence[Tuple[bytes, bytes, bytes]], flush: bool, folder: Optional[Folder] = None) -> None:
+    """Puts files in their places, each at once: new files beside them (name, temporary name and
+    bytes of each), flushed, then renamed over them. Where one can't be written, none is put."""
+    at = folder and folder.fd
     try:
-        for path, temporary, data in files:
-            _stage(temporary, data, flush)
-        for path, temporary, _ in files:
-            os.replace(temporary, path)
+        for name, temporary, data in files:
+            _stage(temporary, data, flush, at)
+        for name, temporary, _ in files:
+            os.replace(temporary, name, src_dir_fd=at, dst_dir_fd=at)
     except OSError as error:
         for _, temporary, _ in files:
-            remove(temporary)
+            remove(temporary, at)
         if error.errno in _OF_A_NAME:
             raise Unreadable(f"cannot be filed: {error.strerror}") from error
+        path = os.path.join(folder.path, name) if folder else name
         raise Failed(f"{os.fsdecode(path)}: {why(error)}") from error
 
 
-def remove(path: bytes) -> None:
+def remove(name: bytes, at: Optional[int] = None) -> None:
     """Removes a file if it is there and can be removed."""
     try:
-        os.unlink(path)
+        os.unlink(name, dir_fd=at)
     except OSError:
         pass
 
 
 def flush_folder(path: bytes) -> None:
     """Makes the names in a folder last."""
-    fd = os.open(path, os.O_RDONLY | os.O_DIRECTORY | os.O_CLOEXEC)
+    fd = os.open(path, _FOLDER)
     try:
         os.fsync(fd)
     finally:

@@ -93,11 +93,11 @@ class Entry(NamedTuple):
 
 
 def _kind(entry: "os.DirEntry[bytes]") -> str:
-    if entry.is_symlink():
-        return "link"
+    if entry.is_file(follow_symlinks=False):
+        return "file"
     if entry.is_dir(follow_symlinks=False):
         return "folder"
-    return "file" if entry.is_file(follow_symlinks=False) else "other"
+    return "link" if entry.is_symlink() else "other"
 
 
 Sorting = Callable[[bytes, str], bytes]

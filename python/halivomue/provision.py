@@ -8,11 +8,11 @@ import hashlib
 import os
 import re
 import sys
-from typing import IO, Any, Callable, Iterator, List, NamedTuple, Optional, Set, Tuple
+from typing import IO, Any, Callable, Iterator, List, NamedTuple, Optional, Set, Tuple, Union
 
 from . import _library, filing, names, report, work
 from .answers import reason, untidy_reason
-from .filing import Failed, Unreadable
+from .filing import Failed, Folder, Unreadable
 from .progress import Progress
 from .report import Row
 
@@ -25,6 +25,8 @@ FILE, TOLD, GONE = range(3)
 
 #: Files that are flushed before their rows are written.
 _FLUSHED = 8
+#: Files that take each step together.
+_TOGETHER = 32
 
 
 class Task(NamedTuple):
@@ -35,7 +37,7 @@ class Task(NamedTuple):
 
 
 def task_size(task: Task) -> int:
-    return len(task.name)
+    return len(task.name) + (report.ROW_BYTES if task.earlier else 0)
 
 
 class Options(NamedTuple):
@@ -69,6 +71,15 @@ class Outcome(NamedTuple):
     passed_over: int
 
 
+class Both(NamedTuple):
+    """The two forms of a file that is accepted, and the library's answers."""
+
+    sent: bytes
+    short: bytes
+    shortening: Any
+    tidiness: Any
+
+
 def described(name: str, answer: str, filed: str, sent: bytes, short: bytes, shortening: Any, tidiness: Any) -> Row:
     """The row of a filed file, from its two forms and the library's answers."""
     return Row(
@@ -93,77 +104,103 @@ def described(name: str, answer: str, filed: str, sent: bytes, short: bytes, sho
     )
 
 
-def line_of(row: Row) -> Optional[str]:
-    """What is printed of a file, if anything."""
+def line_of(row: Row) -> str:
+    """What is printed of a file; nothing of one that is filed now."""
+    if row.filed == "yes":
+        return ""
     spoiled = "; what is filed under this name is not as a run files it" if row.filed == "spoiled" else ""
     if row.answer == "refused":
         numbers = "" if row.number is None else f" {row.number} {row.record}"
         return f"{row.name}: refused{numbers} ({row.reason}){spoiled}"
     if row.answer == "unreadable":
         return f"{row.name}: unreadable: {row.reason}{spoiled}"
-    return f"{row.name}: {row.answer}{spoiled}" if spoiled else None
+    return f"{row.name}: {row.answer}{spoiled}" if spoiled else ""
 
 
 class Filer:
-    """Files one task after the other, in one process."""
+    """Does tasks, chunk after chunk, in one process."""
 
     def __init__(self, options: Options, number: int) -> None:
         self.sent, self.filed = options.sent + b"/", options.filed + b"/"
         self.strict, self.dry_run, self.flush = options.strict, options.dry_run, options.flush
         self.resumed = options.resumed
-        self.temporary = b"/%s.%d.sent.tmp" % (names.OWN, number), b"/%s.%d.short.tmp" % (names.OWN, number)
-        self.folder: Optional[bytes] = None
+        self.temporary = b"%s.%d.sent.tmp" % (names.OWN, number), b"%s.%d.short.tmp" % (names.OWN, number)
+        self.source: Optional[Folder] = None
+        self.target: Optional[Folder] = None
+        self.made: Optional[bytes] = None
         self.folders: Set[bytes] = set()
         self.touched: Set[bytes] = set()
+        self.now = 0
         _library.functions()
 
     def chunk(self, tasks: List[Task]) -> Done:
         """Does some tasks."""
-        totals, rows, told, now = report.Totals(), [], [], 0
-        for task in tasks:
-            row, filed_now = self.row(task)
-            if row.answer == "not sent" and row.filed == "no":
-                continue
-            rows.append(row)
-            totals.add(row)
-            now += filed_now
-            line = line_of(row)
-            if line is not None:
-                told.append(line)
+        self.now = 0
+        try:
+            found = [row for at in range(0, len(tasks), _TOGETHER) for row in self.rows(tasks[at : at + _TOGETHER])]
+        finally:
+            self.leave_source()
+            self.leave_target()
         for folder in self.touched:
             filing.flush_folder(folder)
         self.touched.clear()
-        return Done(report.csv_lines(rows), totals, now, told, len(tasks))
+        rows = [row for row in found if row.answer != "not sent" or row.filed != "no"]
+        totals = report.Totals()
+        for row in rows:
+            totals.add(row)
+        told = [line for line in map(line_of, rows) if line]
+        return Done("".join(map(report.csv_line, rows)), totals, self.now, told, len(tasks))
 
-    def row(self, task: Task) -> Tuple[Row, bool]:
-        """The row of a task, and whether its file was filed now."""
-        name = names.quote(task.name)
+    def rows(self, tasks: List[Task]) -> List[Row]:
+        """The rows of some tasks. They take each step together, which keeps what a step uses in the
+        processor's caches."""
+        read = [self.read(task) for task in tasks]
+        shortened = [sent if isinstance(sent, Row) else self.shorten(task, sent) for task, sent in zip(tasks, read)]
+        filed = [both if isinstance(both, Row) else self.file(task, both) for task, both in zip(tasks, shortened)]
+        return [
+            both if isinstance(both, Row) else described(names.quote(task.name), "accepted", "yes", *both)
+            for task, both in zip(tasks, filed)
+        ]
+
+    def read(self, task: Task) -> Union[Row, bytes]:
+        """The sent form, or the row of what isn't to be filed now."""
         if task.how == GONE:
-            return self.unfiled(task.name, Row(name, "not sent")), False
+            return self.unfiled(task.name, "not sent")
         if task.how == TOLD:
-            return self.unfiled(task.name, Row(name, "unreadable", reason=task.reason)), False
+            return self.unfiled(task.name, "unreadable", task.reason)
+        folder, _, base = (self.sent + task.name).rpartition(b"/")
         try:
-            content = filing.read(self.sent + task.name)
+            if self.source is None or self.source.path != folder:
+                self.enter(folder)
+            sent = filing.read(base, self.source)
         except Unreadable as error:
-            return self.unfiled(task.name, Row(name, "unreadable", reason=str(error))), False
-        sent = content.data
+            return self.unfiled(task.name, "unreadable", str(error))
         if task.earlier is not None and self.stands(task.name, sent, task.earlier):
-            return task.earlier, False
+            return task.earlier
+        return sent
+
+    def shorten(self, task: Task, sent: bytes) -> Union[Row, Both]:
+        """Both forms, or the row of a file that is refused."""
         shortening, short = _library.shortened(sent)
         if shortening.number:
             number, record = shortening.number, shortening.record
-            return self.unfiled(task.name, Row(name, "refused", number, record, reason(number, record))), False
+            return self.unfiled(task.name, "refused", reason(number, record), number, record)
         tidiness = _library.tidied(sent)
         if self.strict and not tidiness.tidy:
-            why = untidy_reason(tidiness.reg) + " (--strict)"
-            return self.unfiled(task.name, Row(name, "refused", reason=why)), False
-        now = not (self.resumed and self.there(task.name, sent, short))
-        if now and not self.dry_run:
+            return self.unfiled(task.name, "refused", untidy_reason(tidiness.reg) + " (--strict)")
+        return Both(sent, short, shortening, tidiness)
+
+    def file(self, task: Task, both: Both) -> Union[Row, Both]:
+        """Both forms, which are filed now, or the row of a file that can't be."""
+        if self.resumed and self.there(task.name, both.sent, both.short):
+            return both
+        if not self.dry_run:
             try:
-                self.put(task.name, sent, short)
+                self.put(task.name, both.sent, both.short)
             except Unreadable as error:
-                return self.unfiled(task.name, Row(name, "unreadable", reason=str(error))), False
-        return described(name, "accepted", "yes", sent, short, shortening, tidiness), now
+                return self.unfiled(task.name, "unreadable", str(error))
+        self.now += 1
+        return both
 
     def stands(self, name: bytes, sent: bytes, earlier: Row) -> bool:
         """Was this file filed before, and are both forms still there as they were filed?"""
@@ -190,33 +227,60 @@ class Filer:
             return False
 
     def enter(self, folder: bytes) -> None:
-        """Makes a folder of FILED ready, and learns which folders it has: none can become a file."""
-        filing.make_folder(folder)
+        """Holds a folder of SENT; raises `Unreadable`. Only SENT itself may be a symbolic link."""
+        self.leave_source()
         try:
-            with os.scandir(folder) as entries:
-                self.folders = {entry.name for entry in entries if entry.is_dir()}
+            self.source = Folder(folder, follow=len(folder) < len(self.sent))
+        except OSError as error:
+            raise Unreadable(filing.why(error)) from error
+
+    def leave_source(self) -> None:
+        source, self.source = self.source, None
+        if source is not None:
+            source.close()
+
+    def make(self, folder: bytes) -> None:
+        """Holds a folder of FILED, made where it isn't there. Which folders are in it is learnt before
+        its first file: none of them can become a file."""
+        self.leave_target()
+        try:
+            if folder != self.made:
+                filing.make_folder(folder)
+                with os.scandir(folder) as entries:
+                    self.folders = {entry.name for entry in entries if entry.is_dir()}
+                self.made = folder
+            self.target = Folder(folder, follow=True)
         except OSError as error:
             raise Failed(f"{os.fsdecode(folder)}: {filing.why(error)}") from error
-        self.folder = folder
+        while self.flush and len(folder) >= len(self.filed) - 1:
+            self.touched.add(folder)
+            folder = os.path.dirname(folder)
+
+    def leave_target(self) -> None:
+        """Lets go of a folder of FILED; raises `Failed` where it was moved."""
+        target, self.target = self.target, None
+        if target is not None:
+            stands = target.stands()
+            target.close()
+            if not stands:
+                raise Failed(f"{os.fsdecode(target.path)}: moved while files were put in it")
 
     def put(self, name: bytes, sent: bytes, short: bytes) -> None:
-        """Files both forms, each at once; the shortened one first, since its name is the longer."""
-        path = self.filed + name
-        folder, _, base = path.rpartition(b"/")
-        if folder != self.folder:
-            self.enter(folder)
-        if base in self.folders or base + names.SHORT in self.folders:
+        """Puts both forms, each at once; the shortened one first, since its name is the longer."""
+        folder, _, base = (self.filed + name).rpartition(b"/")
+        if self.target is None or self.target.path != folder:
+            self.make(folder)
+        of_short = base + names.SHORT
+        if base in self.folders or of_short in self.folders:
             raise Unreadable("cannot be filed: " + os.strerror(errno.EISDIR))
-        if self.flush and folder not in self.touched:
-            above = folder
-            while len(above) >= len(self.filed) - 1:
-                self.touched.add(above)
-                above = os.path.dirname(above)
-        of_sent, of_short = self.temporary
-        filing.write(((path + names.SHORT, folder + of_short, short), (path, folder + of_sent, sent)), self.flush)
+        new_sent, new_short = self.temporary
+        filing.write(((of_short, new_short, short), (base, new_sent, sent)), self.flush, self.target)
 
-    def unfiled(self, name: bytes, row: Row) -> Row:
+    def unfiled(
+        self, name: bytes, answer: str, why: str = "", number: Optional[int] = None, record: Optional[int] = None
+    ) -> Row:
         """The row of a file that isn't filed now, with what an earlier run filed under its name."""
+        row = Row(names.quote(name), answer, number, record, why)
         if names.reserved(name):
             return row
         path = self.filed + name
@@ -229,8 +293,8 @@ class Filer:
         if sent is not None:
             shortening, due = _library.shortened(sent)
             if shortening.number == 0 and due == short:
-                of_filed = described(row.name, row.answer, "earlier", sent, due, shortening, _library.tidied(sent))
-                return of_filed._replace(number=row.number, record=row.record, reason=row.reason)
+                of_filed = described(row.name, answer, "earlier", sent, due, shortening, _library.tidied(sent))
+                return of_filed._replace(number=number, record=record, reason=why)
         return row._replace(filed="spoiled")
 
 
@@ -383,7 +447,7 @@ class Walk:
             task = self.told(entry)
             if task is None:
                 continue
-            at = names.key(task.name)
+            at = names.key(task.name) if due is not None else b""
             while due is not None and due[0] < at:
                 yield from self.gone(due[1])
                 due = next(self.earlier, None)

@@ -7,7 +7,7 @@ import heapq
 import io
 import json
 from itertools import groupby
-from typing import IO, Dict, Iterable, Iterator, List, NamedTuple, Optional, Tuple
+from typing import IO, Dict, Iterator, List, NamedTuple, Optional, Tuple
 
 from . import names
 
@@ -47,6 +47,8 @@ SUMMED = COLUMNS[COLUMNS.index("instructions_sent") : COLUMNS.index("sha256_sent
 _NUMBERS = frozenset(("number", "record", "reg", *SUMMED))
 _IS_NUMBER = tuple(name in _NUMBERS for name in COLUMNS)
 HEADER = ",".join(COLUMNS)
+#: About the bytes of a row without its name.
+ROW_BYTES = 512
 #: The answer of the last row.
 TOTAL = "total"
 
@@ -61,7 +63,12 @@ class Damaged(ValueError):
 
 def csv_line(row: Row) -> str:
     """A row as a line of CSV; no field has a line end in it."""
-    return csv_lines((row,))
+    line = ",".join(["" if value is None else str(value) for value in row])
+    if line.count(",") == len(row) - 1 and '"' not in line:
+        return line + "\n"
+    out = io.StringIO()
+    csv.writer(out, lineterminator="\n").writerow(row)
+    return out.getvalue()
 
 
 def json_line(row: Row) -> str:
@@ -201,13 +208,6 @@ def write_json(source: bytes, out: IO[str]) -> None:
         file.readline()
         for line in file:
             out.write(json_line(parse_line(line)))
-
-
-def csv_lines(some: Iterable[Row]) -> str:
-    """Rows as lines of CSV."""
-    out = io.StringIO()
-    csv.writer(out, lineterminator="\n").writerows(some)
-    return out.getvalue()
 
 
 def checked(path: bytes) -> Tuple[Iterator[Row], List[str]]:

@@ -1,7 +1,7 @@
 """Work on a row of tasks by several processes, with the results in the tasks' order.
 
-Tasks go out in chunks, in turn to each process, and at most three chunks of a process are under way,
-so memory doesn't grow with the number of tasks.
+Tasks go out in chunks, each to a process that is free. At most two chunks of a process are under way,
+and results wait for the ones before them only so far, so memory doesn't grow with the number of tasks.
 """
 
 from __future__ import annotations
@@ -12,14 +12,17 @@ import multiprocessing
 import os
 import signal
 from collections import deque
-from typing import Any, Callable, Deque, Iterable, Iterator, List, Tuple
+from multiprocessing.connection import wait
+from typing import Any, Callable, Deque, Dict, Iterable, Iterator, List, Tuple
 
 from .filing import Failed
 
-CHUNK = 64
-# Names of a chunk, so that what is under way always fits the pipes between the processes.
-_CHUNK_BYTES = 2048
-_UNDER_WAY = 3
+CHUNK = 256
+# Bytes of a chunk, so that what is under way always fits the pipes between the processes.
+_CHUNK_BYTES = 16_384
+_UNDER_WAY = 2
+# Chunks from the first whose result is due to the last that is given out, for each process.
+_AHEAD = 8
 _PR_SET_PDEATHSIG = 1
 
 #: Work on a chunk of tasks, made in each process from its number.
@@ -73,7 +76,7 @@ def _serve(link: Any, others: List[Any], parent: int, make: Callable[[int], Work
             return
 
 
-def _received(link: Any) -> List[Any]:
+def _received(link: Any) -> Any:
     try:
         good, result = link.recv()
     except (EOFError, OSError):
@@ -81,6 +84,38 @@ def _received(link: Any) -> List[Any]:
     if not good:
         raise Failed(result)
     return result
+
+
+def _give(link: Any, chunk: List[Any]) -> None:
+    """Hands a chunk to a process; where it has ended, what it told last is raised."""
+    try:
+        link.send(chunk)
+    except OSError:
+        while True:
+            _received(link)
+
+
+def _results(links: List[Any], coming: Iterator[List[Any]]) -> Iterator[Any]:
+    """The results of the chunks in their order, each done by the process that has least to do."""
+    under_way: Dict[Any, Deque[int]] = {link: deque() for link in links}
+    done: Dict[int, Any] = {}
+    given = due = 0
+    while True:
+        free = min(links, key=lambda link: len(under_way[link]))
+        if len(under_way[free]) < _UNDER_WAY and given < due + _AHEAD * len(links):
+            chunk = next(coming, None)
+            if chunk is not None:
+                _give(free, chunk)
+                under_way[free].append(given)
+                given += 1
+                continue
+        if due == given:
+            return
+        for link in wait([link for link in links if under_way[link]]):
+            done[under_way[link].popleft()] = _received(link)
+        while due in done:
+            yield done.pop(due)
+            due += 1
 
 
 def ordered(
@@ -102,19 +137,7 @@ def ordered(
             process.start()
             there.close()
             started.append((process, here))
-        waiting: Deque[Any] = deque()
-        for turn, chunk in enumerate(chunks(tasks, size, most)):
-            link = started[turn % jobs][1]
-            if len(waiting) == jobs * _UNDER_WAY:
-                yield _received(waiting.popleft())
-            try:
-                link.send(chunk)
-            except OSError:
-                while True:
-                    _received(link)
-            waiting.append(link)
-        while waiting:
-            yield _received(waiting.popleft())
+        yield from _results([link for _, link in started], chunks(tasks, size, most))
     finally:
         for _, link in started:
             link.close()

@@ -33,9 +33,9 @@ class Killed(Case):
         for at in range(1, trial.calls()):
             filed = trial.fresh()
 
-            def in_place(files, flush):
-                for path, _, data in files:
-                    fd = os.open(path, os.O_WRONLY | os.O_CREAT | os.O_TRUNC)
+            def in_place(files, flush, folder):
+                for name, _, data in files:
+                    fd = os.open(name, os.O_WRONLY | os.O_CREAT | os.O_TRUNC, dir_fd=folder.fd)
                     os.write(fd, data)
                     os.close(fd)
 

@@ -4,6 +4,7 @@ import contextlib
 import csv
 import errno
 import fcntl
+import io
 import json
 import os
 import pty
@@ -17,9 +18,8 @@ import time
 from common import Case, ROOT, halivomue, in_child, lines_of, provision, provision_here, replaced, run, sample, tree, unittest
 
 import fleet
-from halivomue import filing, names, report, work
+from halivomue import filing, names, report
 from halivomue.__main__ import main
-from halivomue.filing import Failed
 
 NOBODY = 65534
 
@@ -274,11 +274,11 @@ class Odd(Case):
         path = self.put("a.call", sample("printed"))
         before = filing.read
 
-        def late(asked):
-            if asked == path:
+        def late(name, folder=None):
+            if folder is not None:
                 os.unlink(path)
                 os.symlink(outside, path)
-            return before(asked)
+            return before(name, folder)
 
         with replaced(filing, "read", late):
             _, lines = provision_here(self.sent, self.filed)
@@ -355,10 +355,10 @@ class Changing(Case):
             self.put(name, sample("printed"))
         before = filing.read
 
-        def late(path):
-            if path.endswith(b"sent/b.call"):
-                os.unlink(path)
-            return before(path)
+        def late(name, folder=None):
+            if name == b"b.call" and folder is not None:
+                os.unlink(name, dir_fd=folder.fd)
+            return before(name, folder)
 
         with replaced(filing, "read", late):
             outcome, lines = provision_here(self.sent, self.filed)
@@ -766,28 +766,13 @@ class Terminal(Case):
 class Parts(Case):
     """Smaller things."""
 
-    def test_a_worker_that_ends_is_told(self):
-        fleet.write(self.sent, 80, 40)
-
-        def ends(*_):
-            os._exit(3)
-
-        with replaced(provision.Filer, "chunk", ends):
-            with self.assertRaises(Failed) as caught:
-                provision_here(self.sent, self.filed, jobs=2)
-        self.assertIn("ended by itself", str(caught.exception))
-
-    def test_results_come_in_order(self):
-        def make(number):
-            def slow(chunk):
-                time.sleep(0.002 * (number == 0))
-                return [value * 2 for value in chunk]
-
-            return slow
-
-        for jobs in (1, 2, 3):
-            found = [value for chunk in work.ordered(range(500), make, jobs, lambda _: 1) for value in chunk]
-            self.assertEqual(found, [2 * value for value in range(500)])
+    def test_lines_are_those_of_the_csv_module(self):
+        texts = ("", "plain", "a,b", 'a"b', '"', ",", " a ", "größe", "\\x0a", "None", "'", "=1")
+        for number, text in enumerate(texts):
+            for row in (report.Row(text, "accepted", None, 0, text, bytes_sent=number), report.Row(text, text, *[text] * 16)):
+                out = io.StringIO()
+                csv.writer(out, lineterminator="\n").writerow(row)
+                self.assertEqual(report.csv_line(row), out.getvalue())
 
     def test_reports_are_read_as_far_as_they_are_whole(self):
         self.samples()

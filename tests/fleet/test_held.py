@@ -1,0 +1,115 @@
+"""Folders that the run holds by their descriptors, while they are moved or exchanged."""
+
+import os
+import shutil
+
+from common import Case, provision, provision_here, replaced, run, sample, tree, unittest
+
+from halivomue import filing
+from halivomue.filing import Failed
+
+
+class Sent(Case):
+    """Folders under SENT."""
+
+    def swapped(self, when):
+        """A run during which a folder of SENT is exchanged for a link to another, before its file of that number is read."""
+        outside = os.path.join(self.folder, "outside")
+        for name in ("1.call", "2.call", "3.call"):
+            self.put(f"a/{name}", sample("printed"))
+            self.put(name, sample("forwarding"), outside)
+        read, enter = filing.read, provision.Filer.enter
+        late = iter(range(1, 9))
+
+        def swap():
+            if next(late) == when:
+                os.rename(os.path.join(self.sent, "a"), os.path.join(self.folder, "moved"))
+                os.symlink(outside, os.path.join(self.sent, "a"))
+
+        def reading(name, folder=None):
+            if folder is not None and when > 0:
+                swap()
+            return read(name, folder)
+
+        def entering(filer, folder):
+            if when == 0 and not os.path.islink(folder):
+                os.rename(folder, os.path.join(self.folder, "moved"))
+                os.symlink(outside, folder)
+            enter(filer, folder)
+
+        with replaced(filing, "read", reading), replaced(provision.Filer, "enter", entering):
+            return provision_here(self.sent, self.filed)
+
+    def test_a_link_that_takes_a_folders_place_is_not_followed(self):
+        outcome, lines = self.swapped(0)
+        self.assertEqual(lines, [f"a/{number}.call: unreadable: Not a directory" for number in (1, 2, 3)])
+        self.assertEqual(outcome.done, 0)
+
+    def test_nor_while_the_folder_is_held(self):
+        outcome, lines = self.swapped(2)
+        self.assertEqual((outcome.done, lines), (3, []))
+        for name in ("1.call", "2.call", "3.call"):
+            with open(os.path.join(self.filed, "a", name), "rb") as file:
+                self.assertEqual(file.read(), sample("printed"))
+
+
+class Filed(Case):
+    """Folders under FILED."""
+
+    def test_a_folder_of_filed_that_is_moved(self):
+        """Where the run puts files in a folder that isn't in its place any more, it fails, and reports none of them."""
+        for name in ("a/1.call", "a/2.call", "b/1.call"):
+            self.put(name, sample("printed"))
+        folder, aside = os.path.join(self.filed, "a"), os.path.join(self.folder, "aside")
+
+        def gone():
+            os.rename(folder, aside)
+
+        def another():
+            os.rename(folder, aside)
+            os.mkdir(folder)
+
+        def link():
+            os.rename(folder, aside)
+            os.symlink(self.sent, folder)
+
+        write = filing.write
+        for jobs, move in ((1, gone), (2, another), (1, link)):
+            def late(files, flush, target, move=move):
+                if files[1][0] == b"2.call":
+                    move()
+                write(files, flush, target)
+
+            with replaced(filing, "write", late), self.assertRaises(Failed) as caught:
+                provision_here(self.sent, self.filed, jobs=jobs)
+            self.assertEqual(str(caught.exception), f"{folder}: moved while files were put in it")
+            self.assertEqual(tree(os.path.join(self.sent, "a")).keys(), {b"1.call", b"2.call"})
+            if os.path.islink(folder):
+                os.unlink(folder)
+            provision_here(self.sent, self.filed)
+            run("audit", self.filed)
+            for left in (aside, self.filed):
+                shutil.rmtree(left)
+
+    def test_sent_and_filed_may_be_links(self):
+        self.put("a.call", sample("printed"))
+        self.put("b/b.call", sample("printed"))
+        provision_here(self.sent, self.filed + "2")
+        os.mkdir(self.filed)
+        os.symlink("sent", os.path.join(self.folder, "to-sent"))
+        os.symlink("filed", os.path.join(self.folder, "to-filed"))
+        outcome, lines = provision_here(os.path.join(self.folder, "to-sent"), os.path.join(self.folder, "to-filed"))
+        self.assertEqual((outcome.done, lines), (2, []))
+        self.assertEqual(tree(self.filed), tree(self.filed + "2"))
+
+    def test_no_descriptor_is_left_open(self):
+        for name in ("a.call", "b/b.call", "c/c.call"):
+            self.put(name, sample("printed"))
+        before = os.listdir("/proc/self/fd")
+        for jobs in (1, 2):
+            provision_here(self.sent, self.filed + str(jobs), jobs=jobs)
+            self.assertEqual(os.listdir("/proc/self/fd"), before)
+
+
+if __name__ == "__main__":
+    unittest.main()
