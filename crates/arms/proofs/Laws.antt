@@ -1,5 +1,5 @@
 -- Laws of the joined arms.
-use Prim.Native.Nat.{ℕ, suc, _+_}
+use Prim.Native.Nat.{ℕ, zero, suc, _+_}
 use native.Mathlib.Numerals.{add-one}
 use mathlib.Core.Path.{_≡_, refl, sym, ap, _∙_}
 use mathlib.Core.Bool.{true}
@@ -25,6 +25,12 @@ use Rattle.arms.specs.Joined.{Joined, joined, joinEnd, joinArms, joinFro
 pub follow-step : (P : List (List Code)) (n b : ℕ) → g.follow (suc n) P b ≡ g.follow n P (g.past b (loneOf (getD P b [])))
 unfolding g.follow
 follow-step P n b = refl
+
+-- a block that isn't left stays the one that is reached
+pub follow-fixed : (P : List (List Code)) (n b : ℕ) → g.past b (loneOf (getD P b [])) ≡ b → g.follow n P b ≡ b
+unfolding g.follow
+follow-fixed P zero b e = refl
+follow-fixed P (suc n) b e = ap (g.follow n P) e ∙ follow-fixed P n b e
 
 module _ (table : List ℕ) (k : ℕ) (s : Joined) where
   -- block k, by the end that its bytes show

@@ -27,7 +27,11 @@ fn follow(code: &[u8], table: &[u8], b: BlockId) -> BlockId
     let mut at = b;
     let mut k: u32 = 0;
     while k < 4 {
-        at = past(at, ends::lone_of(blocks::block(code, table, at.0 as usize)));
+        let next = past(at, ends::lone_of(blocks::block(code, table, at.0 as usize)));
+        if next.0 == at.0 {
+            return at;
+        }
+        at = next;
         k += 1;
     }
     at

@@ -87,14 +87,7 @@ fn note_call(known: &mut [u64], copy: &mut [u32], h: Held, d: OptReg) -> Held
 }
 
 // What is known after the instruction of record k, by its kind: most write p1 alone; TakeBounds writes three registers.
-fn note(
-    known: &mut [u64],
-    copy: &mut [u32],
-    h: Held,
-    facts: &[u64],
-    code: &[u8],
-    k: usize,
-) -> Held
+fn note(known: &mut [u64], copy: &mut [u32], h: Held, facts: &[u64], code: &[u8], k: usize) -> Held
     requires { ⌜ Roomy h (now known) (now copy) ⌝ }
     ensures { λ z. ⌜ (heldIn z (now (known .exit)) (now (copy .exit))
         ≡ noteOf (factsIn (now (facts .entry)) none 0) (heldIn h (now (known .entry)) (now (copy .entry))) (instOf (recordAt (now (code .entry)) k)))

@@ -79,7 +79,16 @@ pub extern "C" fn halivomue_emit(
         (now (registers .entry)) (now (kinds .entry)) (now (body .entry)) (now (operands .entry)) grown (now (out .entry)) .output ⌝ }
 {
     let a = output::emit(
-        out, registers, kinds, work, table, facts, body, operands, arms, grown,
+        out,
+        registers,
+        kinds,
+        work,
+        table,
+        facts,
+        body,
+        operands,
+        arms,
+        grown,
     );
     a.length
 }

@@ -10,7 +10,7 @@ use Rattle.ends.specs.declared.End.{End}
 use Rattle.ends.specs.Ends.{loneOf}
 use Rattle.blocks.proofs.Parts.{block-codes}
 use Rattle.steps.specs.EqualArms.{past, follow, reachedFrom}
-use Rattle.arms.proofs.Laws.{follow-step}
+use Rattle.arms.proofs.Laws.{follow-step, follow-fixed}
 use Rattle.blocks.specs.Blocks.{blocksOf}
 use Rattle.arms.proofs.follow.Statement.{statement}
 use Rattle.arms.proofs.follow.Tie as tie
@@ -37,6 +37,17 @@ lone-of-requires c κs = search needs
 past-requires : tie.Need-past-requires Inv-loop μ-loop
 past-requires c κs = search needs
 
+returns : tie.Need-returns Inv-loop μ-loop
+returns c =
+    let q = c .before .before .before in
+    let l = q .before .before .before .before .before in
+    let a = l .before .before .before .args in
+    let p = blocksOf (now (a .code)) (now (a .table)) in
+    let b = l .loop .at .0 in
+    let lone = q .before .lone-of .ensures ∙ ap loneOf (ap codesOf (q .before .before .block .ensures) ∙ block-codes (now (a .code)) (now (a .table)) b) in
+    let t = q .past .ensures ∙ ap (λ (x : End). blockOf (past b x)) lone in
+    ap blockOf (sym (follow-fixed p (4 - l .loop .k) b (sym (ap (λ (x : BlockId). x .0) t) ∙ c .if1 .taken)) ∙ l .loop .inv .2)
+
 add-k : tie.Need-add-k Inv-loop μ-loop
 add-k c = search needs
 
@@ -45,24 +56,25 @@ loop-less c = search needs
 
 loop-again : tie.Need-loop-again Inv-loop μ-loop
 loop-again c =
-    let l = c .before .before .before .before .before in
+    let q = c .before .before .before in
+    let l = q .before .before .before .before .before in
     let a = l .before .before .before .args in
     let p = blocksOf (now (a .code)) (now (a .table)) in
     let b = l .loop .at .0 in
-    let n : 4 - l .loop .k ≡ suc (4 - (l .loop .k + 1)) = omega arith in
-    let lone = c .before .lone-of .ensures ∙ ap loneOf (ap codesOf (c .before .before .block .ensures) ∙ block-codes (now (a .code)) (now (a .table)) b) in
-    let t = c .past .ensures ∙ ap (λ (x : End). blockOf (past b x)) lone in (
+    let lone = q .before .lone-of .ensures ∙ ap loneOf (ap codesOf (q .before .before .block .ensures) ∙ block-codes (now (a .code)) (now (a .table)) b) in
+    let t = q .past .ensures ∙ ap (λ (x : End). blockOf (past b x)) lone in
+    let n : 4 - l .loop .k ≡ suc (4 - (l .loop .k + 1)) = omega arith in (
       omega arith,
-      omega (arith, c .past .ok),
+      omega (arith, q .past .ok),
       ap (λ (x : BlockId). follow (4 - (l .loop .k + 1)) p (x .0)) t
           ∙ sym (follow-step p (4 - (l .loop .k + 1)) b)
           ∙ ap (λ (m : ℕ). follow m p b) (sym n)
           ∙ l .loop .inv .2,
     )
 
-returns : tie.Need-returns Inv-loop μ-loop
+returns-2 : tie.Need-returns-2 Inv-loop μ-loop
 unfolding follow
-returns c =
+returns-2 c =
     let l = c .before in
     let a = l .before .before .before .args in
     let p = blocksOf (now (a .code)) (now (a .table)) in
@@ -80,7 +92,8 @@ follow-spec =
     block-requires
     lone-of-requires
     past-requires
+    returns
     add-k
     loop-less
     loop-again
-    returns)
+    returns-2)
