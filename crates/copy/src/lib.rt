@@ -6,7 +6,6 @@ ghost use lib.ListN.{take, drop};
 ghost use Rattle.roles.specs.Roles.{usesOf, numbersOf};
 ghost use Rattle.procedure.specs.Procedure.{codesOf};
 ghost use Rattle.procedure.specs.Lists.{times};
-ghost use Rattle.ends.specs.Ends.{codeAt};
 ghost use Rattle.ends.specs.Forms.{fixedOf};
 ghost use Rattle.steps.specs.Copy as steps;
 ghost use Rattle.facts.specs.Storage.{factsIn, usesIn};
@@ -268,28 +267,15 @@ fn nothing() -> Copied
     }
 }
 
-// Instruction k of a target; past its end that of a blank record, without decoding one.
-fn code_at(code: &[u8], k: usize) -> Code
-    ensures { λ z. ⌜ z ≡ codeAt (codesOf (now (code .entry))) k ⌝ }
-{
-    if k < code.len() / 32 {
-        return codec::code_of(format::record_at(code, k));
-    }
-    Code {
-        inst: Inst::Const { dst: Reg(0), v: 0 },
-        stmt: StmtId(0),
-    }
-}
-
 // The first four instructions of a target, held by value.
 fn taken(code: &[u8]) -> [Code; 4]
     ensures { λ z. ⌜ z ≡ firstFour (codesOf (now (code .entry))) ⌝ }
 {
     [
-        code_at(code, 0),
-        code_at(code, 1),
-        code_at(code, 2),
-        code_at(code, 3),
+        codec::code_of(format::record_at(code, 0)),
+        codec::code_of(format::record_at(code, 1)),
+        codec::code_of(format::record_at(code, 2)),
+        codec::code_of(format::record_at(code, 3)),
     ]
 }
 

@@ -61,15 +61,6 @@ fixed-kind (i.Ret v) = refl
 fixed-kind (i.Unreachable w) = refl
 fixed-kind i.Stmt = refl
 
-fixed-past : (k : ℕ) → 23 ≤ k → fixedKind k ≡ fixedKind 23
-fixed-past k h = rw (ne-eqb k 0 (omega arith), ne-eqb k 1 (omega arith), ne-eqb k 3 (omega arith))
-
--- no other record is rescued
-pub other-record : (facts : List ℕ) (r : Record) → (r .kind ≡ 0 → ⊥) → (r .kind ≡ 1 → ⊥) → (r .kind ≡ 3 → ⊥) → false ≡ rescuedBy facts (instOf r)
-other-record facts r a b c =
-    neither _ refl
-    (sym (fixed-kind (instOf r)) ∙ same-kind fixedKind fixed-past r ∙ rw (ne-eqb (r .kind) 0 a, ne-eqb (r .kind) 1 b, ne-eqb (r .kind) 3 c))
-
 -- each of the three is rescued where its register is single
 module _ (facts : List ℕ) (d : Reg) where
   pub const-rescued : (v : ℕ) → singleIn facts (d .0) ≡ rescuedBy facts (i.Const d v)
@@ -83,6 +74,15 @@ module _ (facts : List ℕ) (d : Reg) where
   pub address-rescued : (s : AddrSpace) (o : ℕ) → singleIn facts (d .0) ≡ rescuedBy facts (i.AddrOf d s o)
   unfolding fixedOf formOf anyOf
   address-rescued s o = sym (or-false (singleIn facts (d .0)))
+
+fixed-past : (k : ℕ) → 23 ≤ k → fixedKind k ≡ fixedKind 23
+fixed-past k h = rw (ne-eqb k 0 (omega arith), ne-eqb k 1 (omega arith), ne-eqb k 3 (omega arith))
+
+-- no other record is rescued
+pub other-record : (facts : List ℕ) (r : Record) → (r .kind ≡ 0 → ⊥) → (r .kind ≡ 1 → ⊥) → (r .kind ≡ 3 → ⊥) → false ≡ rescuedBy facts (instOf r)
+other-record facts r a b c =
+    neither _ refl
+    (sym (fixed-kind (instOf r)) ∙ same-kind fixedKind fixed-past r ∙ rw (ne-eqb (r .kind) 0 a, ne-eqb (r .kind) 1 b, ne-eqb (r .kind) 3 c))
 
 -- a block that stays, by the tests in their order
 module _ (mark last : Bool) (c : List Code) where

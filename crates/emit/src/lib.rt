@@ -300,7 +300,8 @@ pub fn put_heads(
     seen: &[bool],
 ) -> usize
     ensures { λ z. ⌜ place (now (out .exit)) z
-        ≡ puts (headsFrom 0 keep (emptyIn 0 (marksIn (now (seen .entry))) (blockRecordsIn (now (work .entry)) (now (table .entry))))) (place (now (out .entry)) at) ⌝ }
+        ≡ puts (headsFrom 0 keep (emptyIn 0 (marksIn (now (seen .entry))) (blockRecordsIn (now (work .entry)) (now (table .entry)))))
+        (place (now (out .entry)) at) ⌝ }
 {
     let nb = table.len() / 32;
     let mut top = at;

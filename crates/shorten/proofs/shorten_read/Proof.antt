@@ -72,7 +72,8 @@ returns-5 c =
     let k = j .before .before in
     let a = k .before .before .before .before .before .before .args in
     c .before .before .shorten-small .ensures
-    (fitting (now (a .b)) (a .l) 24 (k .before .part .ensures) (k .if2 .left) (j .before .part2 .ensures) (j .if3 .left) (i .before .part3 .ensures) (i .if4 .left))
+    (fitting (now (a .b)) (a .l) 24 (k .before .part .ensures) (k .if2 .left) (j .before .part2 .ensures) (j .if3 .left) (i .before .part3 .ensures)
+    (i .if4 .left))
 
 pub shorten-read-spec : {M : Type 1} → statement M
 shorten-read-spec =
