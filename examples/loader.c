@@ -6,7 +6,7 @@
  *   room   HALIVOMUE_ROOM bytes for the result of any procedure, or 32 bytes for each of its registers, blocks and so
  *          on where it is known to be small: too little is answered by HALIVOMUE_OUTPUT, and nothing is written
  *   stack  HALIVOMUE_SHORTEN_STACK bytes below the caller's frame, HALIVOMUE_TIDY_STACK where only tidy is asked
- *   code   38 KB and 2 KB of constants for both functions (35 KB for shorten alone), no writable data; of the C library
+ *   code   40 KB and 2 KB of constants for both functions (37 KB for shorten alone), no writable data; of the C library
  *          nothing but memcpy, memmove, memset and memcmp
  */
 #include <halivomue.h>
