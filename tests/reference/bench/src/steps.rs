@@ -87,6 +87,13 @@ struct Storage {
     facts: Vec<u64>,
 }
 
+/// Calls a function with slices that it changes, slices that it looks at, each as a pointer and a length, and one number.
+macro_rules! call {
+    ($function:expr, ($($changed:expr),*), ($($seen:expr),*), $number:expr) => {
+        ($function)($($changed.as_mut_ptr(), $changed.len(),)* $($seen.as_ptr(), $seen.len(),)* $number)
+    };
+}
+
 /// A file's parts, and storage that is enough for it.
 pub struct Opened<'a> {
     parts: [&'a [u8]; 6],
@@ -127,48 +134,19 @@ impl Opened<'_> {
         let [registers, _, body, code, operands, arms] = self.parts;
         // The functions stay within these slices.
         unsafe {
-            let ran = (steps.run)(
-                s.work.as_mut_ptr(),
-                s.work.len(),
-                s.table.as_mut_ptr(),
-                s.table.len(),
-                s.kinds.as_mut_ptr(),
-                s.kinds.len(),
-                s.known.as_mut_ptr(),
-                s.known.len(),
-                s.copy.as_mut_ptr(),
-                s.copy.len(),
-                s.facts.as_mut_ptr(),
-                s.facts.len(),
-                operands.as_ptr(),
-                operands.len(),
-                registers.as_ptr(),
-                registers.len(),
-                body.as_ptr(),
-                body.len(),
-                code.len() / RECORD,
+            let ran = call!(
+                steps.run,
+                (s.work, s.table, s.kinds, s.known, s.copy, s.facts),
+                (operands, registers, body),
+                code.len() / RECORD
             );
+            let kinds = &s.kinds[..ran.fresh];
             ran.edited.then(|| {
-                (steps.emit)(
-                    out.as_mut_ptr(),
-                    out.len(),
-                    registers.as_ptr(),
-                    registers.len(),
-                    s.kinds.as_ptr(),
-                    ran.fresh,
-                    s.work.as_ptr(),
-                    s.work.len(),
-                    s.table.as_ptr(),
-                    s.table.len(),
-                    s.facts.as_ptr(),
-                    s.facts.len(),
-                    body.as_ptr(),
-                    body.len(),
-                    operands.as_ptr(),
-                    operands.len(),
-                    arms.as_ptr(),
-                    arms.len(),
-                    ran.grown as u32,
+                call!(
+                    steps.emit,
+                    (out),
+                    (registers, kinds, s.work, s.table, s.facts, body, operands, arms),
+                    ran.grown as u32
                 )
             })
         }
