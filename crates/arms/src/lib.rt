@@ -1,9 +1,11 @@
 ghost use mathlib.Core.Path.{_≡_};
 ghost use mathlib.Core.Bool.{Bool, true, false};
+ghost use Prim.Native.Nat.{_-_, _/_, _≤_};
+ghost use lib.ListN.{length};
 ghost use Rattle.codec.specs.Codec.{blockOf};
 ghost use Rattle.steps.specs.EqualArms as steps;
 ghost use Rattle.blocks.specs.Blocks.{blocksOf};
-ghost use Rattle.arms.specs.Joined.{joined, joinMet, joinArms, equalArmsIn};
+ghost use Rattle.arms.specs.Joined.{joined, joinMet, joinArms, joinFrom, equalArmsIn};
 use ends::End;
 use inst::BlockId;
 use inst::Inst;
@@ -48,7 +50,7 @@ fn meet(code: &[u8], table: &[u8], k: usize) -> Meeting
     ensures { λ m. ⌜ ((edited : Bool) → joinMet (now (table .entry)) m k (joined (now (code .entry)) edited)
         ≡ joinArms (now (table .entry)) k (joined (now (code .entry)) edited)) ⌝ }
 {
-    let e = ends::end_of(blocks::block(code, table, k));
+    let e = blocks::end_at(code, table, k);
     match e {
         End::Br(_) => Meeting::Apart,
         End::CondBr(_, t, f) => {
@@ -78,16 +80,62 @@ fn join_arms(code: &mut [u8], table: &[u8], k: usize, edited: bool) -> bool
     }
 }
 
+// A glance at two arms: where it says yes, they lead to two blocks, and neither is one instruction alone that leads on.
+fn lead_apart(code: &[u8], table: &[u8], t: BlockId, f: BlockId) -> bool
+    ensures { λ z. ⌜ (z ≡ true → (t .0 ≡ f .0 → ⊥)
+        × (steps.reachedFrom (blocksOf (now (code .entry)) (now (table .entry))) (t .0) ≡ t .0)
+        × (steps.reachedFrom (blocksOf (now (code .entry)) (now (table .entry))) (f .0) ≡ f .0)) ⌝ }
+{
+    if t.0 == f.0 {
+        return false;
+    }
+    if blocks::is_lone(code, table, t.0 as usize) {
+        return false;
+    }
+    !blocks::is_lone(code, table, f.0 as usize)
+}
+
+// A glance at block k: where it says yes, it has no arms, or they don't meet.
+fn apart(code: &[u8], table: &[u8], k: usize) -> bool
+    ensures { λ z. ⌜ (z ≡ true → (edited : Bool)
+        → joinArms (now (table .entry)) k (joined (now (code .entry)) edited) ≡ joined (now (code .entry)) edited) ⌝ }
+{
+    let e = blocks::end_at(code, table, k);
+    match e {
+        End::Br(_) => true,
+        End::CondBr(_, t, f) => lead_apart(code, table, t, f),
+        End::Case(_) => true,
+        End::Other => true,
+    }
+}
+
+// The first block from `first` on whose arms may meet, or the end: most blocks are passed here, at little cost.
+fn next_meeting(code: &[u8], table: &[u8], first: usize) -> usize
+    ensures { λ z. ⌜ (first ≤ z) × ((edited : Bool)
+        → joinFrom (now (table .entry)) (length (now (table .entry)) / 32 - z) z (joined (now (code .entry)) edited)
+        ≡ joinFrom (now (table .entry)) (length (now (table .entry)) / 32 - first) first (joined (now (code .entry)) edited)) ⌝ }
+{
+    let n = table.len() / 32;
+    let mut k = first;
+    while k < n {
+        if !apart(code, table, k) {
+            return k;
+        }
+        k += 1;
+    }
+    k
+}
+
 // Each CondBr whose arms reach one block becomes a Br there, blocks ascending; true where one did.
 pub fn equal_arms(code: &mut [u8], table: &[u8]) -> bool
     ensures { λ z. ⌜ joined (now (code .exit)) z ≡ equalArmsIn (now (table .entry)) (now (code .entry)) ⌝ }
 {
     let n = table.len() / 32;
     let mut edited = false;
-    let mut k = 0;
+    let mut k = next_meeting(code, table, 0);
     while k < n {
         edited = join_arms(code, table, k, edited);
-        k += 1;
+        k = next_meeting(code, table, k + 1);
     }
     edited
 }
@@ -97,13 +145,13 @@ pub fn none_meet(code: &[u8], table: &[u8]) -> bool
     ensures { λ z. ⌜ (z ≡ true → equalArmsIn (now (table .entry)) (now (code .entry)) ≡ joined (now (code .entry)) false) ⌝ }
 {
     let n = table.len() / 32;
-    let mut k = 0;
+    let mut k = next_meeting(code, table, 0);
     while k < n {
         let m = meet(code, table, k);
         if let Meeting::At(_) = m {
             return false;
         }
-        k += 1;
+        k = next_meeting(code, table, k + 1);
     }
     true
 }

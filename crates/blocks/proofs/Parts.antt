@@ -101,17 +101,37 @@ module _ {A : Type 0} (l : List A) (s e : ℕ) where
           let x : min e (length l) - min s (min e (length l)) ≡ 0 = omega arith in
           rw (x, drop-of-length-le l {i = s} (omega arith)) (sym (take-nil (e - s)))
 
+-- the records of a block's bytes, one by one
+module _ (code : List ℕ) (r : Record) where
+  abbrev pub end-within : ℕ
+  end-within = endIn (length code / 32) (r .p2)
+
+  abbrev pub start-within : ℕ
+  start-within = startIn (length code / 32) (r .p1) (r .p2)
+
+  pub records-between : recordsOf (bytesOfBlock code r) ≡ take (end-within - start-within) (drop start-within (recordsOf code))
+  records-between =
+      let x : 32 * end-within - 32 * start-within ≡ 32 * (end-within - start-within) = omega arith in
+      ap (λ (i : ℕ). recordsOf (take i (drop (32 * start-within) code))) x ∙ records-part code start-within (end-within - start-within) (omega arith)
+
+  pub between-length : length (recordsOf (bytesOfBlock code r)) ≡ end-within - start-within
+  between-length =
+      let d = length-drop start-within (recordsOf code) in
+      let n = length-records code in
+      ap length records-between ∙ length-take-le (end-within - start-within) (drop start-within (recordsOf code)) (omega arith)
+
+  pub between-at : (j : ℕ) → j < end-within - start-within → recordAt (bytesOfBlock code r) j ≡ recordAt code (start-within + j)
+  between-at j h =
+      ap (λ (l : List Record). getD l j blank) records-between
+      ∙ getD-take (end-within - start-within) (drop start-within (recordsOf code)) j blank h
+      ∙ getD-drop start-within (recordsOf code) j blank
+
 module _ (code : List ℕ) where
   -- a block's bytes hold its records
   pub records-in : (r : Record) → recordsOf (bytesOfBlock code r) ≡ recordsOfBlock (recordsOf code) r
   records-in r =
-      let n = length code / 32 in
-      let e = endIn n (r .p2) in
-      let s = startIn n (r .p1) (r .p2) in
-      let x : 32 * e - 32 * s ≡ 32 * (e - s) = omega arith in
       let m = length-records code in
-      ap (λ (i : ℕ). recordsOf (take i (drop (32 * s) code))) x
-      ∙ records-part code s (e - s) (omega arith)
+      records-between code r
       ∙ ap (λ (i : ℕ). take (min (r .p2) i - min (r .p1) (min (r .p2) i)) (drop (min (r .p1) (min (r .p2) i)) (recordsOf code))) (sym m)
       ∙ kept-within (recordsOf code) (r .p1) (r .p2)
 

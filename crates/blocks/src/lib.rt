@@ -1,8 +1,13 @@
 ghost use mathlib.Core.Path.{_≡_};
+ghost use mathlib.Core.List.{[]};
 ghost use Prim.Native.Nat.{ℕ, min};
+ghost use lib.Dec.{eqb};
+ghost use lib.ListN.{length, getD};
 ghost use Rattle.format.specs.Record.{recordAt};
-ghost use Rattle.blocks.specs.Blocks.{partBytes, blockBytes};
+ghost use Rattle.ends.specs.Ends.{endOf};
+ghost use Rattle.blocks.specs.Blocks.{partBytes, blockBytes, blocksOf};
 ghost use Rattle.blocks.specs.Rewrite as spec;
+use ends::End;
 use inst::Inst;
 
 // The lesser of two numbers.
@@ -27,6 +32,26 @@ pub fn block<'a>(code: &'a [u8], table: &[u8], k: usize) -> &'a [u8]
 {
     let r = format::record_at(table, k);
     part(code, r.p1, r.p2)
+}
+
+// How block k ends, by its last record alone.
+pub fn end_at(code: &[u8], table: &[u8], k: usize) -> End
+    ensures { λ r. ⌜ r ≡ endOf (getD (blocksOf (now (code .entry)) (now (table .entry))) k []) ⌝ }
+{
+    let r = format::record_at(table, k);
+    let end = least(r.p2 as usize, code.len() / 32);
+    if end <= r.p1 as usize {
+        return End::Other;
+    }
+    ends::end_in(format::record_at(code, end - 1))
+}
+
+// Block k has one instruction.
+pub fn is_lone(code: &[u8], table: &[u8], k: usize) -> bool
+    ensures { λ z. ⌜ z ≡ eqb (length (getD (blocksOf (now (code .entry)) (now (table .entry))) k [])) 1 ⌝ }
+{
+    let r = format::record_at(table, k);
+    r.p1 as usize + 1 == least(r.p2 as usize, code.len() / 32)
 }
 
 // A block's code without its last instruction.

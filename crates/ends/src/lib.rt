@@ -34,7 +34,7 @@ pub fn view_of(i: Inst) -> End
 }
 
 // The same of a record: only its kind and an end's own fields are read.
-fn end_in(r: Record) -> End
+pub fn end_in(r: Record) -> End
     ensures { λ e. ⌜ e ≡ viewOf (instOf r) ⌝ }
 {
     let kind = r.kind;

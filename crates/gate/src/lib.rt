@@ -1,21 +1,15 @@
 ghost use mathlib.Core.Path.{_≡_};
 ghost use mathlib.Core.List.{[]};
-ghost use Prim.Native.Nat.{ℕ};
+ghost use mathlib.Core.Bool.{Bool, false};
+ghost use Prim.Native.Nat.{ℕ, _≤_};
 ghost use lib.Dec.{leb};
-ghost use lib.ListN.{getD};
+ghost use lib.ListN.{getD, drop};
 ghost use Rattle.procedure.specs.Lists.{anyOf};
 ghost use Rattle.ends.specs.Ends.{endOf, loneOf, targets};
 ghost use Rattle.steps.specs.Gate as steps;
 ghost use Rattle.blocks.specs.Blocks.{blocksOf};
 use ends::End;
 use inst::BlockId;
-
-// How block k ends.
-pub fn end_at(code: &[u8], table: &[u8], k: usize) -> End
-    ensures { λ r. ⌜ r ≡ endOf (getD (blocksOf (now (code .entry)) (now (table .entry))) k []) ⌝ }
-{
-    ends::end_of(blocks::block(code, table, k))
-}
 
 // The end of block k where it holds nothing else.
 pub fn lone_at(code: &[u8], table: &[u8], k: usize) -> End
@@ -43,7 +37,7 @@ pub fn has_back_edge(code: &[u8], table: &[u8]) -> bool
     let n = table.len() / 32;
     let mut b = 0;
     while b < n {
-        if goes_back(b, end_at(code, table, b)) {
+        if goes_back(b, blocks::end_at(code, table, b)) {
             return true;
         }
         b += 1;
@@ -85,7 +79,7 @@ fn may_hop(code: &[u8], table: &[u8], a: usize, wide: bool) -> bool
     ensures { λ z. ⌜ z ≡ steps.mayHop wide (blocksOf (now (code .entry)) (now (table .entry)))
         a (endOf (getD (blocksOf (now (code .entry)) (now (table .entry))) a [])) ⌝ }
 {
-    let e = end_at(code, table, a);
+    let e = blocks::end_at(code, table, a);
     match e {
         End::Br(to) => to.0 as usize != a && copied(code, table, to, wide),
         End::CondBr(_, t, f) => lone_cond_br(code, table, t) || lone_cond_br(code, table, f),
@@ -94,17 +88,60 @@ fn may_hop(code: &[u8], table: &[u8], a: usize, wide: bool) -> bool
     }
 }
 
+// A glance at block a: where it says no, `may_hop` does.
+fn could_hop(code: &[u8], table: &[u8], a: usize) -> bool
+    ensures { λ z. ⌜ (z ≡ false → (wide : Bool)
+        → steps.mayHop wide (blocksOf (now (code .entry)) (now (table .entry)))
+        a (endOf (getD (blocksOf (now (code .entry)) (now (table .entry))) a [])) ≡ false) ⌝ }
+{
+    let e = blocks::end_at(code, table, a);
+    match e {
+        End::Br(to) => {
+            if to.0 as usize == a {
+                return false;
+            }
+            small::small(blocks::block(code, table, to.0 as usize))
+        }
+        End::CondBr(_, t, f) => {
+            if blocks::is_lone(code, table, t.0 as usize) {
+                return true;
+            }
+            blocks::is_lone(code, table, f.0 as usize)
+        }
+        End::Case(_) => false,
+        End::Other => false,
+    }
+}
+
+// The first block from `first` on that could hop, or the end: most blocks are passed here, at little cost.
+fn next_hop(code: &[u8], table: &[u8], first: usize) -> usize
+    ensures { λ z. ⌜ (first ≤ z) × ((wide : Bool)
+        → steps.mayThreadFrom wide (blocksOf (now (code .entry)) (now (table .entry))) z (drop z (blocksOf (now (code .entry)) (now (table .entry))))
+        ≡ steps.mayThreadFrom wide (blocksOf (now (code .entry)) (now (table .entry))) first
+        (drop first (blocksOf (now (code .entry)) (now (table .entry))))) ⌝ }
+{
+    let n = table.len() / 32;
+    let mut a = first;
+    while a < n {
+        if could_hop(code, table, a) {
+            return a;
+        }
+        a += 1;
+    }
+    a
+}
+
 // Some block has a Br that a copy may replace, or a CondBr with an arm to a lone CondBr.
 pub fn may_thread(code: &[u8], table: &[u8], wide: bool) -> bool
     ensures { λ z. ⌜ z ≡ steps.mayThread wide (blocksOf (now (code .entry)) (now (table .entry))) ⌝ }
 {
     let n = table.len() / 32;
-    let mut a = 0;
+    let mut a = next_hop(code, table, 0);
     while a < n {
         if may_hop(code, table, a, wide) {
             return true;
         }
-        a += 1;
+        a = next_hop(code, table, a + 1);
     }
     false
 }

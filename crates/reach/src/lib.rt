@@ -88,7 +88,7 @@ pub fn reached(code: &[u8], table: &[u8], arms: &[u8]) -> [bool; 160]
     let mut top = push(&mut seen, &mut stack, 0, nb, BlockId(0));
     while 0 < top {
         let b = stack[top - 1] as usize;
-        let e = gate::end_at(code, table, b);
+        let e = blocks::end_at(code, table, b);
         top = push_targets(arms, e, &mut seen, &mut stack, top - 1, nb);
     }
     seen

@@ -3,13 +3,15 @@ use Prim.Native.Nat.{ℕ, zero, suc, _+_, _/_, _≤_, _<_}
 use native.Mathlib.Numerals.{add-one}
 use native.Mathlib.Omega.{arith}
 use mathlib.Core.Path.{_≡_, refl, sym, ap, _∙_}
-use mathlib.Core.Bool.{Bool, true, false, _&&_, _||_, and-false, true≢false}
+use mathlib.Core.Bool.{Bool, true, false, _&&_, _||_, not, and-false, true≢false}
 use mathlib.Core.List.{List, [], _∷_, _++_}
-use borrow.Author.Tests.{lt-leb, le-leb, ne-eqb}
+use mathlib.Core.Logic.{_⊎_, inl, inr}
+use borrow.Author.Tests.{lt-leb, le-leb, eq-eqb, ne-eqb}
 use lib.Dec.{leb, eqb}
 use lib.ListN.{length, getD, take, drop, length-append, drop-of-length-le}
 use lib.Seq.{drop-cons, length-take-le, take-take, take-append-seam}
 use Rattle.general.proofs.Booleans.{both, neither, either, otherwise}
+use Rattle.general.proofs.Numbers.{order}
 use Rattle.format.specs.declared.Record.{Record}
 use Rattle.inst.specs.declared.Code.{Code}
 use Rattle.procedure.specs.Lists.{anyOf}
@@ -114,6 +116,15 @@ no-step wide i.Stmt q = refl
 -- the tests of an instruction's kind are those of its record's
 dupable-past : (k : ℕ) → 23 ≤ k → s.dupableKind k ≡ s.dupableKind 23
 dupable-past k h = rw (lt-leb k 2 (omega arith), le-leb 4 k (omega arith), lt-leb k 6 (omega arith))
+
+-- of the first seven kinds, all but AddrOf
+pub dupable-within : (k : ℕ) → k ≤ 6 → not (eqb k 3) ≡ s.dupableKind k
+dupable-within k h = go (order k 3) (order 3 k)
+  where
+    go : (k < 3) ⊎ (3 ≤ k) → (3 < k) ⊎ (k ≤ 3) → not (eqb k 3) ≡ s.dupableKind k
+    go (inl i) j = rw (ne-eqb k 3 (λ e. omega arith), le-leb k 2 (omega arith))
+    go (inr i) (inl j) = rw (ne-eqb k 3 (λ e. omega arith), lt-leb k 2 (omega arith), le-leb 4 k (omega arith), le-leb k 6 h)
+    go (inr i) (inr j) = rw (eq-eqb k 3 (omega arith), lt-leb k 2 (omega arith), lt-leb 4 k (omega arith))
 
 pub dupable-record : (r : Record) → dupable (instOf r) ≡ s.dupableKind (r .kind)
 dupable-record r = same-kind s.dupableKind dupable-past r

@@ -17,10 +17,10 @@ pub fn dupable(r: Record) -> bool
     ensures { λ z. ⌜ z ≡ steps.dupable (instOf r) ⌝ }
 {
     let kind = r.kind;
-    match kind {
-        0 | 1 | 2 | 4 | 5 | 6 => true,
-        _ => false,
+    if 6 < kind {
+        return false;
     }
+    kind != 3
 }
 
 fn small_end(r: Record) -> bool

@@ -130,7 +130,7 @@ fn hops(
 {
     let mut h: usize = 0;
     'hops: while h < 6 {
-        match gate::end_at(work, table, a) {
+        match blocks::end_at(work, table, a) {
             End::CondBr(c, t, e) => {
                 let z = hop_cond_br(work, table, known, copy, facts, pause, a, s, c, t, e);
                 s = z.at;

@@ -6,47 +6,53 @@ use borrow.Author.Needs.{needs}
 use denote.Ref.{now}
 use lib.ListN.{length}
 use Rattle.arms.specs.Joined.{Joined, joined, joinFrom, equalArmsIn}
-use Rattle.arms.proofs.Laws.{from-step}
+use Rattle.arms.proofs.Laws.{from-one}
 use Rattle.arms.proofs.equal_arms.Statement.{statement}
 use Rattle.arms.proofs.equal_arms.Tie as tie
 
 abbrev Inv-loop : tie.InvT-loop
 Inv-loop code₀ table n edited₀ k₀ code edited k =
-    (k ≤ n) × (n ≡ length table / 32) × (length code ≡ length code₀) × (joinFrom table (n - k) k (joined code edited) ≡ equalArmsIn table code₀)
+    (n ≡ length table / 32) × (length code ≡ length code₀) × (joinFrom table (n - k) k (joined code edited) ≡ equalArmsIn table code₀)
 
 abbrev μ-loop : tie.MeasureT-loop
 μ-loop code₀ table n edited₀ k₀ code edited k = n - k
 
+next-meeting-requires : tie.Need-next-meeting-requires Inv-loop μ-loop
+next-meeting-requires c κs = search needs
+
 loop-holds : tie.Need-loop-holds Inv-loop μ-loop
 loop-holds c =
-    let a = c .before .before .args in
+    let a = c .before .before .before .before .args in
     let e : length (now (a .table)) / 32 - 0 ≡ length (now (a .table)) / 32 = omega arith in
-    (omega arith, refl, refl, ap (λ (m : ℕ). joinFrom (now (a .table)) m 0 (joined (now (a .code)) false)) e)
+    (refl, refl, c .next-meeting .ensures .1 false ∙ ap (λ (m : ℕ). joinFrom (now (a .table)) m 0 (joined (now (a .code)) false)) e)
 
 join-arms-requires : tie.Need-join-arms-requires Inv-loop μ-loop
 join-arms-requires c κs = search needs
 
-add-k : tie.Need-add-k Inv-loop μ-loop
-add-k c = search needs
+add-next-meeting : tie.Need-add-next-meeting Inv-loop μ-loop
+add-next-meeting c = search needs
+
+next-meeting-requires-2 : tie.Need-next-meeting-requires-2 Inv-loop μ-loop
+next-meeting-requires-2 c κs = search needs
 
 loop-less : tie.Need-loop-less Inv-loop μ-loop
-loop-less c = search needs
+loop-less c = let h = c .next-meeting2 .ensures .0 in omega arith
 
 loop-again : tie.Need-loop-again Inv-loop μ-loop
 loop-again c =
-    let l = c .before .before .before .before .before in
-    let table = now (l .before .before .before .args .table) in
-    let j = c .before .before .join-arms in
+    let d = c .before .before .before .before in
+    let l = d .before .before .before in
+    let table = now (l .before .before .before .before .before .args .table) in
+    let j = d .join-arms in
     let k = l .loop .k in
     let n = length table / 32 in
     let m : n - k ≡ suc (n - (k + 1)) = omega arith in (
-      omega arith,
-      l .loop .inv .1,
-      j .kept .0 ∙ l .loop .inv .2,
-      ap (λ (s : Joined). joinFrom table (n - (k + 1)) (k + 1) s) (j .ensures)
-          ∙ sym (from-step table (n - (k + 1)) k (joined (l .loop .code) (l .loop .edited)))
-          ∙ ap (λ (x : ℕ). joinFrom table x k (joined (l .loop .code) (l .loop .edited))) (sym m)
-          ∙ l .loop .inv .3,
+      l .loop .inv .0,
+      j .kept .0 ∙ l .loop .inv .1,
+      c .next-meeting2 .ensures .1 (j .result)
+          ∙ ap (λ (s : Joined). joinFrom table (n - (k + 1)) (k + 1) s) (j .ensures)
+          ∙ sym (from-one table k (joined (l .loop .code) (l .loop .edited)) m)
+          ∙ l .loop .inv .2,
     )
 
 same-length : tie.Need-same-length Inv-loop μ-loop
@@ -56,9 +62,9 @@ returns : tie.Need-returns Inv-loop μ-loop
 unfolding joinFrom
 returns c =
     let l = c .before in
-    let table = now (l .before .before .before .args .table) in
+    let table = now (l .before .before .before .before .before .args .table) in
     let m : 0 ≡ length table / 32 - l .loop .k = omega arith in
-    ap (λ (x : ℕ). joinFrom table x (l .loop .k) (joined (l .loop .code) (l .loop .edited))) m ∙ l .loop .inv .3
+    ap (λ (x : ℕ). joinFrom table x (l .loop .k) (joined (l .loop .code) (l .loop .edited))) m ∙ l .loop .inv .2
 
 pub equal-arms-spec : {M : Type 1} → statement M
 equal-arms-spec =
@@ -66,9 +72,11 @@ equal-arms-spec =
     (tie.spec
     Inv-loop
     μ-loop
+    next-meeting-requires
     loop-holds
     join-arms-requires
-    add-k
+    add-next-meeting
+    next-meeting-requires-2
     loop-less
     loop-again
     same-length

@@ -6,11 +6,8 @@ use borrow.Author.Needs.{needs}
 use Rattle.arms.proofs.meet.Statement.{statement}
 use Rattle.arms.proofs.meet.Tie as tie
 
-block-requires : tie.Need-block-requires
-block-requires c κs = search needs
-
-end-of-requires : tie.Need-end-of-requires
-end-of-requires c κs = search needs
+end-at-requires : tie.Need-end-at-requires
+end-at-requires c κs = search needs
 
 enum-told : tie.Need-enum-told
 enum-told c = search needs
@@ -29,12 +26,12 @@ returns c edited =
     let t = c .before .before .before .before .before .before in
     let x = t .e .given .0 in
     let f = t .before .before in
-    let a = f .before .before .before .before .args in
+    let a = f .before .before .before .args in
     let table = now (a .table) in
     let s = joined (now (a .code)) edited in
     arms-differ table (a .k) s (x .0) (x .1 .0) (x .1 .1 .0)
     (c .before .before .before .before .follow .ensures) (c .before .before .before .follow2 .ensures) (c .if1 .taken)
-    ∙ by-end table (a .k) s (f .before .block .ensures) (f .end-of .ensures) (t .e .given .1)
+    ∙ by-end table (a .k) s (f .end-at .ensures) (t .e .given .1)
 
 enum-told-2 : tie.Need-enum-told-2
 enum-told-2 c = search needs
@@ -45,39 +42,38 @@ enum-told-3 c = search needs
 returns-2 : tie.Need-returns-2
 returns-2 c edited =
     let f = c .before .before in
-    let a = f .before .before .before .before .args in
-    by-end (now (a .table)) (a .k) (joined (now (a .code)) edited) (f .before .block .ensures) (f .end-of .ensures) (c .enum-told .given .1)
+    let a = f .before .before .before .args in
+    by-end (now (a .table)) (a .k) (joined (now (a .code)) edited) (f .end-at .ensures) (c .enum-told .given .1)
 
 returns-3 : tie.Need-returns-3
 returns-3 c edited =
     let t = c .before .before .before .before .before .before in
     let x = t .e .given .0 in
     let f = t .before .before in
-    let a = f .before .before .before .before .args in
+    let a = f .before .before .before .args in
     let table = now (a .table) in
     let s = joined (now (a .code)) edited in
     arms-meet table (a .k) s (x .0) (x .1 .0) (x .1 .1 .0)
     (c .before .before .before .before .follow .ensures) (c .before .before .before .follow2 .ensures) (c .if1 .left)
-    ∙ by-end table (a .k) s (f .before .block .ensures) (f .end-of .ensures) (t .e .given .1)
+    ∙ by-end table (a .k) s (f .end-at .ensures) (t .e .given .1)
 
 returns-4 : tie.Need-returns-4
 returns-4 c edited =
     let f = c .before .before in
-    let a = f .before .before .before .before .args in
-    by-end (now (a .table)) (a .k) (joined (now (a .code)) edited) (f .before .block .ensures) (f .end-of .ensures) (c .enum-told2 .given .1)
+    let a = f .before .before .before .args in
+    by-end (now (a .table)) (a .k) (joined (now (a .code)) edited) (f .end-at .ensures) (c .enum-told2 .given .1)
 
 returns-5 : tie.Need-returns-5
 returns-5 c edited =
     let f = c .before .before in
-    let a = f .before .before .before .before .args in
-    by-end (now (a .table)) (a .k) (joined (now (a .code)) edited) (f .before .block .ensures) (f .end-of .ensures) (c .enum-told3 .given .1)
+    let a = f .before .before .before .args in
+    by-end (now (a .table)) (a .k) (joined (now (a .code)) edited) (f .end-at .ensures) (c .enum-told3 .given .1)
 
 pub meet-spec : {M : Type 1} → statement M
 meet-spec =
     tie.close
     (tie.spec
-    block-requires
-    end-of-requires
+    end-at-requires
     enum-told
     enum-known-e
     follow-requires

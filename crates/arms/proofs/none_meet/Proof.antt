@@ -6,22 +6,25 @@ use borrow.Author.Needs.{needs}
 use denote.Ref.{now}
 use lib.ListN.{length}
 use Rattle.arms.specs.declared.Meeting.{Meeting}
-use Rattle.arms.specs.Joined.{Joined, joined, joinMet, joinFrom, equalArmsIn}
-use Rattle.arms.proofs.Laws.{from-step}
+use Rattle.arms.specs.Joined.{joined, joinMet, joinFrom, equalArmsIn}
+use Rattle.arms.proofs.Laws.{from-pass}
 use Rattle.arms.proofs.none_meet.Statement.{statement}
 use Rattle.arms.proofs.none_meet.Tie as tie
 
 abbrev Inv-loop : tie.InvT-loop
-Inv-loop code table n k₀ k = (k ≤ n) × (n ≡ length table / 32) × (joinFrom table (n - k) k (joined code false) ≡ equalArmsIn table code)
+Inv-loop code table n k₀ k = (n ≡ length table / 32) × (joinFrom table (n - k) k (joined code false) ≡ equalArmsIn table code)
 
 abbrev μ-loop : tie.MeasureT-loop
 μ-loop code table n k₀ k = n - k
 
+next-meeting-requires : tie.Need-next-meeting-requires Inv-loop μ-loop
+next-meeting-requires c κs = search needs
+
 loop-holds : tie.Need-loop-holds Inv-loop μ-loop
 loop-holds c =
-    let a = c .before .before .args in
+    let a = c .before .before .before .args in
     let e : length (now (a .table)) / 32 - 0 ≡ length (now (a .table)) / 32 = omega arith in
-    (omega arith, refl, ap (λ (m : ℕ). joinFrom (now (a .table)) m 0 (joined (now (a .code)) false)) e)
+    (refl, c .next-meeting .ensures .1 false ∙ ap (λ (m : ℕ). joinFrom (now (a .table)) m 0 (joined (now (a .code)) false)) e)
 
 meet-requires : tie.Need-meet-requires Inv-loop μ-loop
 meet-requires c κs = search needs
@@ -35,38 +38,35 @@ returns c e = absurd (false≢true e)
 enum-told-2 : tie.Need-enum-told-2 Inv-loop μ-loop
 enum-told-2 c = search needs
 
-add-k : tie.Need-add-k Inv-loop μ-loop
-add-k c = search needs
+add-next-meeting : tie.Need-add-next-meeting Inv-loop μ-loop
+add-next-meeting c = search needs
+
+next-meeting-requires-2 : tie.Need-next-meeting-requires-2 Inv-loop μ-loop
+next-meeting-requires-2 c κs = search needs
 
 loop-less : tie.Need-loop-less Inv-loop μ-loop
-loop-less c = search needs
+loop-less c = let h = c .next-meeting2 .ensures .0 in omega arith
 
 loop-again : tie.Need-loop-again Inv-loop μ-loop
 loop-again c =
-    let l = c .before .before .before .before in
-    let a = l .before .before .before .args in
+    let d = c .before in
+    let l = d .before .before .before .before in
+    let a = l .before .before .before .before .args in
     let table = now (a .table) in
     let s = joined (now (a .code)) false in
     let k = l .loop .k in
-    let n = length table / 32 in
-    let m : n - k ≡ suc (n - (k + 1)) = omega arith in (
-      omega arith,
-      l .loop .inv .1,
-      ap (λ (s : Joined). joinFrom table (n - (k + 1)) (k + 1) s)
-          (ap (λ (m : Meeting). joinMet table m k s) (sym (c .enum-told2 .given .1)) ∙ c .before .before .meet .ensures false)
-          ∙ sym (from-step table (n - (k + 1)) k s)
-          ∙ ap (λ (x : ℕ). joinFrom table x k s) (sym m)
-          ∙ l .loop .inv .2,
-    )
+    let m : length table / 32 - k ≡ suc (length table / 32 - (k + 1)) = omega arith in
+    let same = sym (ap (λ (m : Meeting). joinMet table m k s) (sym (d .enum-told2 .given .1)) ∙ d .before .before .meet .ensures false) in
+    (l .loop .inv .0, c .next-meeting2 .ensures .1 false ∙ sym (from-pass table k s m same) ∙ l .loop .inv .1)
 
 returns-2 : tie.Need-returns-2 Inv-loop μ-loop
 unfolding joinFrom
 returns-2 c e =
     let l = c .before in
-    let a = l .before .before .before .args in
+    let a = l .before .before .before .before .args in
     let table = now (a .table) in
     let m : 0 ≡ length table / 32 - l .loop .k = omega arith in
-    sym (ap (λ (x : ℕ). joinFrom table x (l .loop .k) (joined (now (a .code)) false)) m ∙ l .loop .inv .2)
+    sym (ap (λ (x : ℕ). joinFrom table x (l .loop .k) (joined (now (a .code)) false)) m ∙ l .loop .inv .1)
 
 pub none-meet-spec : {M : Type 1} → statement M
 none-meet-spec =
@@ -74,12 +74,14 @@ none-meet-spec =
     (tie.spec
     Inv-loop
     μ-loop
+    next-meeting-requires
     loop-holds
     meet-requires
     enum-told
     returns
     enum-told-2
-    add-k
+    add-next-meeting
+    next-meeting-requires-2
     loop-less
     loop-again
     returns-2)

@@ -12,46 +12,58 @@ use Rattle.gate.proofs.may_thread.Statement.{statement}
 use Rattle.gate.proofs.may_thread.Tie as tie
 
 abbrev Inv-loop : tie.InvT-loop
-Inv-loop code table wide n a₀ a =
-    let P = blocksOf code table in
-    (a ≤ n) × (n ≡ length table / 32) × (mayThreadFrom wide P a (drop a P) ≡ mayThread wide P)
+Inv-loop code table wide n a₀ a = let P = blocksOf code table in (n ≡ length table / 32) × (mayThreadFrom wide P a (drop a P) ≡ mayThread wide P)
 
 abbrev μ-loop : tie.MeasureT-loop
 μ-loop code table wide n a₀ a = n - a
 
+next-hop-requires : tie.Need-next-hop-requires Inv-loop μ-loop
+next-hop-requires c κs = search needs
+
 loop-holds : tie.Need-loop-holds Inv-loop μ-loop
-loop-holds c = (omega arith, refl, refl)
+loop-holds c = (refl, c .next-hop .ensures .1 (c .before .before .before .args .wide))
 
 may-hop-requires : tie.Need-may-hop-requires Inv-loop μ-loop
 may-hop-requires c κs = search needs
 
 returns : tie.Need-returns Inv-loop μ-loop
-returns c = let l = c .before .before .before in
-    let a = l .before .before .before .args in
+returns c =
+    let l = c .before .before .before in
+    let a = l .before .before .before .before .args in
     let p = blocksOf (now (a .code)) (now (a .table)) in
     let n = length-blocks (now (a .code)) (now (a .table)) in
-    hop-stop p (l .loop .a) (a .wide) p (rw n (c .before .before .loop-test .taken)) (sym (c .before .may-hop .ensures) ∙ c .if1 .taken) ∙ l .loop .inv .2
+    hop-stop p (l .loop .a) (a .wide) p (rw n (omega (arith, l .loop .inv .0, c .before .before .loop-test .taken)))
+    (sym (c .before .may-hop .ensures) ∙ c .if1 .taken)
+    ∙ l .loop .inv .1
 
-add-a : tie.Need-add-a Inv-loop μ-loop
-add-a c = search needs
+add-next-hop : tie.Need-add-next-hop Inv-loop μ-loop
+add-next-hop c = search needs
+
+next-hop-requires-2 : tie.Need-next-hop-requires-2 Inv-loop μ-loop
+next-hop-requires-2 c κs = search needs
 
 loop-less : tie.Need-loop-less Inv-loop μ-loop
-loop-less c = search needs
+loop-less c = let h = c .next-hop2 .ensures .0 in omega arith
 
 loop-again : tie.Need-loop-again Inv-loop μ-loop
-loop-again c = let l = c .before .before .before in
-    let a = l .before .before .before .args in
+loop-again c =
+    let i = c .before in
+    let l = i .before .before .before in
+    let a = l .before .before .before .before .args in
     let p = blocksOf (now (a .code)) (now (a .table)) in
     let n = length-blocks (now (a .code)) (now (a .table)) in
-    let e = hop-pass p (l .loop .a) (a .wide) p (rw n (c .before .before .loop-test .taken)) (sym (c .before .may-hop .ensures) ∙ c .if1 .left) in
-    (omega arith, l .loop .inv .1, e ∙ l .loop .inv .2)
+    let e = hop-pass p (l .loop .a) (a .wide) p (rw n (omega (arith, l .loop .inv .0, i .before .before .loop-test .taken)))
+    (sym (i .before .may-hop .ensures) ∙ i .if1 .left)
+    in
+    (l .loop .inv .0, c .next-hop2 .ensures .1 (a .wide) ∙ e ∙ l .loop .inv .1)
 
 returns-2 : tie.Need-returns-2 Inv-loop μ-loop
-returns-2 c = let l = c .before in
-    let a = l .before .before .before .args in
+returns-2 c =
+    let l = c .before in
+    let a = l .before .before .before .before .args in
     let p = blocksOf (now (a .code)) (now (a .table)) in
     let n = length-blocks (now (a .code)) (now (a .table)) in
-    hop-end p (l .loop .a) (a .wide) p (rw n (omega arith)) ∙ l .loop .inv .2
+    hop-end p (l .loop .a) (a .wide) p (rw n (omega (arith, l .loop .inv .0))) ∙ l .loop .inv .1
 
 pub may-thread-spec : {M : Type 1} → statement M
 may-thread-spec =
@@ -59,10 +71,12 @@ may-thread-spec =
     (tie.spec
     Inv-loop
     μ-loop
+    next-hop-requires
     loop-holds
     may-hop-requires
     returns
-    add-a
+    add-next-hop
+    next-hop-requires-2
     loop-less
     loop-again
     returns-2)

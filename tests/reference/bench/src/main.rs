@@ -28,8 +28,8 @@ fn shorten_into(bytes: &[u8], out: &mut [u8]) -> Shortening {
     plain::shorten_into(read, bytes, out)
 }
 
-const TURN: Duration = Duration::from_millis(10);
-const TURNS: usize = 15;
+const TURN: Duration = Duration::from_millis(50);
+const TURNS: usize = 8;
 
 /// The best time of each for one pass over the files, taken in turns.
 fn best<const N: usize>(functions: [&dyn Fn(); N]) -> [Duration; N] {

@@ -1,0 +1,72 @@
+use mathlib.Core.Path.{sym, ap, _∙_}
+use denote.Ref.{now}
+use Rattle.codec.specs.Codec.{blockOf}
+use Rattle.arms.specs.Joined.{joined}
+use Rattle.arms.proofs.Laws.{by-end, arms-differ}
+use borrow.Author.Needs.{needs}
+use Rattle.arms.proofs.apart.Statement.{statement}
+use Rattle.arms.proofs.apart.Tie as tie
+
+end-at-requires : tie.Need-end-at-requires
+end-at-requires c κs = search needs
+
+enum-told : tie.Need-enum-told
+enum-told c = search needs
+
+enum-known-e : tie.Need-enum-known-e
+enum-known-e c = search needs
+
+lead-apart-requires : tie.Need-lead-apart-requires
+lead-apart-requires c κs = search needs
+
+enum-told-2 : tie.Need-enum-told-2
+enum-told-2 c = search needs
+
+enum-told-3 : tie.Need-enum-told-3
+enum-told-3 c = search needs
+
+returns : tie.Need-returns
+returns c z edited =
+    let x = c .before .before in
+    let a = x .before .before .before .args in
+    sym (by-end (now (a .table)) (a .k) (joined (now (a .code)) edited) (x .end-at .ensures) (c .enum-told .given .1))
+
+returns-2 : tie.Need-returns-2
+returns-2 c z edited =
+    let m = c .before .before in
+    let x = m .before .before in
+    let a = x .before .before .before .args in
+    let table = now (a .table) in
+    let s = joined (now (a .code)) edited in
+    let v = m .e .given .0 in
+    let l = c .lead-apart .ensures z in
+    sym
+    (arms-differ table (a .k) s (v .0) (v .1 .0) (v .1 .1 .0) (ap blockOf (sym (l .1))) (ap blockOf (sym (l .2))) (l .0)
+    ∙ by-end table (a .k) s (x .end-at .ensures) (m .e .given .1))
+
+returns-3 : tie.Need-returns-3
+returns-3 c z edited =
+    let x = c .before .before in
+    let a = x .before .before .before .args in
+    sym (by-end (now (a .table)) (a .k) (joined (now (a .code)) edited) (x .end-at .ensures) (c .enum-told2 .given .1))
+
+returns-4 : tie.Need-returns-4
+returns-4 c z edited =
+    let x = c .before .before in
+    let a = x .before .before .before .args in
+    sym (by-end (now (a .table)) (a .k) (joined (now (a .code)) edited) (x .end-at .ensures) (c .enum-told3 .given .1))
+
+pub apart-spec : {M : Type 1} → statement M
+apart-spec =
+    tie.close
+    (tie.spec
+    end-at-requires
+    enum-told
+    enum-known-e
+    lead-apart-requires
+    enum-told-2
+    enum-told-3
+    returns
+    returns-2
+    returns-3
+    returns-4)

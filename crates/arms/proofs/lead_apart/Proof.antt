@@ -1,0 +1,50 @@
+use mathlib.Core.Path.{sym, _∙_}
+use mathlib.Core.Bool.{false≢true}
+use borrow.Author.Tests.{not-true}
+use denote.Ref.{now}
+use Rattle.blocks.specs.Blocks.{blocksOf}
+use Rattle.arms.proofs.Laws.{reached-itself}
+use borrow.Author.Needs.{needs}
+use Rattle.arms.proofs.lead_apart.Statement.{statement}
+use Rattle.arms.proofs.lead_apart.Tie as tie
+
+returns : tie.Need-returns
+returns c z = absurd (false≢true z)
+
+cast-is-lone : tie.Need-cast-is-lone
+cast-is-lone c = search needs
+
+is-lone-requires : tie.Need-is-lone-requires
+is-lone-requires c κs = search needs
+
+returns-2 : tie.Need-returns-2
+returns-2 c z = absurd (false≢true z)
+
+cast-is-lone-2 : tie.Need-cast-is-lone-2
+cast-is-lone-2 c = search needs
+
+is-lone-requires-2 : tie.Need-is-lone-requires-2
+is-lone-requires-2 c κs = search needs
+
+returns-3 : tie.Need-returns-3
+returns-3 c z =
+    let i = c .before .before .before in
+    let n = i .before .before in
+    let a = n .before .before .before .before .before .args in
+    let p = blocksOf (now (a .code)) (now (a .table)) in (
+      n .if1 .left,
+      reached-itself p (a .t .0) (sym (i .is-lone .ensures) ∙ c .before .before .if2 .left),
+      reached-itself p (a .f .0) (sym (c .is-lone2 .ensures) ∙ not-true _ z),
+    )
+
+pub lead-apart-spec : {M : Type 1} → statement M
+lead-apart-spec =
+    tie.close
+    (tie.spec
+    returns
+    cast-is-lone
+    is-lone-requires
+    returns-2
+    cast-is-lone-2
+    is-lone-requires-2
+    returns-3)

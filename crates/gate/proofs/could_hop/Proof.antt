@@ -1,0 +1,131 @@
+use mathlib.Core.Path.{sym, ap, _∙_}
+use mathlib.Core.Bool.{Bool, true≢false, not, _&&_, and-false}
+use mathlib.Core.List.{[]}
+use borrow.Author.Tests.{eq-eqb}
+use denote.Ref.{now}
+use lib.Dec.{eqb}
+use lib.ListN.{getD}
+use Rattle.procedure.specs.Procedure.{codesOf}
+use Rattle.steps.specs.Small.{small}
+use Rattle.steps.specs.Gate.{mayHop}
+use Rattle.blocks.specs.Blocks.{blocksOf}
+use Rattle.blocks.proofs.Parts.{block-codes}
+use Rattle.blocks.proofs.Ends.{not-lone}
+use Rattle.gate.proofs.Laws.{not-small}
+use borrow.Author.Needs.{needs}
+use Rattle.gate.proofs.could_hop.Statement.{statement}
+use Rattle.gate.proofs.could_hop.Tie as tie
+
+end-at-requires : tie.Need-end-at-requires
+end-at-requires c κs = search needs
+
+enum-known-e : tie.Need-enum-known-e
+enum-known-e c = search needs
+
+cast-if1 : tie.Need-cast-if1
+cast-if1 c = search needs
+
+returns : tie.Need-returns
+returns c z wide =
+    let x = c .before .before .before .before .before in
+    let a = x .before .before .before .args in
+    let h = mayHop wide (blocksOf (now (a .code)) (now (a .table))) (a .a) in
+    sym (ap h (x .end-at .ensures)) ∙ ap h (c .before .before .before .e .given .1) ∙ rw (eq-eqb _ _ (c .if1 .taken))
+
+cast-block : tie.Need-cast-block
+cast-block c = search needs
+
+block-requires : tie.Need-block-requires
+block-requires c κs = search needs
+
+small-requires : tie.Need-small-requires
+small-requires c κs = search needs
+
+enum-known-e-2 : tie.Need-enum-known-e-2
+enum-known-e-2 c = search needs
+
+cast-is-lone : tie.Need-cast-is-lone
+cast-is-lone c = search needs
+
+is-lone-requires : tie.Need-is-lone-requires
+is-lone-requires c κs = search needs
+
+returns-2 : tie.Need-returns-2
+returns-2 c z = absurd (true≢false z)
+
+cast-is-lone-2 : tie.Need-cast-is-lone-2
+cast-is-lone-2 c = search needs
+
+is-lone-requires-2 : tie.Need-is-lone-requires-2
+is-lone-requires-2 c κs = search needs
+
+enum-told : tie.Need-enum-told
+enum-told c = search needs
+
+enum-told-2 : tie.Need-enum-told-2
+enum-told-2 c = search needs
+
+returns-3 : tie.Need-returns-3
+returns-3 c z wide =
+    let m = c .before .before .before .before .before .before in
+    let x = m .before .before in
+    let a = x .before .before .before .args in
+    let p = blocksOf (now (a .code)) (now (a .table)) in
+    let h = mayHop wide p (a .a) in
+    let l = m .e .given .0 .0 .0 in
+    let s = ap small (ap codesOf (c .before .block .ensures) ∙ block-codes (now (a .code)) (now (a .table)) l) in
+    sym (ap h (x .end-at .ensures))
+    ∙ ap h (m .e .given .1)
+    ∙ ap (λ (b : Bool). not (eqb l (a .a)) && b) (sym (not-small wide p l (sym s ∙ sym (c .small .ensures) ∙ z)))
+    ∙ and-false (not (eqb l (a .a)))
+
+returns-4 : tie.Need-returns-4
+returns-4 c z wide =
+    let i = c .before .before .before in
+    let m = i .before .before .before in
+    let x = m .before .before in
+    let a = x .before .before .before .args in
+    let p = blocksOf (now (a .code)) (now (a .table)) in
+    let h = mayHop wide p (a .a) in
+    let v = m .e2 .given .0 in
+    let t = not-lone (getD p (v .1 .0 .0) []) (sym (i .is-lone .ensures) ∙ c .before .before .if2 .left) in
+    let f = not-lone (getD p (v .1 .1 .0 .0) []) (sym (c .is-lone2 .ensures) ∙ z) in
+    sym (ap h (x .end-at .ensures)) ∙ ap h (m .e2 .given .1) ∙ rw (t, f)
+
+returns-5 : tie.Need-returns-5
+returns-5 c z wide =
+    let x = c .before .before in
+    let a = x .before .before .before .args in
+    let h = mayHop wide (blocksOf (now (a .code)) (now (a .table))) (a .a) in
+    sym (ap h (x .end-at .ensures)) ∙ ap h (c .enum-told .given .1)
+
+returns-6 : tie.Need-returns-6
+returns-6 c z wide =
+    let x = c .before .before in
+    let a = x .before .before .before .args in
+    let h = mayHop wide (blocksOf (now (a .code)) (now (a .table))) (a .a) in
+    sym (ap h (x .end-at .ensures)) ∙ ap h (c .enum-told2 .given .1)
+
+pub could-hop-spec : {M : Type 1} → statement M
+could-hop-spec =
+    tie.close
+    (tie.spec
+    end-at-requires
+    enum-known-e
+    cast-if1
+    returns
+    cast-block
+    block-requires
+    small-requires
+    enum-known-e-2
+    cast-is-lone
+    is-lone-requires
+    returns-2
+    cast-is-lone-2
+    is-lone-requires-2
+    enum-told
+    enum-told-2
+    returns-3
+    returns-4
+    returns-5
+    returns-6)
