@@ -65,9 +65,6 @@ address-exists n r f = f ∙ ap (λ (b : Bool). ltb (r .p1) (n .registers) && (b
 pub past-row : (k op : ℕ) → 23 ≤ k → [] ≡ getD (instructionPlaces op) k []
 past-row k op h = ⊎-elim (λ (e : 23 ≡ k). at-key (instructionPlaces op) [] (sym e)) (λ (i : 23 < k). at-rest (instructionPlaces op) [] i) (eq-or-lt-of-le h)
 
-pub past-kinds : (r : Record) → 23 ≤ r .kind → [] ≡ getD (instructionPlaces (r .op)) (r .kind) []
-past-kinds r h = past-row (r .kind) (r .op) h
-
 -- the kinds whose places take any number
 abbrev Plainly : Record → ℕ → ℕ → Type 0
 Plainly r k op = zeros (drop (getD listedPlaces k 0) (fields r)) ≡ allFit (getD (instructionPlaces op) k []) (fields r)

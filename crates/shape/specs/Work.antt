@@ -18,3 +18,7 @@ below n (p ∷ ps) = ltb p n && below n ps
 -- how many places each kind of instruction lists; 7 where not every number fits them, or the op decides
 abbrev pub listedPlaces : List ℕ
 listedPlaces = 3 ∷ 3 ∷ 2 ∷ 7 ∷ 4 ∷ 3 ∷ 3 ∷ 3 ∷ 6 ∷ 2 ∷ 2 ∷ 4 ∷ 3 ∷ 7 ∷ 4 ∷ 2 ∷ 3 ∷ 7 ∷ 1 ∷ 3 ∷ 2 ∷ 7 ∷ 1 ∷ 0 ∷ []
+
+-- how many of its first places each kind of instruction below 16 names as registers
+abbrev pub leadingRegisters : List ℕ
+leadingRegisters = 1 ∷ 1 ∷ 2 ∷ 1 ∷ 4 ∷ 3 ∷ 3 ∷ 3 ∷ 5 ∷ 2 ∷ 2 ∷ 3 ∷ 1 ∷ 2 ∷ 4 ∷ 2 ∷ []
