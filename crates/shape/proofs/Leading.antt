@@ -1,5 +1,5 @@
 -- Laws of the registers that an instruction names in its first places.
-use Prim.Native.Nat.{ℕ, zero, suc, _+_, _*_, _^_, _/_, _%_, _≤_, _<_}
+use Prim.Native.Nat.{ℕ, zero, suc, _+_, _≤_, _<_}
 use native.Mathlib.Nat.{eq-or-lt-of-le}
 use native.Mathlib.Omega.{arith}
 use mathlib.Core.Logic.{⊎-elim}
@@ -18,15 +18,6 @@ use Rattle.shape.specs.Work.{below, leadingRegisters}
 use Rattle.shape.specs.declared.exist.Counts.{Counts}
 use Rattle.shape.specs.Exist.{allExist}
 use Rattle.shape.proofs.Laws.{address-exists, past-row}
-
--- the digits of the packed number
-abbrev Digit : ℕ → Type 0
-Digit k = 0x2421322533341211 / 2 ^ (4 * k) % 16 ≡ getD leadingRegisters k 0
-
-pub digits : (k : ℕ) → k < 16 → Digit k
-digits =
-    each Digit 16
-    ((((((((((((((((tt, refl), refl), refl), refl), refl), refl), refl), refl), refl), refl), refl), refl), refl), refl), refl), refl)
 
 abbrev larger : ℕ → ℕ → ℕ
 larger a b = cond (ltb a b) b a
