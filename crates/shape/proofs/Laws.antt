@@ -7,9 +7,10 @@ use mathlib.Core.Path.{_≡_, refl, sym, ap, subst, _∙_}
 use mathlib.Core.Bool.{Bool, true, false, _&&_, cond}
 use mathlib.Core.List.{List, [], _∷_}
 use lib.Dec.{leb, ltb, eqb, leb·suc-suc, leb·zero, leb·suc-zero, eqb·suc-zero}
-use borrow.Author.Tests.{lt-ltb, le-ltb, lt-leb, ne-eqb, eq-eqb}
+use borrow.Author.Tests.{lt-ltb, le-ltb, lt-leb, ne-eqb, eq-eqb, eqb-true, eqb-false}
 use lib.ListN.{length, getD, drop, drop-of-length-le, List·getD-eq-default}
 use Rattle.general.proofs.Lists.{at-rest}
+use Rattle.general.proofs.Booleans.{and-first, and-second}
 pub use Rattle.general.proofs.Booleans.{both, neither}
 pub use Rattle.general.proofs.Lists.{at-key}
 use Rattle.format.specs.declared.Record.{Record}
@@ -18,6 +19,19 @@ use Rattle.format.specs.Kinds.{statementFits, instructionPlaces, right}
 use Rattle.shape.specs.Work.{plain, below, listedPlaces}
 use Rattle.shape.specs.declared.exist.Counts.{Counts}
 use Rattle.shape.specs.Exist.{exist, allExist, namesExist}
+
+-- two functions agree on all numbers below one if they do on each, tried by computing
+abbrev pub agrees : (ℕ → ℕ) → (ℕ → ℕ) → ℕ → Bool
+agrees f g zero = true
+agrees f g (suc n) = eqb (f n) (g n) && agrees f g n
+
+pub agree : (f g : ℕ → ℕ) (n k : ℕ) → k < n → agrees f g n ≡ true → f k ≡ g k
+agree f g zero k h e = absurd (omega arith)
+agree f g (suc n) k h e = go (eqb k n) refl (λ i. agree f g n k i (and-second (eqb (f n) (g n)) (agrees f g n) e))
+  where
+    go : (t : Bool) → eqb k n ≡ t → (k < n → f k ≡ g k) → f k ≡ g k
+    go true q i = subst (λ (j : ℕ). f j ≡ g j) (sym (eqb-true k n q)) (eqb-true (f n) (g n) (and-first (eqb (f n) (g n)) (agrees f g n) e))
+    go false q i = let ne = eqb-false k n q in i (omega arith)
 
 -- a sum is zero where each part is
 eqb-add : (a s : ℕ) → eqb (a + s) 0 ≡ (eqb a 0 && eqb s 0)
@@ -64,9 +78,6 @@ address-exists n r f = f ∙ ap (λ (b : Bool). ltb (r .p1) (n .registers) && (b
 -- Stmt lists no place
 pub past-row : (k op : ℕ) → 23 ≤ k → [] ≡ getD (instructionPlaces op) k []
 past-row k op h = ⊎-elim (λ (e : 23 ≡ k). at-key (instructionPlaces op) [] (sym e)) (λ (i : 23 < k). at-rest (instructionPlaces op) [] i) (eq-or-lt-of-le h)
-
-pub past-kinds : (r : Record) → 23 ≤ r .kind → [] ≡ getD (instructionPlaces (r .op)) (r .kind) []
-past-kinds r h = past-row (r .kind) (r .op) h
 
 -- the kinds whose places take any number
 abbrev Plainly : Record → ℕ → ℕ → Type 0

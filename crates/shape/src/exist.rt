@@ -1,11 +1,12 @@
 ghost use mathlib.Core.Path.{_≡_};
 ghost use mathlib.Core.List.{[], _∷_};
-ghost use Prim.Native.Nat.{_+_};
-ghost use lib.Dec.{leb};
-ghost use lib.ListN.{getD};
+ghost use mathlib.Core.Bool.{cond};
+ghost use Prim.Native.Nat.{suc, _+_, _≤_, _<_};
+ghost use lib.Dec.{leb, ltb};
+ghost use lib.ListN.{getD, take};
 ghost use Rattle.format.specs.Kinds.{fields, instructionPlaces, armPlaces};
 ghost use Rattle.shape.specs.Exist.{allExist, namesExist};
-ghost use Rattle.shape.specs.Work.{below};
+ghost use Rattle.shape.specs.Work.{below, leadingRegisters};
 use format::Record;
 
 // How many there are of what a record may name.
@@ -40,16 +41,41 @@ fn three(n: u32, a: u32, b: u32, c: u32) -> bool
     a < n && two(n, b, c)
 }
 
-fn four(n: u32, a: u32, b: u32, c: u32, d: u32) -> bool
-    ensures { λ r. ⌜ r ≡ below n (a ∷ b ∷ c ∷ d ∷ []) ⌝ }
+// How many of its first places each kind of instruction below 16 names as registers: a hexadecimal digit each, the lowest for kind 0.
+const LEADING: u64 = 0x2421322533341211;
+
+fn leading(kind: u32) -> u32
+    requires { ⌜ kind < 16 ⌝ }
+    ensures { λ z. ⌜ z ≡ getD leadingRegisters kind 0 ⌝ }
 {
-    a < n && three(n, b, c, d)
+    ((LEADING >> (4 * kind)) % 16) as u32
 }
 
-fn five(n: u32, a: u32, b: u32, c: u32, d: u32, e: u32) -> bool
-    ensures { λ r. ⌜ r ≡ below n (a ∷ b ∷ c ∷ d ∷ e ∷ []) ⌝ }
+// One more than a field, if its place is one of the first `used`.
+fn upto(used: u32, place: u32, field: u32) -> u64
+    ensures { λ z. ⌜ z ≡ cond (ltb place used) (suc field) 0 ⌝ }
 {
-    a < n && four(n, b, c, d, e)
+    if place < used { wide(field) + 1 } else { 0 }
+}
+
+fn most(a: u64, b: u64) -> u64
+    ensures { λ z. ⌜ z ≡ cond (ltb a b) b a ⌝ }
+{
+    if a < b { b } else { a }
+}
+
+// Computed rather than branched on: the kinds of a file follow each other in no order that a processor could guess.
+fn first_exist(n: u32, used: u32, r: Record) -> bool
+    ensures { λ z. ⌜ z ≡ below n (take used (r .p1 ∷ r .p2 ∷ r .p3 ∷ r .p4 ∷ r .p5 ∷ [])) ⌝ }
+{
+    let m = most(
+        most(upto(used, 0, r.p1), upto(used, 1, r.p2)),
+        most(
+            most(upto(used, 2, r.p3), upto(used, 3, r.p4)),
+            upto(used, 4, r.p5),
+        ),
+    );
+    m <= wide(n)
 }
 
 // A list exists if its start plus its length is at most the operand count.
@@ -59,36 +85,33 @@ fn list_exists(operands: u32, start: u32, length: u32) -> bool
     wide(start) + wide(length) <= wide(operands)
 }
 
-fn instruction_exist(n: Counts, r: Record) -> bool
+fn late_exist(n: Counts, r: Record) -> bool
+    requires { ⌜ 16 ≤ r .kind ⌝ }
     ensures { λ z. ⌜ z ≡ allExist n (getD (instructionPlaces (r .op)) (r .kind) []) (fields r) ⌝ }
 {
     let kind = r.kind;
     match kind {
-        0 => one(n.registers, r.p1),
-        1 => one(n.registers, r.p1),
-        2 => two(n.registers, r.p1, r.p2),
-        3 => one(n.registers, r.p1),
-        4 => four(n.registers, r.p1, r.p2, r.p3, r.p4),
-        5 => three(n.registers, r.p1, r.p2, r.p3),
-        6 => three(n.registers, r.p1, r.p2, r.p3),
-        7 => three(n.registers, r.p1, r.p2, r.p3),
-        8 => five(n.registers, r.p1, r.p2, r.p3, r.p4, r.p5),
-        9 => two(n.registers, r.p1, r.p2),
-        10 => two(n.registers, r.p1, r.p2),
-        11 => three(n.registers, r.p1, r.p2, r.p3),
-        12 => r.p1 < n.registers && list_exists(n.operands, r.p2, r.p3),
-        13 => two(n.registers, r.p1, r.p2),
-        14 => four(n.registers, r.p1, r.p2, r.p3, r.p4),
-        15 => two(n.registers, r.p1, r.p2),
         16 => three(n.registers, r.p1, r.p2, r.p3),
         17 => list_exists(n.operands, r.p2, r.p3) && (r.op == 0 || one(n.registers, r.p4)),
         18 => one(n.blocks, r.p1),
         19 => r.p1 < n.registers && two(n.blocks, r.p2, r.p3),
         20 => r.p1 < n.registers && one(n.tables, r.p2),
         21 => r.op == 0 || one(n.registers, r.p1),
-        22 => true,
         _ => true,
     }
+}
+
+fn instruction_exist(n: Counts, r: Record) -> bool
+    ensures { λ z. ⌜ z ≡ allExist n (getD (instructionPlaces (r .op)) (r .kind) []) (fields r) ⌝ }
+{
+    let kind = r.kind;
+    if 16 <= kind {
+        return late_exist(n, r);
+    }
+    if !first_exist(n.registers, leading(kind), r) {
+        return false;
+    }
+    kind != 12 || list_exists(n.operands, r.p2, r.p3)
 }
 
 fn arm_exist(n: Counts, r: Record) -> bool

@@ -2,67 +2,47 @@ ghost use mathlib.Core.Path.{_≡_};
 ghost use mathlib.Core.List.{[], _∷_};
 ghost use mathlib.Core.Bool.{cond};
 ghost use Prim.Native.Nat.{_<_};
-ghost use lib.Dec.{leb};
+ghost use lib.Dec.{leb, ltb};
 ghost use lib.ListN.{drop, getD};
 ghost use Rattle.format.specs.Kinds.{zeros, fields, allFit, instructionPlaces, instructionOps, armPlaces, spaceNumber, fit as fitsPlace, right as rightRecord};
-ghost use Rattle.shape.specs.Work.{plain as plainRecord, listedPlaces};
+ghost use Rattle.shape.specs.Work.{plain as plainRecord, listedPlaces, digitOf};
 use format::Record;
 
-// How many ops each kind of instruction has.
-const OPS: [u32; 24] = [
-    1,
-    1,
-    1,
-    6,
-    1,
-    6,
-    4,
-    7,
-    7,
-    4,
-    4,
-    5,
-    1,
-    1,
-    1,
-    1,
-    1,
-    2,
-    1,
-    1,
-    1,
-    2,
-    1,
-    1,
-];
+// How many ops each kind of instruction has: a hexadecimal digit each, the lowest for kind 0; the kinds from 16 on are in a second number.
+const OPS: u64 = 0x1111544774616111;
 
-// How many places each kind of instruction lists; 7 where not every number fits them, or the op decides.
-const LISTED: [u32; 24] = [
-    3,
-    3,
-    2,
-    7,
-    4,
-    3,
-    3,
-    3,
-    6,
-    2,
-    2,
-    4,
-    3,
-    7,
-    4,
-    2,
-    3,
-    7,
-    1,
-    3,
-    2,
-    7,
-    1,
-    0,
-];
+const OPS_LATE: u64 = 0x11211121;
+
+// How many places each kind of instruction lists, packed alike; 7 where not every number fits them, or the op decides.
+const LISTED: u64 = 0x2473422633347233;
+
+const LISTED_LATE: u64 = 0x1723173;
+
+fn word(early: u64, late: u64, kind: u32) -> u64
+    ensures { λ w. ⌜ w ≡ cond (ltb kind 16) early late ⌝ }
+{
+    if kind < 16 { early } else { late }
+}
+
+fn digit(early: u64, late: u64, kind: u32) -> u32
+    ensures { λ z. ⌜ z ≡ digitOf early late kind ⌝ }
+{
+    ((word(early, late, kind) >> (4 * (kind % 16))) % 16) as u32
+}
+
+fn ops(kind: u32) -> u32
+    requires { ⌜ kind < 24 ⌝ }
+    ensures { λ z. ⌜ z ≡ instructionOps kind ⌝ }
+{
+    digit(OPS, OPS_LATE, kind)
+}
+
+fn listed(kind: u32) -> u32
+    requires { ⌜ kind < 24 ⌝ }
+    ensures { λ z. ⌜ z ≡ getD listedPlaces kind 0 ⌝ }
+{
+    digit(LISTED, LISTED_LATE, kind)
+}
 
 fn wide(x: u32) -> u64
     ensures { λ r. ⌜ r ≡ x ⌝ }
@@ -130,7 +110,7 @@ fn instruction_fits(r: Record) -> bool
     requires { ⌜ r .kind < 24 ⌝ }
     ensures { λ z. ⌜ z ≡ allFit (getD (instructionPlaces (r .op)) (r .kind) []) (fields r) ⌝ }
 {
-    let used = LISTED[r.kind as usize];
+    let used = listed(r.kind);
     if used < 7 {
         return blank(used, r);
     }
@@ -145,7 +125,7 @@ fn instruction(r: Record) -> bool
     if 24 <= kind {
         return false;
     }
-    if OPS[kind as usize] <= r.op {
+    if ops(kind) <= r.op {
         return false;
     }
     if r.zero != 0 {

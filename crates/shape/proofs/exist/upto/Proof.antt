@@ -1,0 +1,21 @@
+use mathlib.Core.Path.{sym}
+use native.Mathlib.Omega.{arith}
+use borrow.Author.Tests.{lt-ltb, le-ltb}
+use borrow.Author.Needs.{needs}
+use Rattle.shape.proofs.exist.upto.Statement.{statement}
+use Rattle.shape.proofs.exist.upto.Tie as tie
+
+wide-requires : tie.Need-wide-requires
+wide-requires c κs = search needs
+
+add-result : tie.Need-add-result
+add-result c = search needs
+
+returns : tie.Need-returns
+returns c = rw (c .wide .ensures, lt-ltb _ _ (c .before .if1 .taken)) (omega arith)
+
+returns-2 : tie.Need-returns-2
+returns-2 c = sym (rw (le-ltb _ _ (c .if1 .left)))
+
+pub upto-spec : {M : Type 1} → statement M
+upto-spec = tie.close (tie.spec wide-requires add-result returns returns-2)
