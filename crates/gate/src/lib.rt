@@ -97,10 +97,10 @@ fn could_hop(code: &[u8], table: &[u8], a: usize) -> bool
     let e = blocks::end_at(code, table, a);
     match e {
         End::Br(to) => {
-            if to.0 as usize == a {
+            if !small::small(blocks::block(code, table, to.0 as usize)) {
                 return false;
             }
-            small::small(blocks::block(code, table, to.0 as usize))
+            to.0 as usize != a
         }
         End::CondBr(_, t, f) => {
             if blocks::is_lone(code, table, t.0 as usize) {

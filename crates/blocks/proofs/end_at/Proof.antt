@@ -29,7 +29,8 @@ returns c =
     let r = l .before .before in
     let a = r .before .before .before .args in
     let code = now (a .code) in
-    let h : min (r .record-at .result .p2) (length code / 32) ≤ r .record-at .result .p1 = subst (λ (m : ℕ). m ≤ r .record-at .result .p1) (l .least .ensures) (c .if1 .taken) in
+    let x = r .record-at .result in
+    let h : min (x .p2) (length code / 32) ≤ x .p1 = subst (λ (m : ℕ). m ≤ x .p1) (l .least .ensures) (c .if1 .taken) in
     ends-nowhere code (now (a .table)) (a .k) (subst (λ (x : Record). end-within code x ≤ x .p1) (r .record-at .ensures) h)
 
 sub-record-at : tie.Need-sub-record-at

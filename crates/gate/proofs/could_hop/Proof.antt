@@ -1,13 +1,13 @@
 use mathlib.Core.Path.{sym, ap, _∙_}
 use mathlib.Core.Bool.{Bool, true≢false, not, _&&_, and-false}
 use mathlib.Core.List.{[]}
-use borrow.Author.Tests.{eq-eqb}
+use borrow.Author.Tests.{not-true}
 use denote.Ref.{now}
 use lib.Dec.{eqb}
 use lib.ListN.{getD}
 use Rattle.procedure.specs.Procedure.{codesOf}
 use Rattle.steps.specs.Small.{small}
-use Rattle.steps.specs.Gate.{mayHop}
+use Rattle.steps.specs.Gate.{mayHop, copied}
 use Rattle.blocks.specs.Blocks.{blocksOf}
 use Rattle.blocks.proofs.Parts.{block-codes}
 use Rattle.blocks.proofs.Ends.{not-lone}
@@ -22,16 +22,6 @@ end-at-requires c κs = search needs
 enum-known-e : tie.Need-enum-known-e
 enum-known-e c = search needs
 
-cast-if1 : tie.Need-cast-if1
-cast-if1 c = search needs
-
-returns : tie.Need-returns
-returns c z wide =
-    let x = c .before .before .before .before .before in
-    let a = x .before .before .before .args in
-    let h = mayHop wide (blocksOf (now (a .code)) (now (a .table))) (a .a) in
-    sym (ap h (x .end-at .ensures)) ∙ ap h (c .before .before .before .e .given .1) ∙ rw (eq-eqb _ _ (c .if1 .taken))
-
 cast-block : tie.Need-cast-block
 cast-block c = search needs
 
@@ -40,6 +30,23 @@ block-requires c κs = search needs
 
 small-requires : tie.Need-small-requires
 small-requires c κs = search needs
+
+returns : tie.Need-returns
+returns c z wide =
+    let m = c .before .before .before .before .before in
+    let x = m .before .before in
+    let a = x .before .before .before .args in
+    let p = blocksOf (now (a .code)) (now (a .table)) in
+    let h = mayHop wide p (a .a) in
+    let l = m .e .given .0 .0 .0 in
+    let s = ap small (ap codesOf (c .before .before .block .ensures) ∙ block-codes (now (a .code)) (now (a .table)) l) in
+    sym (ap h (x .end-at .ensures))
+    ∙ ap h (m .e .given .1)
+    ∙ ap (λ (b : Bool). not (eqb l (a .a)) && b) (sym (not-small wide p l (sym s ∙ sym (c .before .small .ensures) ∙ not-true _ (c .if1 .taken))))
+    ∙ and-false (not (eqb l (a .a)))
+
+cast-result : tie.Need-cast-result
+cast-result c = search needs
 
 enum-known-e-2 : tie.Need-enum-known-e-2
 enum-known-e-2 c = search needs
@@ -72,12 +79,7 @@ returns-3 c z wide =
     let a = x .before .before .before .args in
     let p = blocksOf (now (a .code)) (now (a .table)) in
     let h = mayHop wide p (a .a) in
-    let l = m .e .given .0 .0 .0 in
-    let s = ap small (ap codesOf (c .before .block .ensures) ∙ block-codes (now (a .code)) (now (a .table)) l) in
-    sym (ap h (x .end-at .ensures))
-    ∙ ap h (m .e .given .1)
-    ∙ ap (λ (b : Bool). not (eqb l (a .a)) && b) (sym (not-small wide p l (sym s ∙ sym (c .small .ensures) ∙ z)))
-    ∙ and-false (not (eqb l (a .a)))
+    sym (ap h (x .end-at .ensures)) ∙ ap h (m .e .given .1) ∙ ap (λ (b : Bool). b && copied wide p (m .e .given .0 .0 .0)) z
 
 returns-4 : tie.Need-returns-4
 returns-4 c z wide =
@@ -112,11 +114,11 @@ could-hop-spec =
     (tie.spec
     end-at-requires
     enum-known-e
-    cast-if1
-    returns
     cast-block
     block-requires
     small-requires
+    returns
+    cast-result
     enum-known-e-2
     cast-is-lone
     is-lone-requires
