@@ -23,12 +23,9 @@ use inst::Reg;
 pub fn is_rescued(r: Record, facts: &[u64]) -> bool
     ensures { λ z. ⌜ z ≡ rescuedBy (now (facts .entry)) (instOf r) ⌝ }
 {
-    let single = facts::is_single(facts, Reg(r.p1));
     let kind = r.kind;
     match kind {
-        0 => single,
-        1 => single,
-        3 => single,
+        0 | 1 | 3 => facts::is_single(facts, Reg(r.p1)),
         _ => false,
     }
 }
