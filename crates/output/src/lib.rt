@@ -5,7 +5,7 @@ ghost use mathlib.Core.List.{[]};
 ghost use lib.ListN.{length};
 ghost use Rattle.steps.specs.Shorten.{refusal};
 ghost use Rattle.emit.specs.Emitted.{marksIn, place, puts, counted};
-ghost use Rattle.output.specs.Filed.{outcome, counts, filed, wrote, short as shortOf, sameRecords, kindRecords, recordsBy, emittedIn};
+ghost use Rattle.output.specs.Filed.{outcome, counts, filed, wrote, short as shortOf, sameRecords, kindRecords, keptBy, recordsBy, emittedIn};
 use emit::Sizes;
 use steps::Answer;
 
@@ -147,7 +147,27 @@ fn count_all(
     )
 }
 
-// The result of Emit is written, with keep records at the front of block 0; returns the place after it.
+// What is rescued, keep records in all, is written from a place on; returns the next place.
+fn put_kept(
+    out: &mut [u8],
+    at: usize,
+    keep: u32,
+    work: &[u8],
+    table: &[u8],
+    seen: &[bool],
+    facts: &[u64],
+) -> usize
+    requires { ⌜ keep ≡ shortOf (length (keptBy (now work) (now table) (now facts) (marksIn (now seen)))) ⌝ }
+    ensures { λ z. ⌜ place (now (out .exit)) z
+        ≡ puts (keptBy (now (work .entry)) (now (table .entry)) (now (facts .entry)) (marksIn (now (seen .entry)))) (place (now (out .entry)) at) ⌝ }
+{
+    if keep == 0 {
+        return at;
+    }
+    emit::put_keep(out, at, work, table, seen, facts)
+}
+
+// The result of Emit is written, with the keep records that are rescued at the front of block 0; returns the place after it.
 fn write_all(
     out: &mut [u8],
     registers: &[u8],
@@ -161,6 +181,7 @@ fn write_all(
     operands: &[u8],
     arms: &[u8],
 ) -> usize
+    requires { ⌜ keep ≡ shortOf (length (keptBy (now work) (now table) (now facts) (marksIn (now seen)))) ⌝ }
     ensures { λ z. ⌜ place (now (out .exit)) z
         ≡ puts
         (recordsBy (now (work .entry)) (now (table .entry)) (now (facts .entry)) (marksIn (now (seen .entry))) keep (now (registers .entry)) (now (kinds .entry))
@@ -171,7 +192,7 @@ fn write_all(
     top = put_kinds(out, top, kinds);
     top = emit::put_heads(out, top, keep, work, table, seen);
     top = emit::put_block(out, top, body);
-    top = emit::put_keep(out, top, work, table, seen, facts);
+    top = put_kept(out, top, keep, work, table, seen, facts);
     top = emit::put_code(out, top, work, table, seen);
     top = emit::put_block(out, top, operands);
     emit::put_block(out, top, arms)
