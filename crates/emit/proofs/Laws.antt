@@ -5,12 +5,14 @@ use native.Mathlib.Omega.{arith}
 use mathlib.Core.Path.{_≡_, refl, sym, ap, _∙_}
 use mathlib.Core.Bool.{Bool, true, false, _&&_, _||_, not, cond, or-false}
 use mathlib.Core.List.{List, [], _∷_, map}
+use mathlib.Core.Logic.{_⊎_, inl, inr}
 use mathlib.Core.Option.{Option}
 use borrow.Author.Tests.{ne-eqb, lt-leb, le-leb, lt-ltb, le-ltb}
 use lib.Dec.{eqb, ltb, leb}
 use lib.ListN.{length, getD, drop, drop-of-length-le}
 use lib.Seq.{drop-cons}
 use Rattle.general.proofs.Booleans.{either, otherwise, both, neither}
+use Rattle.general.proofs.Numbers.{order}
 use Rattle.format.specs.declared.Record.{Record}
 use Rattle.format.specs.Record.{blank}
 use Rattle.store.specs.Store.{putOf}
@@ -22,6 +24,7 @@ use Rattle.inst.specs.declared.Inst.{Inst}
 use Rattle.inst.specs.declared.Inst.the-variants as i
 use Rattle.inst.specs.Inst.{kindOf}
 use Rattle.codec.specs.Codec.{instOf, codeOf, recordOf, blockOf}
+use Rattle.codec.proofs.Table.{inst-at}
 use Rattle.ends.specs.Forms.{formOf, fixedOf, isFixed}
 use Rattle.ends.specs.Ends.{endOf}
 use Rattle.ends.proofs.Laws.{same-kind}
@@ -63,26 +66,40 @@ fixed-kind i.Stmt = refl
 
 -- each of the three is rescued where its register is single
 module _ (facts : List ℕ) (d : Reg) where
-  pub const-rescued : (v : ℕ) → singleIn facts (d .0) ≡ rescuedBy facts (i.Const d v)
+  const-rescued : (v : ℕ) → singleIn facts (d .0) ≡ rescuedBy facts (i.Const d v)
   unfolding fixedOf formOf anyOf
   const-rescued v = sym (or-false (singleIn facts (d .0)))
 
-  pub real-rescued : (v : Real) → singleIn facts (d .0) ≡ rescuedBy facts (i.ConstF d v)
+  real-rescued : (v : Real) → singleIn facts (d .0) ≡ rescuedBy facts (i.ConstF d v)
   unfolding fixedOf formOf anyOf
   real-rescued v = sym (or-false (singleIn facts (d .0)))
 
-  pub address-rescued : (s : AddrSpace) (o : ℕ) → singleIn facts (d .0) ≡ rescuedBy facts (i.AddrOf d s o)
+  address-rescued : (s : AddrSpace) (o : ℕ) → singleIn facts (d .0) ≡ rescuedBy facts (i.AddrOf d s o)
   unfolding fixedOf formOf anyOf
   address-rescued s o = sym (or-false (singleIn facts (d .0)))
+
+-- the same of a record, by its kind
+module _ (facts : List ℕ) (r : Record) where
+  pub low-rescued : r .kind < 2 → singleIn facts (r .p1) ≡ rescuedBy facts (instOf r)
+  low-rescued h = go (order (r .kind) 1)
+    where
+      go : (r .kind < 1) ⊎ (1 ≤ r .kind) → singleIn facts (r .p1) ≡ rescuedBy facts (instOf r)
+      go (inl i) = const-rescued facts _ _ ∙ ap (rescuedBy facts) (inst-at r 0 (omega arith))
+      go (inr i) = real-rescued facts _ _ ∙ ap (rescuedBy facts) (inst-at r 1 (omega arith))
+
+  pub third-rescued : r .kind ≡ 3 → singleIn facts (r .p1) ≡ rescuedBy facts (instOf r)
+  third-rescued e = address-rescued facts _ _ _ ∙ ap (rescuedBy facts) (inst-at r 3 e)
 
 fixed-past : (k : ℕ) → 23 ≤ k → fixedKind k ≡ fixedKind 23
 fixed-past k h = rw (ne-eqb k 0 (omega arith), ne-eqb k 1 (omega arith), ne-eqb k 3 (omega arith))
 
 -- no other record is rescued
-pub other-record : (facts : List ℕ) (r : Record) → (r .kind ≡ 0 → ⊥) → (r .kind ≡ 1 → ⊥) → (r .kind ≡ 3 → ⊥) → false ≡ rescuedBy facts (instOf r)
-other-record facts r a b c =
+pub other-record : (facts : List ℕ) (r : Record) → 2 ≤ r .kind → (r .kind ≡ 3 → ⊥) → false ≡ rescuedBy facts (instOf r)
+other-record facts r h e =
     neither _ refl
-    (sym (fixed-kind (instOf r)) ∙ same-kind fixedKind fixed-past r ∙ rw (ne-eqb (r .kind) 0 a, ne-eqb (r .kind) 1 b, ne-eqb (r .kind) 3 c))
+    (sym (fixed-kind (instOf r))
+    ∙ same-kind fixedKind fixed-past r
+    ∙ rw (ne-eqb (r .kind) 0 (omega arith), ne-eqb (r .kind) 1 (omega arith), ne-eqb (r .kind) 3 e))
 
 -- a block that stays, by the tests in their order
 module _ (mark last : Bool) (c : List Code) where

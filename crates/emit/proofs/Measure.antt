@@ -9,8 +9,8 @@ use Rattle.format.specs.declared.Record.{Record}
 use Rattle.emit.specs.Emitted.{counted, emptyIn, headsFrom, endAfter}
 
 -- a count with one part more, of what is counted in all
-pub count-more : (n x a t : ℕ) {p r u : ℕ} → p ≡ counted (n + x) → x ≡ a → r ≡ a + t → counted (n + r) ≡ u → counted (p + t) ≡ u
-count-more n x a t e f g h = omega arith
+pub count-more : (n a t : ℕ) {p r u : ℕ} → p ≡ counted (n + a) → r ≡ a + t → counted (n + r) ≡ u → counted (p + t) ≡ u
+count-more n a t e f g = omega arith
 
 -- where no part is left
 pub count-end : {n r u : ℕ} → n ≡ counted n → r ≡ 0 → counted (n + r) ≡ u → n ≡ u

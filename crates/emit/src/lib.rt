@@ -23,12 +23,9 @@ use inst::Reg;
 pub fn is_rescued(r: Record, facts: &[u64]) -> bool
     ensures { λ z. ⌜ z ≡ rescuedBy (now (facts .entry)) (instOf r) ⌝ }
 {
-    let single = facts::is_single(facts, Reg(r.p1));
     let kind = r.kind;
     match kind {
-        0 => single,
-        1 => single,
-        3 => single,
+        0 | 1 | 3 => facts::is_single(facts, Reg(r.p1)),
         _ => false,
     }
 }
@@ -328,42 +325,45 @@ pub fn plus(a: usize, b: usize) -> usize
     a + b
 }
 
-// How many records of block b are rescued: none where it stays.
-fn lost_at(work: &[u8], table: &[u8], seen: &[bool], facts: &[u64], b: usize) -> usize
-    ensures { λ z. ⌜ z ≡ length (lostAt (now (facts .entry)) (marksIn (now (seen .entry))) (blockRecordsIn (now (work .entry)) (now (table .entry))) b) ⌝ }
+// How many records are rescued, and how many the emitted blocks have without them.
+pub struct Sizes {
+    pub keep: usize,
+    pub code: usize,
+}
+
+// The sizes with block b too: one that stays has its own records; of another some are rescued, and it has a Br.
+fn sized(at: Sizes, work: &[u8], table: &[u8], seen: &[bool], facts: &[u64], b: usize) -> Sizes
+    ensures keep { λ z. ⌜ z .keep ≡ counted (at .keep
+        + length (lostAt (now (facts .entry)) (marksIn (now (seen .entry))) (blockRecordsIn (now (work .entry)) (now (table .entry))) b)) ⌝ }
+    ensures code { λ z. ⌜ z .code ≡ counted (at .code
+        + length (newAt (marksIn (now (seen .entry))) (blockRecordsIn (now (work .entry)) (now (table .entry))) b)) ⌝ }
 {
+    let code = blocks::block(work, table, b);
     if keeps(work, table, seen, b) {
-        return 0;
+        return Sizes {
+            keep: at.keep,
+            code: plus(at.code, code.len() / 32),
+        };
     }
-    rescued_in(blocks::block(work, table, b), facts)
+    Sizes {
+        keep: plus(at.keep, rescued_in(code, facts)),
+        code: plus(at.code, 1),
+    }
 }
 
-// How many records are rescued.
-pub fn keep_count(work: &[u8], table: &[u8], seen: &[bool], facts: &[u64]) -> usize
-    ensures { λ z. ⌜ z
+// The sizes of all blocks.
+pub fn size_all(work: &[u8], table: &[u8], seen: &[bool], facts: &[u64]) -> Sizes
+    ensures keep { λ z. ⌜ z .keep
         ≡ counted (length (rescuesIn (now (facts .entry)) (marksIn (now (seen .entry))) (blockRecordsIn (now (work .entry)) (now (table .entry))))) ⌝ }
-{
-    let nb = table.len() / 32;
-    let mut n = 0;
-    let mut b = 0;
-    while b < nb {
-        n = plus(n, lost_at(work, table, seen, facts, b));
-        b += 1;
-    }
-    n
-}
-
-// How many records the emitted blocks have, without what is rescued.
-pub fn code_count(work: &[u8], table: &[u8], seen: &[bool]) -> usize
-    ensures { λ z. ⌜ z
+    ensures code { λ z. ⌜ z .code
         ≡ counted (length (joined (emptyIn 0 (marksIn (now (seen .entry))) (blockRecordsIn (now (work .entry)) (now (table .entry)))))) ⌝ }
 {
     let nb = table.len() / 32;
-    let mut n = 0;
+    let mut at = Sizes { keep: 0, code: 0 };
     let mut b = 0;
     while b < nb {
-        n = plus(n, size_at(work, table, seen, b));
+        at = sized(at, work, table, seen, facts, b);
         b += 1;
     }
-    n
+    at
 }

@@ -2,9 +2,9 @@
 use Prim.Native.Nat.{ℕ, _+_, _*_, _/_, _≤_, _<_, _^_}
 use native.Mathlib.Numerals.{add-one}
 use native.Mathlib.Omega.{arith}
-use mathlib.Core.Path.{_≡_, sym, ap, _∙_}
+use mathlib.Core.Path.{_≡_, refl, sym, ap, _∙_}
 use mathlib.Core.Bool.{Bool, true}
-use mathlib.Core.List.{List, [], _++_}
+use mathlib.Core.List.{List, [], _∷_, _++_}
 use borrow.Author.Tests.{lt-ltb, le-ltb}
 use lib.ListN.{length, getD, drop, length-append, length-map, drop-of-length-le}
 use lib.Seq.{drop-cons}
@@ -49,6 +49,12 @@ module _ (rs : List Record) (s : Shortened) (out : List ℕ) where
 pub same-length : (registers heads body code operands arms : List ℕ) → length (sameRecords registers heads body code operands arms)
     ≡ length registers / 32 + length heads / 32 + length body / 32 + length code / 32 + length operands / 32 + length arms / 32
 same-length registers heads body code operands arms = simp (length-append, length-records) (omega arith)
+
+-- where none is to be written
+pub puts-none : (rs : List Record) (s : Place) {k : ℕ} → k ≡ short (length rs) → k ≡ 0 → s ≡ puts rs s
+unfolding puts
+puts-none [] s e f = refl
+puts-none (r ∷ rs) s e f = absurd (omega arith)
 
 -- one register more
 module _ (kinds : List ℕ) (k : ℕ) (s : Place) where

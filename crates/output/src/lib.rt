@@ -5,7 +5,8 @@ ghost use mathlib.Core.List.{[]};
 ghost use lib.ListN.{length};
 ghost use Rattle.steps.specs.Shorten.{refusal};
 ghost use Rattle.emit.specs.Emitted.{marksIn, place, puts, counted};
-ghost use Rattle.output.specs.Filed.{outcome, counts, filed, wrote, short as shortOf, sameRecords, kindRecords, recordsBy, emittedIn};
+ghost use Rattle.output.specs.Filed.{outcome, counts, filed, wrote, short as shortOf, sameRecords, kindRecords, keptBy, recordsBy, emittedIn};
+use emit::Sizes;
 use steps::Answer;
 
 // The refusal where the buffer is shorter than the result.
@@ -124,27 +125,49 @@ fn put_kinds(out: &mut [u8], at: usize, kinds: &[u8]) -> usize
     top
 }
 
-// How many records the result of Emit has, of which keep are rescued and code are of the emitted blocks.
+// How many records the result of Emit has, with the sizes of its blocks.
 fn count_all(
     registers: &[u8],
     kinds: &[u8],
     table: &[u8],
     body: &[u8],
-    keep: usize,
-    code: usize,
+    sizes: Sizes,
     operands: &[u8],
     arms: &[u8],
 ) -> usize
     ensures { λ n. ⌜ n
         ≡ counted (length (now (registers .entry)) / 32 + length (now (table .entry)) / 32 + length (now (body .entry)) / 32
-        + length (now (operands .entry)) / 32 + length (now (arms .entry)) / 32 + length (now (kinds .entry)) + (keep + code)) ⌝ }
+        + length (now (operands .entry)) / 32 + length (now (arms .entry)) / 32 + length (now (kinds .entry)) + (sizes .keep + sizes .code)) ⌝ }
 {
     let front = registers.len() / 32 + table.len() / 32 + body.len() / 32;
     let sent = front + operands.len() / 32 + arms.len() / 32;
-    emit::plus(emit::plus(sent, kinds.len()), emit::plus(keep, code))
+    emit::plus(
+        emit::plus(sent, kinds.len()),
+        emit::plus(sizes.keep, sizes.code),
+    )
 }
 
-// The result of Emit is written, with keep records at the front of block 0; returns the place after it.
+// What is rescued, keep records in all, is written from a place on; returns the next place.
+fn put_kept(
+    out: &mut [u8],
+    at: usize,
+    keep: u32,
+    work: &[u8],
+    table: &[u8],
+    seen: &[bool],
+    facts: &[u64],
+) -> usize
+    requires { ⌜ keep ≡ shortOf (length (keptBy (now work) (now table) (now facts) (marksIn (now seen)))) ⌝ }
+    ensures { λ z. ⌜ place (now (out .exit)) z
+        ≡ puts (keptBy (now (work .entry)) (now (table .entry)) (now (facts .entry)) (marksIn (now (seen .entry)))) (place (now (out .entry)) at) ⌝ }
+{
+    if keep == 0 {
+        return at;
+    }
+    emit::put_keep(out, at, work, table, seen, facts)
+}
+
+// The result of Emit is written, with the keep records that are rescued at the front of block 0; returns the place after it.
 fn write_all(
     out: &mut [u8],
     registers: &[u8],
@@ -158,6 +181,7 @@ fn write_all(
     operands: &[u8],
     arms: &[u8],
 ) -> usize
+    requires { ⌜ keep ≡ shortOf (length (keptBy (now work) (now table) (now facts) (marksIn (now seen)))) ⌝ }
     ensures { λ z. ⌜ place (now (out .exit)) z
         ≡ puts
         (recordsBy (now (work .entry)) (now (table .entry)) (now (facts .entry)) (marksIn (now (seen .entry))) keep (now (registers .entry)) (now (kinds .entry))
@@ -168,7 +192,7 @@ fn write_all(
     top = put_kinds(out, top, kinds);
     top = emit::put_heads(out, top, keep, work, table, seen);
     top = emit::put_block(out, top, body);
-    top = emit::put_keep(out, top, work, table, seen, facts);
+    top = put_kept(out, top, keep, work, table, seen, facts);
     top = emit::put_code(out, top, work, table, seen);
     top = emit::put_block(out, top, operands);
     emit::put_block(out, top, arms)
@@ -192,13 +216,12 @@ pub fn emit(
         (now (body .entry)) (now (operands .entry)) grown (now (out .entry)) ⌝ }
 {
     let seen = reach::reached(work, table, arms);
-    let keep = emit::keep_count(work, table, &seen, facts);
-    let code = emit::code_count(work, table, &seen);
-    let n = count_all(registers, kinds, table, body, keep, code, operands, arms);
+    let sizes = emit::size_all(work, table, &seen, facts);
+    let n = count_all(registers, kinds, table, body, sizes, operands, arms);
     if out.len() / 32 < n {
         return refused();
     }
-    let rescued = short(keep);
+    let rescued = short(sizes.keep);
     write_all(
         out,
         registers,

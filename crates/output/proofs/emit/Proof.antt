@@ -15,17 +15,11 @@ use Rattle.output.proofs.emit.Tie as tie
 reached-requires : tie.Need-reached-requires
 reached-requires c κs = search needs
 
-slice-aggregate-keep-count : tie.Need-slice-aggregate-keep-count
-slice-aggregate-keep-count c = search needs
+slice-aggregate-size-all : tie.Need-slice-aggregate-size-all
+slice-aggregate-size-all c = search needs
 
-keep-count-requires : tie.Need-keep-count-requires
-keep-count-requires c κs = search needs
-
-slice-aggregate-code-count : tie.Need-slice-aggregate-code-count
-slice-aggregate-code-count c = search needs
-
-code-count-requires : tie.Need-code-count-requires
-code-count-requires c κs = search needs
+size-all-requires : tie.Need-size-all-requires
+size-all-requires c κs = search needs
 
 count-all-requires : tie.Need-count-all-requires
 count-all-requires c κs = search needs
@@ -37,9 +31,8 @@ returns : tie.Need-returns
 returns c =
     let i = c .before in
     let n = i .before in
-    let d = n .before in
-    let k = d .before .before in
-    let r = k .before .before in
+    let z = n .before in
+    let r = z .before .before in
     let a = r .before .before .before .before .before .before .before .before .before .before .args in
     emit-refused
     (now (a .work))
@@ -53,9 +46,9 @@ returns c =
     (a .grown)
     (now (a .out))
     (marksIn (r .reached .result))
-    (take-all 160 (r .reached .result) (omega (arith, slice-aggregate-keep-count (k .before))) ∙ r .reached .ensures)
-    (k .keep-count .ensures)
-    (d .code-count .ensures)
+    (take-all 160 (r .reached .result) (omega (arith, slice-aggregate-size-all (z .before))) ∙ r .reached .ensures)
+    (z .size-all .ensures .0)
+    (z .size-all .ensures .1)
     (n .count-all .ensures)
     (i .if1 .taken)
     (c .refused .ensures)
@@ -75,7 +68,7 @@ short-requires-2 c κs = search needs
 answered-requires : tie.Need-answered-requires
 answered-requires c κs =
     let i = c .before .before .before .before .before .before .before in
-    let o = i .before .before .before .before .before .before .before .before .before .before .before .before .before .before .before .before in
+    let o = i .before .before .before .before .before .before .before .before .before .before .before .before .before .before in
     room (length (now (o .args .out))) _ (i .if1 .left) (o .good .0 .0)
 
 same-length : tie.Need-same-length
@@ -87,9 +80,8 @@ returns-2 c =
     let s = w .before .before .before in
     let i = s .before in
     let n = i .before in
-    let d = n .before in
-    let k = d .before .before in
-    let r = k .before .before in
+    let z = n .before in
+    let r = z .before .before in
     let o = r .before .before .before .before .before .before .before .before .before .before in
     let a = o .args in
     emit-written
@@ -104,9 +96,9 @@ returns-2 c =
     (a .grown)
     (now (a .out))
     (marksIn (r .reached .result))
-    (take-all 160 (r .reached .result) (omega (arith, slice-aggregate-keep-count (k .before))) ∙ r .reached .ensures)
-    (k .keep-count .ensures)
-    (d .code-count .ensures)
+    (take-all 160 (r .reached .result) (omega (arith, slice-aggregate-size-all (z .before))) ∙ r .reached .ensures)
+    (z .size-all .ensures .0)
+    (z .size-all .ensures .1)
     (n .count-all .ensures)
     (i .if1 .left)
     (under (length (now (a .out))) (n .count-all .result) (i .if1 .left) (o .good .0 .0))
@@ -119,10 +111,8 @@ emit-spec =
     tie.close
     (tie.spec
     reached-requires
-    slice-aggregate-keep-count
-    keep-count-requires
-    slice-aggregate-code-count
-    code-count-requires
+    slice-aggregate-size-all
+    size-all-requires
     count-all-requires
     refused-requires
     returns

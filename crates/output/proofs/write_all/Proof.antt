@@ -21,8 +21,8 @@ put-heads-requires c κs = search needs
 put-block-requires-2 : tie.Need-put-block-requires-2
 put-block-requires-2 c κs = search needs
 
-put-keep-requires : tie.Need-put-keep-requires
-put-keep-requires c κs = search needs
+put-kept-requires : tie.Need-put-kept-requires
+put-kept-requires c κs = search needs
 
 put-code-requires : tie.Need-put-code-requires
 put-code-requires c κs = search needs
@@ -46,7 +46,7 @@ same-length c =
     p8 .put-block4 .kept .0
     ∙ p7 .put-block3 .kept .0
     ∙ p6 .put-code .kept .0
-    ∙ p5 .put-keep .kept .0
+    ∙ p5 .put-kept .kept .0
     ∙ p4 .put-block2 .kept .0
     ∙ p3 .put-heads .kept .0
     ∙ p2 .put-kinds .kept .0
@@ -69,7 +69,7 @@ returns c =
     let e2 = p2 .put-kinds .ensures ∙ ap (puts (kindRecords (now (a .kinds)))) (p1 .put-block .ensures) in
     let e3 = p3 .put-heads .ensures ∙ ap (puts (headsFrom 0 (a .keep) (leftBy w t f (marksIn (now (a .seen)))))) e2 in
     let e4 = p4 .put-block2 .ensures ∙ ap (puts (recordsOf (now (a .body)))) e3 in
-    let e5 = p5 .put-keep .ensures ∙ ap (puts (keptBy w t f (marksIn (now (a .seen))))) e4 in
+    let e5 = p5 .put-kept .ensures ∙ ap (puts (keptBy w t f (marksIn (now (a .seen))))) e4 in
     let e6 = p6 .put-code .ensures ∙ ap (puts (joined (leftBy w t f (marksIn (now (a .seen)))))) e5 in
     let e7 = p7 .put-block3 .ensures ∙ ap (puts (recordsOf (now (a .operands)))) e6 in
     let e8 = p8 .put-block4 .ensures ∙ ap (puts (recordsOf (now (a .arms)))) e7 in
@@ -83,7 +83,7 @@ write-all-spec =
     put-kinds-requires
     put-heads-requires
     put-block-requires-2
-    put-keep-requires
+    put-kept-requires
     put-code-requires
     put-block-requires-3
     put-block-requires-4
