@@ -90,7 +90,7 @@ fn row(library: Library, steps: Option<Steps>, files: &[Vec<u8>]) -> Row {
     };
     let with_steps = |o: &Opened| {
         o.open();
-        steps.and_then(|s| o.steps(s, &mut out.borrow_mut()))
+        steps.and_then(|s| o.steps(s))
     };
     for (o, file) in opened.iter().zip(files) {
         if let Some(length) = with_steps(o) {

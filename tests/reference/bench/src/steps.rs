@@ -3,9 +3,9 @@
 
 use halivomue_reference::library::symbol;
 use halivomue_reference::record::RECORD;
-use std::cell::RefCell;
 use std::ffi::c_void;
 use std::mem::transmute;
+use std::ptr::copy_nonoverlapping;
 
 #[repr(C)]
 struct Ran {
@@ -64,6 +64,7 @@ type Emit = unsafe extern "C" fn(
 pub struct Steps {
     run: Run,
     emit: Emit,
+    out: Slice<u8>,
 }
 
 impl Steps {
@@ -74,78 +75,96 @@ impl Steps {
         // They have the signatures of crates/steps_c, a slice being a pointer and a length.
         let run = unsafe { transmute::<*mut c_void, Run>(found(c"halivomue_run")) };
         let emit = unsafe { transmute::<*mut c_void, Emit>(found(c"halivomue_emit")) };
-        Some(Steps { run, emit })
+        Some(Steps { run, emit, out: Slice::zeroed(65_536) })
     }
 }
 
-struct Storage {
-    work: Vec<u8>,
-    table: Vec<u8>,
-    kinds: Vec<u8>,
-    known: Vec<u64>,
-    copy: Vec<u32>,
-    facts: Vec<u64>,
+/// A slice, as the functions take it.
+#[derive(Clone, Copy)]
+struct Slice<T> {
+    at: *mut T,
+    len: usize,
 }
 
-/// Calls a function with slices that it changes, slices that it looks at, each as a pointer and a length, and one number.
+impl<T: Clone + Default> Slice<T> {
+    /// New storage, which is kept until the benchmark ends.
+    fn zeroed(len: usize) -> Slice<T> {
+        let storage = Box::leak(vec![T::default(); len].into_boxed_slice());
+        Slice { at: storage.as_mut_ptr(), len }
+    }
+
+    /// Bytes of a file, which no function changes.
+    fn of(part: &[T]) -> Slice<T> {
+        Slice { at: part.as_ptr().cast_mut(), len: part.len() }
+    }
+}
+
+/// Calls a function with slices, each as a pointer and a length, and one number.
 macro_rules! call {
-    ($function:expr, ($($changed:expr),*), ($($seen:expr),*), $number:expr) => {
-        ($function)($($changed.as_mut_ptr(), $changed.len(),)* $($seen.as_ptr(), $seen.len(),)* $number)
+    ($function:expr, ($($slice:expr),*), $number:expr) => {
+        ($function)($($slice.at, $slice.len,)* $number)
     };
 }
 
 /// A file's parts, and storage that is enough for it.
-pub struct Opened<'a> {
-    parts: [&'a [u8]; 6],
-    storage: RefCell<Storage>,
+pub struct Opened {
+    parts: [Slice<u8>; 6],
+    work: Slice<u8>,
+    table: Slice<u8>,
+    kinds: Slice<u8>,
+    known: Slice<u64>,
+    copy: Slice<u32>,
+    facts: Slice<u64>,
 }
 
-impl Opened<'_> {
-    pub fn new(bytes: &[u8]) -> Opened<'_> {
-        let mut parts = [&bytes[..0]; 6];
+impl Opened {
+    /// The bytes are to stay where they are while it is used.
+    pub fn new(bytes: &[u8]) -> Opened {
+        let mut parts = [Slice::of(&bytes[..0]); 6];
         let mut at = 0;
         for (class, part) in parts.iter_mut().enumerate() {
             let end = (at..bytes.len()).step_by(RECORD).find(|k| bytes[*k] as usize > class + 1).unwrap_or(bytes.len());
-            *part = &bytes[at..end];
+            *part = Slice::of(&bytes[at..end]);
             at = end;
         }
-        let n = parts[3].len() / RECORD;
-        let storage = RefCell::new(Storage {
-            work: vec![0; (2 * n + 3 * n / 8 + 27) * RECORD],
-            table: vec![0; parts[1].len()],
-            kinds: vec![0; n / 2 + 40],
-            known: vec![0; 2 * (n + 15)],
-            copy: vec![0; 2 * (n + 15)],
-            facts: vec![0; 5 * (parts[0].len() / RECORD)],
-        });
-        Opened { parts, storage }
+        let n = parts[3].len / RECORD;
+        Opened {
+            parts,
+            work: Slice::zeroed((2 * n + 3 * n / 8 + 27) * RECORD),
+            table: Slice::zeroed(parts[1].len),
+            kinds: Slice::zeroed(n / 2 + 40),
+            known: Slice::zeroed(2 * (n + 15)),
+            copy: Slice::zeroed(2 * (n + 15)),
+            facts: Slice::zeroed(5 * (parts[0].len / RECORD)),
+        }
     }
 
     /// Code and block table are put into the storage.
     pub fn open(&self) {
-        let mut s = self.storage.borrow_mut();
-        s.work[..self.parts[3].len()].copy_from_slice(self.parts[3]);
-        s.table.copy_from_slice(self.parts[1]);
+        let [_, table, _, code, _, _] = self.parts;
+        // The storage is long enough, and nobody else's.
+        unsafe {
+            copy_nonoverlapping(code.at, self.work.at, code.len);
+            copy_nonoverlapping(table.at, self.table.at, table.len);
+        }
     }
 
     /// The steps, once it is opened; how many bytes emit wrote, if threading edited some block.
-    pub fn steps(&self, steps: Steps, out: &mut [u8]) -> Option<usize> {
-        let s = &mut *self.storage.borrow_mut();
-        let [registers, _, body, code, operands, arms] = self.parts;
+    pub fn steps(&self, steps: Steps) -> Option<usize> {
+        let Opened { parts, work, table, kinds, known, copy, facts } = self;
+        let [registers, _, body, code, operands, arms] = parts;
         // The functions stay within these slices.
         unsafe {
             let ran = call!(
                 steps.run,
-                (s.work, s.table, s.kinds, s.known, s.copy, s.facts),
-                (operands, registers, body),
-                code.len() / RECORD
+                (work, table, kinds, known, copy, facts, operands, registers, body),
+                code.len / RECORD
             );
-            let kinds = &s.kinds[..ran.fresh];
+            let kinds = Slice { len: ran.fresh, ..*kinds };
             ran.edited.then(|| {
                 call!(
                     steps.emit,
-                    (out),
-                    (registers, kinds, s.work, s.table, s.facts, body, operands, arms),
+                    (steps.out, registers, kinds, work, table, facts, body, operands, arms),
                     ran.grown as u32
                 )
             })
