@@ -8,7 +8,6 @@ ghost use Rattle.blocks.specs.Blocks.{blocksOf};
 ghost use Rattle.arms.specs.Joined.{joined, joinMet, joinArms, joinFrom, equalArmsIn};
 use ends::End;
 use inst::BlockId;
-use inst::Inst;
 
 // From block b over a lone Br that does not target itself.
 fn past(b: BlockId, e: End) -> BlockId
@@ -73,7 +72,7 @@ fn join_arms(code: &mut [u8], table: &[u8], k: usize, edited: bool) -> bool
     let m = meet(code, table, k);
     match m {
         Meeting::At(to) => {
-            blocks::rewrite_end(code, table, k, Inst::Br { to });
+            blocks::rewrite_br(code, table, k, to);
             true
         }
         Meeting::Apart => edited,

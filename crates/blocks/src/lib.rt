@@ -4,10 +4,12 @@ ghost use Prim.Native.Nat.{ℕ, min};
 ghost use lib.Dec.{eqb};
 ghost use lib.ListN.{length, getD};
 ghost use Rattle.format.specs.Record.{recordAt};
+ghost use Rattle.inst.specs.declared.Inst.the-variants as i;
 ghost use Rattle.ends.specs.Ends.{endOf};
 ghost use Rattle.blocks.specs.Blocks.{partBytes, blockBytes, blocksOf};
 ghost use Rattle.blocks.specs.Rewrite as spec;
 use ends::End;
+use inst::BlockId;
 use inst::Inst;
 
 // The lesser of two numbers.
@@ -72,5 +74,17 @@ pub fn rewrite_end(code: &mut [u8], table: &[u8], k: usize, i: Inst)
         let last = r.p2 as usize - 1;
         let old = format::record_at(code, last);
         store::put_record(code, last, codec::rewritten(old, i));
+    }
+}
+
+// The last instruction of block k becomes a Br; nothing is where block k is empty or ends past the code.
+pub fn rewrite_br(code: &mut [u8], table: &[u8], k: usize, to: BlockId)
+    ensures { λ u. ⌜ now (code .exit) ≡ spec.endRewritten (now (code .entry)) (recordAt (now (table .entry)) k) (i.Br to) ⌝ }
+{
+    let r = format::record_at(table, k);
+    if r.p1 < r.p2 {
+        let at = r.p2 as usize - 1;
+        let old = format::record_at(code, at);
+        store::put_record(code, at, codec::br_record(to, old.stmt));
     }
 }

@@ -105,14 +105,7 @@ fn choose(v: u64, t: BlockId, e: BlockId) -> BlockId
 fn fold(code: &mut [u8], table: &[u8], a: usize, v: u64, t: BlockId, e: BlockId) -> Turn
     ensures { λ z. ⌜ turned (now (code .exit)) z ≡ foldIn (now (table .entry)) a (now (code .entry)) v (t .0) (e .0) ⌝ }
 {
-    blocks::rewrite_end(
-        code,
-        table,
-        a,
-        Inst::Br {
-            to: choose(v, t, e),
-        },
-    );
+    blocks::rewrite_br(code, table, a, choose(v, t, e));
     Turn::Next
 }
 

@@ -1,4 +1,5 @@
 ghost use mathlib.Core.Path.{_≡_};
+ghost use Rattle.inst.specs.declared.Inst.the-variants as i;
 ghost use Rattle.codec.specs.Codec.{wordOf, lowOf, highOf, rowOf, instOf, codeOf, instRecord, recordOf, rewrittenRecord};
 use format::Record;
 use inst::BlockId;
@@ -260,6 +261,25 @@ pub fn record_of(c: Code) -> Record
     let mut r = inst_record(inst);
     r.stmt = stmt.0;
     r
+}
+
+// The record of a Br.
+pub fn br_record(to: BlockId, stmt: u32) -> Record
+    ensures { λ r. ⌜ r ≡ recordOf (record { inst = i.Br to; stmt = record { 0 = stmt } }) ⌝ }
+{
+    Record {
+        class: 4,
+        kind: 18,
+        op: 0,
+        zero: 0,
+        stmt,
+        p1: to.0,
+        p2: 0,
+        p3: 0,
+        p4: 0,
+        p5: 0,
+        p6: 0,
+    }
 }
 
 // The record of another instruction in place of a record's own: all else of it stays.

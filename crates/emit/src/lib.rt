@@ -152,31 +152,12 @@ pub fn put_rescued(out: &mut [u8], at: usize, code: &[u8], facts: &[u64]) -> usi
     top
 }
 
-// The record of a Br.
-fn br_record(to: BlockId, stmt: u32) -> Record
-    ensures { λ r. ⌜ r ≡ recordOf (record { inst = i.Br to; stmt = record { 0 = stmt } }) ⌝ }
-{
-    Record {
-        class: 4,
-        kind: 18,
-        op: 0,
-        zero: 0,
-        stmt,
-        p1: to.0,
-        p2: 0,
-        p3: 0,
-        p4: 0,
-        p5: 0,
-        p6: 0,
-    }
-}
-
 // A Br to the next block, with the first statement of a block, is written at a place; returns the next place.
 pub fn put_emptied(out: &mut [u8], at: usize, next: BlockId, code: &[u8]) -> usize
     ensures { λ z. ⌜ place (now (out .exit)) z ≡ putOne (branchRecord next (codesOf (now (code .entry)))) (place (now (out .entry)) at) ⌝ }
 {
     let first = format::record_at(code, 0);
-    put(out, at, br_record(next, first.stmt))
+    put(out, at, codec::br_record(next, first.stmt))
 }
 
 // The mark of block b; a block without a mark stays.

@@ -15,8 +15,8 @@ meet-requires c κs = search needs
 enum-known-m : tie.Need-enum-known-m
 enum-known-m c = search needs
 
-rewrite-end-requires : tie.Need-rewrite-end-requires
-rewrite-end-requires c κs = search needs
+rewrite-br-requires : tie.Need-rewrite-br-requires
+rewrite-br-requires c κs = search needs
 
 enum-told : tie.Need-enum-told
 enum-told c = search needs
@@ -29,7 +29,7 @@ returns c =
     let t = c .before .before .before .before .before in
     let a = t .before .before .before .before .before .before .args in
     let table = now (a .table) in
-    ap (λ (b : List ℕ). joined b true) (c .before .before .rewrite-end .ensures)
+    ap (λ (b : List ℕ). joined b true) (c .before .before .rewrite-br .ensures)
     ∙ ap (λ (m : Meeting). joinMet table m (a .k) (joined (now (a .code)) (a .edited))) (sym (t .m .given .1))
     ∙ t .before .before .meet .ensures (a .edited)
 
@@ -48,7 +48,7 @@ join-arms-spec =
     (tie.spec
     meet-requires
     enum-known-m
-    rewrite-end-requires
+    rewrite-br-requires
     enum-told
     same-length
     returns

@@ -15,8 +15,8 @@ use Rattle.branch.proofs.fold.Tie as tie
 choose-requires : tie.Need-choose-requires
 choose-requires c κs = search needs
 
-rewrite-end-requires : tie.Need-rewrite-end-requires
-rewrite-end-requires c κs = search needs
+rewrite-br-requires : tie.Need-rewrite-br-requires
+rewrite-br-requires c κs = search needs
 
 same-length : tie.Need-same-length
 same-length c = search needs
@@ -25,8 +25,8 @@ returns : tie.Need-returns
 returns c =
     let x = c .before .before .before in
     let a = x .before .before .before .before .args in
-    ap (λ (b : List ℕ). turned b u.Next) (c .before .before .rewrite-end .ensures)
+    ap (λ (b : List ℕ). turned b u.Next) (c .before .before .rewrite-br .ensures)
     ∙ ap (λ (b : BlockId). turned (endRewritten (now (a .code)) (recordAt (now (a .table)) (a .a)) (i.Br b)) u.Next) (x .choose .ensures)
 
 pub fold-spec : {M : Type 1} → statement M
-fold-spec = tie.close (tie.spec choose-requires rewrite-end-requires same-length returns)
+fold-spec = tie.close (tie.spec choose-requires rewrite-br-requires same-length returns)
