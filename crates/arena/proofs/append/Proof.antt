@@ -21,26 +21,8 @@ Inv-loop work₀ table₀ k top n code end at₀ i₀ work table at i =
 abbrev μ-loop : tie.MeasureT-loop
 μ-loop work₀ table₀ k top n code end at₀ i₀ work table at i = end - i
 
-least-requires : tie.Need-least-requires Inv-loop μ-loop
-least-requires c κs = search needs
-
 loop-holds : tie.Need-loop-holds Inv-loop μ-loop
 loop-holds c = (omega arith, c .least .ensures, refl, refl, refl)
-
-mul-push : tie.Need-mul-push Inv-loop μ-loop
-mul-push c = search needs
-
-array-copy-out-push : tie.Need-array-copy-out-push Inv-loop μ-loop
-array-copy-out-push c = search needs
-
-push-requires : tie.Need-push-requires Inv-loop μ-loop
-push-requires c κs = search needs
-
-add-i : tie.Need-add-i Inv-loop μ-loop
-add-i c = search needs
-
-loop-less : tie.Need-loop-less Inv-loop μ-loop
-loop-less c = search needs
 
 loop-again : tie.Need-loop-again Inv-loop μ-loop
 loop-again c =
@@ -58,12 +40,6 @@ loop-again c =
           ∙ l .loop .inv .4,
     )
 
-same-length : tie.Need-same-length Inv-loop μ-loop
-same-length c = search needs
-
-same-length-2 : tie.Need-same-length-2 Inv-loop μ-loop
-same-length-2 c = search needs
-
 returns : tie.Need-returns Inv-loop μ-loop
 returns c =
     let l = c .before in
@@ -73,18 +49,6 @@ returns c =
 
 pub append-spec : {M : Type 1} → statement M
 append-spec =
-    tie.close
-    (tie.spec
-    Inv-loop
-    μ-loop
-    least-requires
-    loop-holds
-    mul-push
-    array-copy-out-push
-    push-requires
-    add-i
-    loop-less
-    loop-again
-    same-length
-    same-length-2
+    tie.close (tie.spec Inv-loop μ-loop (λ c κs. search needs) loop-holds (λ c. search needs) (λ c. search needs)
+    (λ c κs. search needs) (λ c. search needs) (λ c. search needs) loop-again (λ c. search needs) (λ c. search needs)
     returns)

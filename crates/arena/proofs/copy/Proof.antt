@@ -52,9 +52,6 @@ loop-again c =
           ∙ copy-step b (a .from) (a .to) (a .n) (l .loop .i) (p .0) (p .1) (omega arith),
     )
 
-same-length : tie.Need-same-length Inv-loop μ-loop
-same-length c = search needs
-
 returns : tie.Need-returns Inv-loop μ-loop
 returns c =
     let l = c .before in
@@ -65,17 +62,5 @@ returns c =
 
 pub copy-spec : {M : Type 1} → statement M
 copy-spec =
-    tie.close
-    (tie.spec
-    Inv-loop
-    μ-loop
-    loop-holds
-    add-b
-    slice-read-b
-    add-b-2
-    slice-write-b
-    add-i
-    loop-less
-    loop-again
-    same-length
-    returns)
+    tie.close (tie.spec Inv-loop μ-loop loop-holds add-b slice-read-b add-b-2 slice-write-b add-i loop-less loop-again
+    (λ c. search needs) returns)

@@ -6,12 +6,6 @@ use borrow.Author.Needs.{needs}
 use Rattle.arena.proofs.grows.Statement.{statement}
 use Rattle.arena.proofs.grows.Tie as tie
 
-is-last-requires : tie.Need-is-last-requires
-is-last-requires c κs = search needs
-
-has-room-requires : tie.Need-has-room-requires
-has-room-requires c κs = search needs
-
 returns : tie.Need-returns
 returns c =
     let a = c .before .before .before .before .args in
@@ -23,4 +17,4 @@ returns-2 c =
     c .if1 .left ∙ ap (λ (b : Bool). b && room (now (a .work)) (a .top) 1) (sym (c .if1 .left) ∙ c .before .is-last .ensures)
 
 pub grows-spec : {M : Type 1} → statement M
-grows-spec = tie.close (tie.spec is-last-requires has-room-requires returns returns-2)
+grows-spec = tie.close (tie.spec (λ c κs. search needs) (λ c κs. search needs) returns returns-2)

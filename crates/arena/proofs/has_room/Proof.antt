@@ -7,9 +7,6 @@ use borrow.Author.Needs.{needs}
 use Rattle.arena.proofs.has_room.Statement.{statement}
 use Rattle.arena.proofs.has_room.Tie as tie
 
-least-requires : tie.Need-least-requires
-least-requires c κs = search needs
-
 returns : tie.Need-returns
 returns c = let a = c .before .before .before .args in
     room-split (a .top) (a .n) (c .before .least .result) (c .if1 .taken) ∙ ap (leb (a .top + a .n)) (c .before .least .ensures)
@@ -19,4 +16,4 @@ returns-2 c = let a = c .before .before .before .args in
     lt-leb _ _ (c .if1 .left) ∙ no-room (a .top) (a .n) (c .before .least .result) (c .if1 .left) ∙ ap (leb (a .top + a .n)) (c .before .least .ensures)
 
 pub has-room-spec : {M : Type 1} → statement M
-has-room-spec = tie.close (tie.spec least-requires returns returns-2)
+has-room-spec = tie.close (tie.spec (λ c κs. search needs) returns returns-2)

@@ -9,25 +9,10 @@ use borrow.Author.Needs.{needs}
 use Rattle.arena.proofs.moves.Statement.{statement}
 use Rattle.arena.proofs.moves.Tie as tie
 
-is-last-requires : tie.Need-is-last-requires
-is-last-requires c κs = search needs
-
 returns : tie.Need-returns
 returns c =
     let a = c .before .before .before .args in
     moves-by (now (a .work)) (a .r) (a .top) (sym (c .if1 .taken) ∙ c .before .is-last .ensures) refl
-
-size-of-requires : tie.Need-size-of-requires
-size-of-requires c κs = search needs
-
-cast-if2 : tie.Need-cast-if2
-cast-if2 c = search needs
-
-add-if2 : tie.Need-add-if2
-add-if2 c = search needs
-
-has-room-requires : tie.Need-has-room-requires
-has-room-requires c κs = search needs
 
 returns-2 : tie.Need-returns-2
 returns-2 c =
@@ -49,13 +34,5 @@ returns-3 c =
 
 pub moves-spec : {M : Type 1} → statement M
 moves-spec =
-    tie.close
-    (tie.spec
-    is-last-requires
-    returns
-    size-of-requires
-    cast-if2
-    add-if2
-    has-room-requires
-    returns-2
-    returns-3)
+    tie.close (tie.spec (λ c κs. search needs) returns (λ c κs. search needs) (λ c. search needs) (λ c. search needs)
+    (λ c κs. search needs) returns-2 returns-3)

@@ -10,15 +10,6 @@ use borrow.Author.Needs.{needs}
 use Rattle.arena.proofs.pop.Statement.{statement}
 use Rattle.arena.proofs.pop.Tie as tie
 
-record-at-requires : tie.Need-record-at-requires
-record-at-requires c κs = search needs
-
-can-pop-requires : tie.Need-can-pop-requires
-can-pop-requires c κs = search needs
-
-same-length : tie.Need-same-length
-same-length c = search needs
-
 returns : tie.Need-returns
 returns c =
     let q = c .before in
@@ -32,18 +23,12 @@ sub-point c =
     let p = popping (q .before .record-at .result) (q .before .before .before .before .args .top) (sym (q .can-pop .ensures) ∙ test) in
     omega (arith, p .holds, p .last)
 
-point-requires : tie.Need-point-requires
-point-requires c κs = search needs
-
 sub-result : tie.Need-sub-result
 sub-result c =
     let q = c .before .before .before .before .before .before in
     let test = not-false _ (c .before .before .before .before .before .if1 .left) in
     let p = popping (q .before .record-at .result) (q .before .before .before .before .args .top) (sym (q .can-pop .ensures) ∙ test) in
     omega (arith, p .holds, p .last)
-
-same-length-2 : tie.Need-same-length-2
-same-length-2 c = search needs
 
 returns-2 : tie.Need-returns-2
 returns-2 c =
@@ -55,14 +40,5 @@ returns-2 c =
 
 pub pop-spec : {M : Type 1} → statement M
 pop-spec =
-    tie.close
-    (tie.spec
-    record-at-requires
-    can-pop-requires
-    same-length
-    returns
-    sub-point
-    point-requires
-    sub-result
-    same-length-2
-    returns-2)
+    tie.close (tie.spec (λ c κs. search needs) (λ c κs. search needs) (λ c. search needs) returns sub-point
+    (λ c κs. search needs) sub-result (λ c. search needs) returns-2)

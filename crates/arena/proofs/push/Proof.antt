@@ -12,30 +12,12 @@ use borrow.Author.Needs.{needs}
 use Rattle.arena.proofs.push.Statement.{statement}
 use Rattle.arena.proofs.push.Tie as tie
 
-record-at-requires : tie.Need-record-at-requires
-record-at-requires c κs = search needs
-
-grows-requires : tie.Need-grows-requires
-grows-requires c κs = search needs
-
-same-length : tie.Need-same-length
-same-length c = search needs
-
-same-length-2 : tie.Need-same-length-2
-same-length-2 c = search needs
-
 returns : tie.Need-returns
 returns c =
     let q = c .before in
     let a = q .before .before .before .before .before .before .args in
     let test = not-true _ (c .if1 .taken) in
     by-grows (a .k) (a .c) (arena (now (a .work)) (now (a .table)) (a .top)) (q .before .before .record-at .ensures) (sym test ∙ q .grows .ensures)
-
-record-of-requires : tie.Need-record-of-requires
-record-of-requires c κs = search needs
-
-put-record-requires : tie.Need-put-record-requires
-put-record-requires c κs = search needs
 
 add-point : tie.Need-add-point
 add-point c =
@@ -53,9 +35,6 @@ cast-point c =
     let g = growing (now (a .work)) (q .before .before .record-at .result) (a .top) (sym (q .grows .ensures) ∙ test) in
     omega (arith, g .fits, g .word)
 
-point-requires : tie.Need-point-requires
-point-requires c κs = search needs
-
 add-result : tie.Need-add-result
 add-result c =
     let q = c .before .before .before .before .before .before .before .before .before .before in
@@ -63,12 +42,6 @@ add-result c =
     let test = not-false _ (c .before .before .before .before .before .before .before .before .before .if1 .left) in
     let g = growing (now (a .work)) (q .before .before .record-at .result) (a .top) (sym (q .grows .ensures) ∙ test) in
     omega (arith, g .fits, g .word)
-
-same-length-3 : tie.Need-same-length-3
-same-length-3 c = search needs
-
-same-length-4 : tie.Need-same-length-4
-same-length-4 c = search needs
 
 returns-2 : tie.Need-returns-2
 returns-2 c =
@@ -83,19 +56,6 @@ returns-2 c =
 
 pub push-spec : {M : Type 1} → statement M
 push-spec =
-    tie.close
-    (tie.spec
-    record-at-requires
-    grows-requires
-    same-length
-    same-length-2
-    returns
-    record-of-requires
-    put-record-requires
-    add-point
-    cast-point
-    point-requires
-    add-result
-    same-length-3
-    same-length-4
-    returns-2)
+    tie.close (tie.spec (λ c κs. search needs) (λ c κs. search needs) (λ c. search needs) (λ c. search needs) returns
+    (λ c κs. search needs) (λ c κs. search needs) add-point cast-point (λ c κs. search needs) add-result
+    (λ c. search needs) (λ c. search needs) returns-2)

@@ -12,33 +12,12 @@ use borrow.Author.Needs.{needs}
 use Rattle.arena.proofs.to_end.Statement.{statement}
 use Rattle.arena.proofs.to_end.Tie as tie
 
-record-at-requires : tie.Need-record-at-requires
-record-at-requires c κs = search needs
-
-moves-requires : tie.Need-moves-requires
-moves-requires c κs = search needs
-
-same-length : tie.Need-same-length
-same-length c = search needs
-
-same-length-2 : tie.Need-same-length-2
-same-length-2 c = search needs
-
 returns : tie.Need-returns
 returns c =
     let q = c .before in
     let a = q .before .before .before .before .before .before .args in
     let test = not-true _ (c .if1 .taken) in
     by-moves (a .k) (arena (now (a .work)) (now (a .table)) (a .top)) (q .before .before .record-at .ensures) (sym test ∙ q .moves .ensures)
-
-size-of-requires : tie.Need-size-of-requires
-size-of-requires c κs = search needs
-
-cast-copy : tie.Need-cast-copy
-cast-copy c = search needs
-
-mul-copy : tie.Need-mul-copy
-mul-copy c = search needs
 
 mul-copy-2 : tie.Need-mul-copy-2
 mul-copy-2 c =
@@ -48,9 +27,6 @@ mul-copy-2 c =
     let m = moving (now (a .work)) (q .before .before .record-at .result) (a .top) (sym (q .moves .ensures) ∙ test) in
     let e = c .before .before .size-of .ensures in
     omega (arith, m .below, m .fits, m .word, e)
-
-mul-copy-3 : tie.Need-mul-copy-3
-mul-copy-3 c = search needs
 
 copy-requires : tie.Need-copy-requires
 copy-requires c κs =
@@ -88,9 +64,6 @@ cast-point-2 c =
     let e = c .before .before .before .before .before .before .size-of .ensures in
     omega (arith, m .below, m .fits, m .word, e)
 
-point-requires : tie.Need-point-requires
-point-requires c κs = search needs
-
 add-result : tie.Need-add-result
 add-result c =
     let q = c .before .before .before .before .before .before .before .before .before .before .before in
@@ -99,12 +72,6 @@ add-result c =
     let m = moving (now (a .work)) (q .before .before .record-at .result) (a .top) (sym (q .moves .ensures) ∙ test) in
     let e = c .before .before .before .before .before .before .before .before .before .size-of .ensures in
     omega (arith, m .below, m .fits, m .word, e)
-
-same-length-3 : tie.Need-same-length-3
-same-length-3 c = search needs
-
-same-length-4 : tie.Need-same-length-4
-same-length-4 c = search needs
 
 returns-2 : tie.Need-returns-2
 returns-2 c =
@@ -122,24 +89,7 @@ returns-2 c =
 
 pub to-end-spec : {M : Type 1} → statement M
 to-end-spec =
-    tie.close
-    (tie.spec
-    record-at-requires
-    moves-requires
-    same-length
-    same-length-2
-    returns
-    size-of-requires
-    cast-copy
-    mul-copy
-    mul-copy-2
-    mul-copy-3
-    copy-requires
-    cast-point
-    add-point
-    cast-point-2
-    point-requires
-    add-result
-    same-length-3
-    same-length-4
+    tie.close (tie.spec (λ c κs. search needs) (λ c κs. search needs) (λ c. search needs) (λ c. search needs) returns
+    (λ c κs. search needs) (λ c. search needs) (λ c. search needs) mul-copy-2 (λ c. search needs) copy-requires
+    cast-point add-point cast-point-2 (λ c κs. search needs) add-result (λ c. search needs) (λ c. search needs)
     returns-2)

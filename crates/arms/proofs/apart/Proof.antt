@@ -7,24 +7,6 @@ use borrow.Author.Needs.{needs}
 use Rattle.arms.proofs.apart.Statement.{statement}
 use Rattle.arms.proofs.apart.Tie as tie
 
-end-at-requires : tie.Need-end-at-requires
-end-at-requires c κs = search needs
-
-enum-told : tie.Need-enum-told
-enum-told c = search needs
-
-enum-known-e : tie.Need-enum-known-e
-enum-known-e c = search needs
-
-lead-apart-requires : tie.Need-lead-apart-requires
-lead-apart-requires c κs = search needs
-
-enum-told-2 : tie.Need-enum-told-2
-enum-told-2 c = search needs
-
-enum-told-3 : tie.Need-enum-told-3
-enum-told-3 c = search needs
-
 returns : tie.Need-returns
 returns c z edited =
     let x = c .before .before in
@@ -58,15 +40,5 @@ returns-4 c z edited =
 
 pub apart-spec : {M : Type 1} → statement M
 apart-spec =
-    tie.close
-    (tie.spec
-    end-at-requires
-    enum-told
-    enum-known-e
-    lead-apart-requires
-    enum-told-2
-    enum-told-3
-    returns
-    returns-2
-    returns-3
-    returns-4)
+    tie.close (tie.spec (λ c κs. search needs) (λ c. search needs) (λ c. search needs) (λ c κs. search needs)
+    (λ c. search needs) (λ c. search needs) returns returns-2 returns-3 returns-4)

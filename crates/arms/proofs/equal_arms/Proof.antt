@@ -17,23 +17,11 @@ Inv-loop code₀ table n edited₀ k₀ code edited k =
 abbrev μ-loop : tie.MeasureT-loop
 μ-loop code₀ table n edited₀ k₀ code edited k = n - k
 
-next-meeting-requires : tie.Need-next-meeting-requires Inv-loop μ-loop
-next-meeting-requires c κs = search needs
-
 loop-holds : tie.Need-loop-holds Inv-loop μ-loop
 loop-holds c =
     let a = c .before .before .before .before .args in
     let e : length (now (a .table)) / 32 - 0 ≡ length (now (a .table)) / 32 = omega arith in
     (refl, refl, c .next-meeting .ensures .1 false ∙ ap (λ (m : ℕ). joinFrom (now (a .table)) m 0 (joined (now (a .code)) false)) e)
-
-join-arms-requires : tie.Need-join-arms-requires Inv-loop μ-loop
-join-arms-requires c κs = search needs
-
-add-next-meeting : tie.Need-add-next-meeting Inv-loop μ-loop
-add-next-meeting c = search needs
-
-next-meeting-requires-2 : tie.Need-next-meeting-requires-2 Inv-loop μ-loop
-next-meeting-requires-2 c κs = search needs
 
 loop-less : tie.Need-loop-less Inv-loop μ-loop
 loop-less c = let h = c .next-meeting2 .ensures .0 in omega arith
@@ -55,9 +43,6 @@ loop-again c =
           ∙ l .loop .inv .2,
     )
 
-same-length : tie.Need-same-length Inv-loop μ-loop
-same-length c = search needs
-
 returns : tie.Need-returns Inv-loop μ-loop
 unfolding joinFrom
 returns c =
@@ -68,16 +53,5 @@ returns c =
 
 pub equal-arms-spec : {M : Type 1} → statement M
 equal-arms-spec =
-    tie.close
-    (tie.spec
-    Inv-loop
-    μ-loop
-    next-meeting-requires
-    loop-holds
-    join-arms-requires
-    add-next-meeting
-    next-meeting-requires-2
-    loop-less
-    loop-again
-    same-length
-    returns)
+    tie.close (tie.spec Inv-loop μ-loop (λ c κs. search needs) loop-holds (λ c κs. search needs) (λ c. search needs)
+    (λ c κs. search needs) loop-less loop-again (λ c. search needs) returns)

@@ -28,15 +28,6 @@ loop-holds c = (omega arith, omega arith, refl)
 cast-block : tie.Need-cast-block Inv-loop μ-loop
 cast-block c = omega arith
 
-block-requires : tie.Need-block-requires Inv-loop μ-loop
-block-requires c κs = search needs
-
-lone-of-requires : tie.Need-lone-of-requires Inv-loop μ-loop
-lone-of-requires c κs = search needs
-
-past-requires : tie.Need-past-requires Inv-loop μ-loop
-past-requires c κs = search needs
-
 returns : tie.Need-returns Inv-loop μ-loop
 returns c =
     let q = c .before .before .before in
@@ -47,12 +38,6 @@ returns c =
     let lone = q .before .lone-of .ensures ∙ ap loneOf (ap codesOf (q .before .before .block .ensures) ∙ block-codes (now (a .code)) (now (a .table)) b) in
     let t = q .past .ensures ∙ ap (λ (x : End). blockOf (past b x)) lone in
     ap blockOf (sym (follow-fixed p (4 - l .loop .k) b (sym (ap (λ (x : BlockId). x .0) t) ∙ c .if1 .taken)) ∙ l .loop .inv .2)
-
-add-k : tie.Need-add-k Inv-loop μ-loop
-add-k c = search needs
-
-loop-less : tie.Need-loop-less Inv-loop μ-loop
-loop-less c = search needs
 
 loop-again : tie.Need-loop-again Inv-loop μ-loop
 loop-again c =
@@ -83,17 +68,5 @@ returns-2 c =
 
 pub follow-spec : {M : Type 1} → statement M
 follow-spec =
-    tie.close
-    (tie.spec
-    Inv-loop
-    μ-loop
-    loop-holds
-    cast-block
-    block-requires
-    lone-of-requires
-    past-requires
-    returns
-    add-k
-    loop-less
-    loop-again
-    returns-2)
+    tie.close (tie.spec Inv-loop μ-loop loop-holds cast-block (λ c κs. search needs) (λ c κs. search needs)
+    (λ c κs. search needs) returns (λ c. search needs) (λ c. search needs) loop-again returns-2)

@@ -9,21 +9,6 @@ use borrow.Author.Needs.{needs}
 use Rattle.arms.proofs.join_arms.Statement.{statement}
 use Rattle.arms.proofs.join_arms.Tie as tie
 
-meet-requires : tie.Need-meet-requires
-meet-requires c κs = search needs
-
-enum-known-m : tie.Need-enum-known-m
-enum-known-m c = search needs
-
-rewrite-br-requires : tie.Need-rewrite-br-requires
-rewrite-br-requires c κs = search needs
-
-enum-told : tie.Need-enum-told
-enum-told c = search needs
-
-same-length : tie.Need-same-length
-same-length c = search needs
-
 returns : tie.Need-returns
 returns c =
     let t = c .before .before .before .before .before in
@@ -33,9 +18,6 @@ returns c =
     ∙ ap (λ (m : Meeting). joinMet table m (a .k) (joined (now (a .code)) (a .edited))) (sym (t .m .given .1))
     ∙ t .before .before .meet .ensures (a .edited)
 
-same-length-2 : tie.Need-same-length-2
-same-length-2 c = search needs
-
 returns-2 : tie.Need-returns-2
 returns-2 c =
     let a = c .before .before .before .before .before .before .args in
@@ -44,13 +26,5 @@ returns-2 c =
 
 pub join-arms-spec : {M : Type 1} → statement M
 join-arms-spec =
-    tie.close
-    (tie.spec
-    meet-requires
-    enum-known-m
-    rewrite-br-requires
-    enum-told
-    same-length
-    returns
-    same-length-2
-    returns-2)
+    tie.close (tie.spec (λ c κs. search needs) (λ c. search needs) (λ c κs. search needs) (λ c. search needs)
+    (λ c. search needs) returns (λ c. search needs) returns-2)

@@ -11,20 +11,8 @@ use Rattle.arms.proofs.lead_apart.Tie as tie
 returns : tie.Need-returns
 returns c z = absurd (false≢true z)
 
-cast-is-lone : tie.Need-cast-is-lone
-cast-is-lone c = search needs
-
-is-lone-requires : tie.Need-is-lone-requires
-is-lone-requires c κs = search needs
-
 returns-2 : tie.Need-returns-2
 returns-2 c z = absurd (false≢true z)
-
-cast-is-lone-2 : tie.Need-cast-is-lone-2
-cast-is-lone-2 c = search needs
-
-is-lone-requires-2 : tie.Need-is-lone-requires-2
-is-lone-requires-2 c κs = search needs
 
 returns-3 : tie.Need-returns-3
 returns-3 c z =
@@ -39,12 +27,5 @@ returns-3 c z =
 
 pub lead-apart-spec : {M : Type 1} → statement M
 lead-apart-spec =
-    tie.close
-    (tie.spec
-    returns
-    cast-is-lone
-    is-lone-requires
-    returns-2
-    cast-is-lone-2
-    is-lone-requires-2
-    returns-3)
+    tie.close (tie.spec returns (λ c. search needs) (λ c κs. search needs) returns-2 (λ c. search needs)
+    (λ c κs. search needs) returns-3)

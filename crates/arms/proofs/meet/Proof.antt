@@ -6,21 +6,6 @@ use borrow.Author.Needs.{needs}
 use Rattle.arms.proofs.meet.Statement.{statement}
 use Rattle.arms.proofs.meet.Tie as tie
 
-end-at-requires : tie.Need-end-at-requires
-end-at-requires c κs = search needs
-
-enum-told : tie.Need-enum-told
-enum-told c = search needs
-
-enum-known-e : tie.Need-enum-known-e
-enum-known-e c = search needs
-
-follow-requires : tie.Need-follow-requires
-follow-requires c κs = search needs
-
-follow-requires-2 : tie.Need-follow-requires-2
-follow-requires-2 c κs = search needs
-
 returns : tie.Need-returns
 returns c edited =
     let t = c .before .before .before .before .before .before in
@@ -32,12 +17,6 @@ returns c edited =
     arms-differ table (a .k) s (x .0) (x .1 .0) (x .1 .1 .0)
     (c .before .before .before .before .follow .ensures) (c .before .before .before .follow2 .ensures) (c .if1 .taken)
     ∙ by-end table (a .k) s (f .end-at .ensures) (t .e .given .1)
-
-enum-told-2 : tie.Need-enum-told-2
-enum-told-2 c = search needs
-
-enum-told-3 : tie.Need-enum-told-3
-enum-told-3 c = search needs
 
 returns-2 : tie.Need-returns-2
 returns-2 c edited =
@@ -71,17 +50,5 @@ returns-5 c edited =
 
 pub meet-spec : {M : Type 1} → statement M
 meet-spec =
-    tie.close
-    (tie.spec
-    end-at-requires
-    enum-told
-    enum-known-e
-    follow-requires
-    follow-requires-2
-    returns
-    enum-told-2
-    enum-told-3
-    returns-2
-    returns-3
-    returns-4
-    returns-5)
+    tie.close (tie.spec (λ c κs. search needs) (λ c. search needs) (λ c. search needs) (λ c κs. search needs)
+    (λ c κs. search needs) returns (λ c. search needs) (λ c. search needs) returns-2 returns-3 returns-4 returns-5)

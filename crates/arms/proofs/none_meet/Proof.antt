@@ -17,32 +17,14 @@ Inv-loop code table n k₀ k = (n ≡ length table / 32) × (joinFrom table (n -
 abbrev μ-loop : tie.MeasureT-loop
 μ-loop code table n k₀ k = n - k
 
-next-meeting-requires : tie.Need-next-meeting-requires Inv-loop μ-loop
-next-meeting-requires c κs = search needs
-
 loop-holds : tie.Need-loop-holds Inv-loop μ-loop
 loop-holds c =
     let a = c .before .before .before .args in
     let e : length (now (a .table)) / 32 - 0 ≡ length (now (a .table)) / 32 = omega arith in
     (refl, c .next-meeting .ensures .1 false ∙ ap (λ (m : ℕ). joinFrom (now (a .table)) m 0 (joined (now (a .code)) false)) e)
 
-meet-requires : tie.Need-meet-requires Inv-loop μ-loop
-meet-requires c κs = search needs
-
-enum-told : tie.Need-enum-told Inv-loop μ-loop
-enum-told c = search needs
-
 returns : tie.Need-returns Inv-loop μ-loop
 returns c e = absurd (false≢true e)
-
-enum-told-2 : tie.Need-enum-told-2 Inv-loop μ-loop
-enum-told-2 c = search needs
-
-add-next-meeting : tie.Need-add-next-meeting Inv-loop μ-loop
-add-next-meeting c = search needs
-
-next-meeting-requires-2 : tie.Need-next-meeting-requires-2 Inv-loop μ-loop
-next-meeting-requires-2 c κs = search needs
 
 loop-less : tie.Need-loop-less Inv-loop μ-loop
 loop-less c = let h = c .next-meeting2 .ensures .0 in omega arith
@@ -70,18 +52,5 @@ returns-2 c e =
 
 pub none-meet-spec : {M : Type 1} → statement M
 none-meet-spec =
-    tie.close
-    (tie.spec
-    Inv-loop
-    μ-loop
-    next-meeting-requires
-    loop-holds
-    meet-requires
-    enum-told
-    returns
-    enum-told-2
-    add-next-meeting
-    next-meeting-requires-2
-    loop-less
-    loop-again
-    returns-2)
+    tie.close (tie.spec Inv-loop μ-loop (λ c κs. search needs) loop-holds (λ c κs. search needs) (λ c. search needs)
+    returns (λ c. search needs) (λ c. search needs) (λ c κs. search needs) loop-less loop-again returns-2)

@@ -8,18 +8,6 @@ use borrow.Author.Needs.{needs}
 use Rattle.arms.proofs.past.Statement.{statement}
 use Rattle.arms.proofs.past.Tie as tie
 
-enum-known-e : tie.Need-enum-known-e
-enum-known-e c = search needs
-
-enum-told : tie.Need-enum-told
-enum-told c = search needs
-
-enum-told-2 : tie.Need-enum-told-2
-enum-told-2 c = search needs
-
-enum-told-3 : tie.Need-enum-told-3
-enum-told-3 c = search needs
-
 returns : tie.Need-returns
 returns c =
     let b = c .before .before .before .before .before .before .args .b in
@@ -45,14 +33,5 @@ returns-5 c = sym (ap (λ (x : End). blockOf (past (c .before .before .args .b .
 
 pub past-spec : {M : Type 1} → statement M
 past-spec =
-    tie.close
-    (tie.spec
-    enum-known-e
-    enum-told
-    enum-told-2
-    enum-told-3
-    returns
-    returns-2
-    returns-3
-    returns-4
-    returns-5)
+    tie.close (tie.spec (λ c. search needs) (λ c. search needs) (λ c. search needs) (λ c. search needs) returns
+    returns-2 returns-3 returns-4 returns-5)

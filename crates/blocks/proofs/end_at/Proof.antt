@@ -11,18 +11,6 @@ use borrow.Author.Needs.{needs}
 use Rattle.blocks.proofs.end_at.Statement.{statement}
 use Rattle.blocks.proofs.end_at.Tie as tie
 
-record-at-requires : tie.Need-record-at-requires
-record-at-requires c κs = search needs
-
-cast-least : tie.Need-cast-least
-cast-least c = search needs
-
-least-requires : tie.Need-least-requires
-least-requires c κs = search needs
-
-cast-if1 : tie.Need-cast-if1
-cast-if1 c = search needs
-
 returns : tie.Need-returns
 returns c =
     let l = c .before .before in
@@ -32,15 +20,6 @@ returns c =
     let x = r .record-at .result in
     let h : min (x .p2) (length code / 32) ≤ x .p1 = subst (λ (m : ℕ). m ≤ x .p1) (l .least .ensures) (c .if1 .taken) in
     ends-nowhere code (now (a .table)) (a .k) (subst (λ (x : Record). end-within code x ≤ x .p1) (r .record-at .ensures) h)
-
-sub-record-at : tie.Need-sub-record-at
-sub-record-at c = search needs
-
-record-at-requires-2 : tie.Need-record-at-requires-2
-record-at-requires-2 c κs = search needs
-
-end-in-requires : tie.Need-end-in-requires
-end-in-requires c κs = search needs
 
 returns-2 : tie.Need-returns-2
 returns-2 c =
@@ -58,14 +37,5 @@ returns-2 c =
 
 pub end-at-spec : {M : Type 1} → statement M
 end-at-spec =
-    tie.close
-    (tie.spec
-    record-at-requires
-    cast-least
-    least-requires
-    cast-if1
-    returns
-    sub-record-at
-    record-at-requires-2
-    end-in-requires
-    returns-2)
+    tie.close (tie.spec (λ c κs. search needs) (λ c. search needs) (λ c κs. search needs) (λ c. search needs) returns
+    (λ c. search needs) (λ c κs. search needs) (λ c κs. search needs) returns-2)

@@ -8,15 +8,6 @@ use borrow.Author.Needs.{needs}
 use Rattle.blocks.proofs.front.Statement.{statement}
 use Rattle.blocks.proofs.front.Tie as tie
 
-least-requires : tie.Need-least-requires
-least-requires c κs = search needs
-
-sub-result : tie.Need-sub-result
-sub-result c = search needs
-
-mul-result : tie.Need-mul-result
-mul-result c = search needs
-
 slice-aggregate-result : tie.Need-slice-aggregate-result
 slice-aggregate-result c =
     let code = now (c .before .before .before .args .code) in
@@ -30,4 +21,4 @@ returns c =
 
 pub front-spec : {M : Type 1} → statement M
 front-spec =
-    tie.close (tie.spec least-requires sub-result mul-result slice-aggregate-result returns)
+    tie.close (tie.spec (λ c κs. search needs) (λ c. search needs) (λ c. search needs) slice-aggregate-result returns)

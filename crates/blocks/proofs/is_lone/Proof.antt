@@ -10,21 +10,6 @@ use borrow.Author.Needs.{needs}
 use Rattle.blocks.proofs.is_lone.Statement.{statement}
 use Rattle.blocks.proofs.is_lone.Tie as tie
 
-record-at-requires : tie.Need-record-at-requires
-record-at-requires c κs = search needs
-
-cast-result : tie.Need-cast-result
-cast-result c = search needs
-
-add-result : tie.Need-add-result
-add-result c = search needs
-
-cast-least : tie.Need-cast-least
-cast-least c = search needs
-
-least-requires : tie.Need-least-requires
-least-requires c κs = search needs
-
 returns : tie.Need-returns
 returns c =
     let r = c .before .before .before in
@@ -36,5 +21,5 @@ returns c =
 
 pub is-lone-spec : {M : Type 1} → statement M
 is-lone-spec =
-    tie.close
-    (tie.spec record-at-requires cast-result add-result cast-least least-requires returns)
+    tie.close (tie.spec (λ c κs. search needs) (λ c. search needs) (λ c. search needs) (λ c. search needs)
+    (λ c κs. search needs) returns)

@@ -6,27 +6,6 @@ use borrow.Author.Needs.{needs}
 use Rattle.blocks.proofs.part.Statement.{statement}
 use Rattle.blocks.proofs.part.Tie as tie
 
-least-requires : tie.Need-least-requires
-least-requires c κs = search needs
-
-least-requires-2 : tie.Need-least-requires-2
-least-requires-2 c κs = search needs
-
-mul-result : tie.Need-mul-result
-mul-result c = search needs
-
-mul-result-2 : tie.Need-mul-result-2
-mul-result-2 c = search needs
-
-sub-result : tie.Need-sub-result
-sub-result c = search needs
-
-part-result-start : tie.Need-part-result-start
-part-result-start c = search needs
-
-part-result-end : tie.Need-part-result-end
-part-result-end c = search needs
-
 returns : tie.Need-returns
 returns c =
     let a = c .before .before .before .before .args in
@@ -37,13 +16,5 @@ returns c =
 
 pub part-spec : {M : Type 1} → statement M
 part-spec =
-    tie.close
-    (tie.spec
-    least-requires
-    least-requires-2
-    mul-result
-    mul-result-2
-    sub-result
-    part-result-start
-    part-result-end
-    returns)
+    tie.close (tie.spec (λ c κs. search needs) (λ c κs. search needs) (λ c. search needs) (λ c. search needs)
+    (λ c. search needs) (λ c. search needs) (λ c. search needs) returns)

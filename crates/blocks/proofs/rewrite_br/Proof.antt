@@ -11,27 +11,6 @@ use borrow.Author.Needs.{needs}
 use Rattle.blocks.proofs.rewrite_br.Statement.{statement}
 use Rattle.blocks.proofs.rewrite_br.Tie as tie
 
-record-at-requires : tie.Need-record-at-requires
-record-at-requires c κs = search needs
-
-cast-at : tie.Need-cast-at
-cast-at c = search needs
-
-sub-at : tie.Need-sub-at
-sub-at c = search needs
-
-record-at-requires-2 : tie.Need-record-at-requires-2
-record-at-requires-2 c κs = search needs
-
-br-record-requires : tie.Need-br-record-requires
-br-record-requires c κs = search needs
-
-put-record-requires : tie.Need-put-record-requires
-put-record-requires c κs = search needs
-
-same-length : tie.Need-same-length
-same-length c = search needs
-
 returns : tie.Need-returns
 returns c =
     let t = c .before .before .before .before .before .before .before .before .before .before in
@@ -52,14 +31,5 @@ returns-2 c =
 
 pub rewrite-br-spec : {M : Type 1} → statement M
 rewrite-br-spec =
-    tie.close
-    (tie.spec
-    record-at-requires
-    cast-at
-    sub-at
-    record-at-requires-2
-    br-record-requires
-    put-record-requires
-    same-length
-    returns
-    returns-2)
+    tie.close (tie.spec (λ c κs. search needs) (λ c. search needs) (λ c. search needs) (λ c κs. search needs)
+    (λ c κs. search needs) (λ c κs. search needs) (λ c. search needs) returns returns-2)

@@ -10,27 +10,6 @@ use borrow.Author.Needs.{needs}
 use Rattle.blocks.proofs.rewrite_end.Statement.{statement}
 use Rattle.blocks.proofs.rewrite_end.Tie as tie
 
-record-at-requires : tie.Need-record-at-requires
-record-at-requires c κs = search needs
-
-cast-last : tie.Need-cast-last
-cast-last c = search needs
-
-sub-last : tie.Need-sub-last
-sub-last c = search needs
-
-record-at-requires-2 : tie.Need-record-at-requires-2
-record-at-requires-2 c κs = search needs
-
-rewritten-requires : tie.Need-rewritten-requires
-rewritten-requires c κs = search needs
-
-put-record-requires : tie.Need-put-record-requires
-put-record-requires c κs = search needs
-
-same-length : tie.Need-same-length
-same-length c = search needs
-
 returns : tie.Need-returns
 returns c =
     let t = c .before .before .before .before .before .before .before .before .before .before in
@@ -51,14 +30,5 @@ returns-2 c =
 
 pub rewrite-end-spec : {M : Type 1} → statement M
 rewrite-end-spec =
-    tie.close
-    (tie.spec
-    record-at-requires
-    cast-last
-    sub-last
-    record-at-requires-2
-    rewritten-requires
-    put-record-requires
-    same-length
-    returns
-    returns-2)
+    tie.close (tie.spec (λ c κs. search needs) (λ c. search needs) (λ c. search needs) (λ c κs. search needs)
+    (λ c κs. search needs) (λ c κs. search needs) (λ c. search needs) returns returns-2)

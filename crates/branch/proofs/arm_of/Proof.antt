@@ -6,16 +6,10 @@ use borrow.Author.Needs.{needs}
 use Rattle.branch.proofs.arm_of.Statement.{statement}
 use Rattle.branch.proofs.arm_of.Tie as tie
 
-cast-if1 : tie.Need-cast-if1
-cast-if1 c = search needs
-
 returns : tie.Need-returns
 returns c =
     let a = c .before .before .before .before .args in
     arm-here (now (a .table)) (a .a) (now (a .code)) (bodyIn (a .pause)) (a .c .0) (a .truth) (a .l) (c .if1 .taken)
-
-is-pause-requires : tie.Need-is-pause-requires
-is-pause-requires c κs = search needs
 
 returns-2 : tie.Need-returns-2
 returns-2 c =
@@ -23,15 +17,6 @@ returns-2 c =
     let a = p .before .before .before .before .before .args in
     arm-pause (now (a .table)) (a .a) (now (a .code)) (bodyIn (a .pause)) (a .c .0) (a .truth) (a .l) (p .before .if1 .left)
     (sym (p .is-pause .ensures) ∙ c .if2 .taken)
-
-cast-lone-at : tie.Need-cast-lone-at
-cast-lone-at c = search needs
-
-lone-at-requires : tie.Need-lone-at-requires
-lone-at-requires c κs = search needs
-
-matching-requires : tie.Need-matching-requires
-matching-requires c κs = search needs
 
 returns-3 : tie.Need-returns-3
 returns-3 c =
@@ -44,13 +29,5 @@ returns-3 c =
 
 pub arm-of-spec : {M : Type 1} → statement M
 arm-of-spec =
-    tie.close
-    (tie.spec
-    cast-if1
-    returns
-    is-pause-requires
-    returns-2
-    cast-lone-at
-    lone-at-requires
-    matching-requires
-    returns-3)
+    tie.close (tie.spec (λ c. search needs) returns (λ c κs. search needs) returns-2 (λ c. search needs)
+    (λ c κs. search needs) (λ c κs. search needs) returns-3)

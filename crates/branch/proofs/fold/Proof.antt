@@ -12,15 +12,6 @@ use borrow.Author.Needs.{needs}
 use Rattle.branch.proofs.fold.Statement.{statement}
 use Rattle.branch.proofs.fold.Tie as tie
 
-choose-requires : tie.Need-choose-requires
-choose-requires c κs = search needs
-
-rewrite-br-requires : tie.Need-rewrite-br-requires
-rewrite-br-requires c κs = search needs
-
-same-length : tie.Need-same-length
-same-length c = search needs
-
 returns : tie.Need-returns
 returns c =
     let x = c .before .before .before in
@@ -29,4 +20,4 @@ returns c =
     ∙ ap (λ (b : BlockId). turned (endRewritten (now (a .code)) (recordAt (now (a .table)) (a .a)) (i.Br b)) u.Next) (x .choose .ensures)
 
 pub fold-spec : {M : Type 1} → statement M
-fold-spec = tie.close (tie.spec choose-requires rewrite-br-requires same-length returns)
+fold-spec = tie.close (tie.spec (λ c κs. search needs) (λ c κs. search needs) (λ c. search needs) returns)

@@ -7,24 +7,12 @@ use borrow.Author.Needs.{needs}
 use Rattle.branch.proofs.matching.Statement.{statement}
 use Rattle.branch.proofs.matching.Tie as tie
 
-enum-told : tie.Need-enum-told
-enum-told c = search needs
-
-enum-known-e : tie.Need-enum-known-e
-enum-known-e c = search needs
-
 returns : tie.Need-returns
 returns c =
     let a = c .before .before .before .before .before .before .args in
     let e = c .before .before .before .before .e .given in
     let test = ne-eqb (e .0 .0 .0) (a .c .0) (c .if1 .taken) in
     sym (ap (λ (x : End). blockOf (matching (a .truth) (a .c .0) (a .l .0) x)) (e .1) ∙ rw (test))
-
-enum-told-2 : tie.Need-enum-told-2
-enum-told-2 c = search needs
-
-enum-told-3 : tie.Need-enum-told-3
-enum-told-3 c = search needs
 
 returns-2 : tie.Need-returns-2
 returns-2 c =
@@ -57,15 +45,5 @@ returns-6 c =
 
 pub matching-spec : {M : Type 1} → statement M
 matching-spec =
-    tie.close
-    (tie.spec
-    enum-told
-    enum-known-e
-    returns
-    enum-told-2
-    enum-told-3
-    returns-2
-    returns-3
-    returns-4
-    returns-5
-    returns-6)
+    tie.close (tie.spec (λ c. search needs) (λ c. search needs) returns (λ c. search needs) (λ c. search needs)
+    returns-2 returns-3 returns-4 returns-5 returns-6)

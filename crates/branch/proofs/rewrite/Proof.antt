@@ -10,30 +10,12 @@ use borrow.Author.Needs.{needs}
 use Rattle.branch.proofs.rewrite.Statement.{statement}
 use Rattle.branch.proofs.rewrite.Tie as tie
 
-arm-of-requires : tie.Need-arm-of-requires
-arm-of-requires c κs = search needs
-
-arm-of-requires-2 : tie.Need-arm-of-requires-2
-arm-of-requires-2 c κs = search needs
-
-same-requires : tie.Need-same-requires
-same-requires c κs = search needs
-
-same-length : tie.Need-same-length
-same-length c = search needs
-
 returns : tie.Need-returns
 returns c =
     let s = c .before in
     let a = s .before .before .before .before .before .before .before .args in
     all-same (now (a .table)) (a .a) (now (a .code)) (bodyIn (a .pause)) (a .c .0) (a .t .0) (a .e .0) (a .d .0)
     (s .before .before .before .arm-of .ensures) (s .before .arm-of2 .ensures) (s .same .ensures) (c .if1 .taken)
-
-rewrite-end-requires : tie.Need-rewrite-end-requires
-rewrite-end-requires c κs = search needs
-
-same-length-2 : tie.Need-same-length-2
-same-length-2 c = search needs
 
 returns-2 : tie.Need-returns-2
 returns-2 c =
@@ -47,13 +29,5 @@ returns-2 c =
 
 pub rewrite-spec : {M : Type 1} → statement M
 rewrite-spec =
-    tie.close
-    (tie.spec
-    arm-of-requires
-    arm-of-requires-2
-    same-requires
-    same-length
-    returns
-    rewrite-end-requires
-    same-length-2
-    returns-2)
+    tie.close (tie.spec (λ c κs. search needs) (λ c κs. search needs) (λ c κs. search needs) (λ c. search needs) returns
+    (λ c κs. search needs) (λ c. search needs) returns-2)

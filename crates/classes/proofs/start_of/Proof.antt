@@ -23,9 +23,6 @@ abbrev μ-loop : tie.MeasureT-loop
 loop-holds : tie.Need-loop-holds Inv-loop μ-loop
 loop-holds c = refl
 
-record-at-requires : tie.Need-record-at-requires Inv-loop μ-loop
-record-at-requires c κs = search needs
-
 returns : tie.Need-returns Inv-loop μ-loop
 returns c =
     let l = c .before .before .before .before in
@@ -36,12 +33,6 @@ returns c =
     lead-stop (λ r. ltb (r .class) (a .class)) (recordsOf b) (l .loop .k) blank (rw (length-records b) (omega arith))
     (le-ltb (getD (recordsOf b) (l .loop .k) blank .class) (a .class) (omega arith))
     ∙ l .loop .inv
-
-add-k : tie.Need-add-k Inv-loop μ-loop
-add-k c = search needs
-
-loop-less : tie.Need-loop-less Inv-loop μ-loop
-loop-less c = search needs
 
 loop-again : tie.Need-loop-again Inv-loop μ-loop
 loop-again c =
@@ -63,14 +54,5 @@ returns-2 c =
 
 pub start-of-spec : {M : Type 1} → statement M
 start-of-spec =
-    tie.close
-    (tie.spec
-    Inv-loop
-    μ-loop
-    loop-holds
-    record-at-requires
-    returns
-    add-k
-    loop-less
-    loop-again
-    returns-2)
+    tie.close (tie.spec Inv-loop μ-loop loop-holds (λ c κs. search needs) returns (λ c. search needs)
+    (λ c. search needs) loop-again returns-2)

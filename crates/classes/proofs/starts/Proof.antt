@@ -7,21 +7,6 @@ use Rattle.classes.proofs.Laws.{starts-are}
 use Rattle.classes.proofs.starts.Statement.{statement}
 use Rattle.classes.proofs.starts.Tie as tie
 
-start-of-requires : tie.Need-start-of-requires
-start-of-requires c κs = search needs
-
-start-of-requires-2 : tie.Need-start-of-requires-2
-start-of-requires-2 c κs = search needs
-
-start-of-requires-3 : tie.Need-start-of-requires-3
-start-of-requires-3 c κs = search needs
-
-start-of-requires-4 : tie.Need-start-of-requires-4
-start-of-requires-4 c κs = search needs
-
-start-of-requires-5 : tie.Need-start-of-requires-5
-start-of-requires-5 c κs = search needs
-
 returns : tie.Need-returns
 returns c =
     let c4 = c .before in
@@ -34,11 +19,5 @@ returns c =
 
 pub starts-spec : {M : Type 1} → statement M
 starts-spec =
-    tie.close
-    (tie.spec
-    start-of-requires
-    start-of-requires-2
-    start-of-requires-3
-    start-of-requires-4
-    start-of-requires-5
-    returns)
+    tie.close (tie.spec (λ c κs. search needs) (λ c κs. search needs) (λ c κs. search needs) (λ c κs. search needs)
+    (λ c κs. search needs) returns)

@@ -4,48 +4,6 @@ use Rattle.general.proofs.Numbers.{past}
 use Rattle.codec.proofs.inst_of.Statement.{statement}
 use Rattle.codec.proofs.inst_of.Tie as tie
 
-word-of-requires : tie.Need-word-of-requires
-word-of-requires c κs = search needs
-
-word-of-requires-2 : tie.Need-word-of-requires-2
-word-of-requires-2 c κs = search needs
-
-real-of-requires : tie.Need-real-of-requires
-real-of-requires c κs = search needs
-
-space-of-requires : tie.Need-space-of-requires
-space-of-requires c κs = search needs
-
-cmp-of-requires : tie.Need-cmp-of-requires
-cmp-of-requires c κs = search needs
-
-bool-of-requires : tie.Need-bool-of-requires
-bool-of-requires c κs = search needs
-
-int-of-requires : tie.Need-int-of-requires
-int-of-requires c κs = search needs
-
-int-of-requires-2 : tie.Need-int-of-requires-2
-int-of-requires-2 c κs = search needs
-
-width-of-requires : tie.Need-width-of-requires
-width-of-requires c κs = search needs
-
-width-of-requires-2 : tie.Need-width-of-requires-2
-width-of-requires-2 c κs = search needs
-
-check-of-requires : tie.Need-check-of-requires
-check-of-requires c κs = search needs
-
-cast-t23 : tie.Need-cast-t23
-cast-t23 c = search needs
-
-opt-of-requires : tie.Need-opt-of-requires
-opt-of-requires c κs = search needs
-
-opt-of-requires-2 : tie.Need-opt-of-requires-2
-opt-of-requires-2 c κs = search needs
-
 returns : tie.Need-returns
 returns c = rw (c .word-of .ensures) (inst-at (c .before .before .args .r) 0 (c .before .match .keys1))
 
@@ -120,43 +78,9 @@ returns-24 c = inst-past (c .before .args .r) (past 23 (c .before .args .r .kind
 
 pub inst-of-spec : {M : Type 1} → statement M
 inst-of-spec =
-    tie.close
-    (tie.spec
-    word-of-requires
-    word-of-requires-2
-    real-of-requires
-    space-of-requires
-    cmp-of-requires
-    bool-of-requires
-    int-of-requires
-    int-of-requires-2
-    width-of-requires
-    width-of-requires-2
-    check-of-requires
-    cast-t23
-    opt-of-requires
-    opt-of-requires-2
-    returns
-    returns-2
-    returns-3
-    returns-4
-    returns-5
-    returns-6
-    returns-7
-    returns-8
-    returns-9
-    returns-10
-    returns-11
-    returns-12
-    returns-13
-    returns-14
-    returns-15
-    returns-16
-    returns-17
-    returns-18
-    returns-19
-    returns-20
-    returns-21
-    returns-22
-    returns-23
-    returns-24)
+    tie.close (tie.spec (λ c κs. search needs) (λ c κs. search needs) (λ c κs. search needs) (λ c κs. search needs)
+    (λ c κs. search needs) (λ c κs. search needs) (λ c κs. search needs) (λ c κs. search needs) (λ c κs. search needs)
+    (λ c κs. search needs) (λ c κs. search needs) (λ c. search needs) (λ c κs. search needs) (λ c κs. search needs)
+    returns returns-2 returns-3 returns-4 returns-5 returns-6 returns-7 returns-8 returns-9 returns-10 returns-11
+    returns-12 returns-13 returns-14 returns-15 returns-16 returns-17 returns-18 returns-19 returns-20 returns-21
+    returns-22 returns-23 returns-24)

@@ -18,9 +18,6 @@ Inv-loop n facts m code s₀ k₀ s k =
 abbrev μ-loop : tie.MeasureT-loop
 μ-loop n facts m code s₀ k₀ s k = n - k
 
-nothing-requires : tie.Need-nothing-requires Inv-loop μ-loop
-nothing-requires c κs = search needs
-
 loop-holds : tie.Need-loop-holds Inv-loop μ-loop
 loop-holds c =
     let a = c .before .before .args in
@@ -34,15 +31,6 @@ loop-holds c =
       e .2,
     )
 
-mul-x : tie.Need-mul-x Inv-loop μ-loop
-mul-x c = search needs
-
-array-copy-out-x : tie.Need-array-copy-out-x Inv-loop μ-loop
-array-copy-out-x c = search needs
-
-how-of-requires : tie.Need-how-of-requires Inv-loop μ-loop
-how-of-requires c κs = search needs
-
 cast-t18 : tie.Need-cast-t18 Inv-loop μ-loop
 cast-t18 c = omega arith
 
@@ -51,12 +39,6 @@ add-t19 c = omega arith
 
 placed-requires : tie.Need-placed-requires Inv-loop μ-loop
 placed-requires c κs = (omega arith, omega arith, c .before .before .before .before .loop .inv .5)
-
-add-k : tie.Need-add-k Inv-loop μ-loop
-add-k c = search needs
-
-loop-less : tie.Need-loop-less Inv-loop μ-loop
-loop-less c = search needs
 
 loop-again : tie.Need-loop-again Inv-loop μ-loop
 loop-again c =
@@ -86,19 +68,5 @@ returns c =
 
 pub copy-all-spec : {M : Type 1} → statement M
 copy-all-spec =
-    tie.close
-    (tie.spec
-    Inv-loop
-    μ-loop
-    nothing-requires
-    loop-holds
-    mul-x
-    array-copy-out-x
-    how-of-requires
-    cast-t18
-    add-t19
-    placed-requires
-    add-k
-    loop-less
-    loop-again
-    returns)
+    tie.close (tie.spec Inv-loop μ-loop (λ c κs. search needs) loop-holds (λ c. search needs) (λ c. search needs)
+    (λ c κs. search needs) cast-t18 add-t19 placed-requires (λ c. search needs) (λ c. search needs) loop-again returns)

@@ -13,12 +13,6 @@ use Rattle.copy.proofs.Laws.{four-few, four-all}
 use Rattle.copy.proofs.copy_of.Statement.{statement}
 use Rattle.copy.proofs.copy_of.Tie as tie
 
-taken-requires : tie.Need-taken-requires
-taken-requires c κs = search needs
-
-copy-all-requires : tie.Need-copy-all-requires
-copy-all-requires c κs = search needs
-
 returns : tie.Need-returns
 returns c =
     let t = c .before in
@@ -29,12 +23,6 @@ returns c =
     subst (λ (l : List Code). CopyOf (now (a .facts)) l (a .m) (c .copy-all .result))
     (ap (take (length (now (a .code)) / 32)) (t .taken .ensures) ∙ ap (λ (k : ℕ). take k (firstFour b)) (sym n) ∙ four-few b few)
     (c .copy-all .ensures)
-
-taken-requires-2 : tie.Need-taken-requires-2
-taken-requires-2 c κs = search needs
-
-copy-all-requires-2 : tie.Need-copy-all-requires-2
-copy-all-requires-2 c κs = search needs
 
 returns-2 : tie.Need-returns-2
 returns-2 c =
@@ -48,4 +36,6 @@ returns-2 c =
     (c .copy-all2 .ensures)
 
 pub copy-of-spec : {M : Type 1} → statement M
-copy-of-spec = tie.close (tie.spec taken-requires copy-all-requires returns taken-requires-2 copy-all-requires-2 returns-2)
+copy-of-spec =
+    tie.close (tie.spec (λ c κs. search needs) (λ c κs. search needs) returns (λ c κs. search needs)
+    (λ c κs. search needs) returns-2)

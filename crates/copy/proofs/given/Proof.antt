@@ -6,21 +6,6 @@ use Rattle.copy.proofs.Laws.{pairs-more, numbers-more}
 use Rattle.copy.proofs.given.Statement.{statement}
 use Rattle.copy.proofs.given.Tie as tie
 
-mul-old : tie.Need-mul-old
-mul-old c = search needs
-
-array-set-from-old : tie.Need-array-set-from-old
-array-set-from-old c = search needs
-
-mul-new : tie.Need-mul-new
-mul-new c = search needs
-
-array-set-from-new : tie.Need-array-set-from-new
-array-set-from-new c = search needs
-
-add-t8 : tie.Need-add-t8
-add-t8 c = search needs
-
 returns : tie.Need-returns
 returns c =
     let a = c .before .before .before .args in
@@ -40,4 +25,6 @@ returns c =
     }
 
 pub given-spec : {M : Type 1} → statement M
-given-spec = tie.close (tie.spec mul-old array-set-from-old mul-new array-set-from-new add-t8 returns)
+given-spec =
+    tie.close (tie.spec (λ c. search needs) (λ c. search needs) (λ c. search needs) (λ c. search needs)
+    (λ c. search needs) returns)

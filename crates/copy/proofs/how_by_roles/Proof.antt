@@ -8,20 +8,11 @@ use borrow.Author.Needs.{needs}
 use Rattle.copy.proofs.how_by_roles.Statement.{statement}
 use Rattle.copy.proofs.how_by_roles.Tie as tie
 
-roles-of-requires : tie.Need-roles-of-requires
-roles-of-requires c κs = search needs
-
 returns : tie.Need-returns
 returns c =
     let r = c .before .before in
     let a = r .before .before .args in
     λ body budget. how-none (factsIn (now (a .facts)) body budget) (ownUses (take (a .n) (a .code))) (a .i) (r .roles-of .ensures) (c .if1 .taken)
-
-array-copy-out-how-written : tie.Need-array-copy-out-how-written
-array-copy-out-how-written c = search needs
-
-how-written-requires : tie.Need-how-written-requires
-how-written-requires c κs = search needs
 
 returns-2 : tie.Need-returns-2
 returns-2 c =
@@ -34,5 +25,4 @@ returns-2 c =
 
 pub how-by-roles-spec : {M : Type 1} → statement M
 how-by-roles-spec =
-    tie.close
-    (tie.spec roles-of-requires returns array-copy-out-how-written how-written-requires returns-2)
+    tie.close (tie.spec (λ c κs. search needs) returns (λ c. search needs) (λ c κs. search needs) returns-2)

@@ -9,33 +9,6 @@ use borrow.Author.Needs.{needs}
 use Rattle.copy.proofs.how_of.Statement.{statement}
 use Rattle.copy.proofs.how_of.Tie as tie
 
-enum-known-i : tie.Need-enum-known-i
-enum-known-i c = search needs
-
-how-written-requires : tie.Need-how-written-requires
-how-written-requires c κs = search needs
-
-enum-known-i-2 : tie.Need-enum-known-i-2
-enum-known-i-2 c = search needs
-
-how-written-requires-2 : tie.Need-how-written-requires-2
-how-written-requires-2 c κs = search needs
-
-enum-known-i-3 : tie.Need-enum-known-i-3
-enum-known-i-3 c = search needs
-
-how-written-requires-3 : tie.Need-how-written-requires-3
-how-written-requires-3 c κs = search needs
-
-enum-told : tie.Need-enum-told
-enum-told c = search needs
-
-enum-told-2 : tie.Need-enum-told-2
-enum-told-2 c = search needs
-
-how-by-roles-requires : tie.Need-how-by-roles-requires
-how-by-roles-requires c κs = search needs
-
 returns : tie.Need-returns
 unfolding howOf
 returns c =
@@ -73,25 +46,8 @@ returns-5 c =
     let a = c .before .before .before .args in
     λ body budget. by-defs (factsIn (now (a .facts)) body budget) (ownUses (take (a .n) (a .code))) (a .i) (ap defsOf (c .enum-told2 .given .1))
 
-returns-6 : tie.Need-returns-6
-returns-6 c = search needs
-
 pub how-of-spec : {M : Type 1} → statement M
 how-of-spec =
-    tie.close
-    (tie.spec
-    enum-known-i
-    how-written-requires
-    enum-known-i-2
-    how-written-requires-2
-    enum-known-i-3
-    how-written-requires-3
-    enum-told
-    enum-told-2
-    how-by-roles-requires
-    returns
-    returns-2
-    returns-3
-    returns-4
-    returns-5
-    returns-6)
+    tie.close (tie.spec (λ c. search needs) (λ c κs. search needs) (λ c. search needs) (λ c κs. search needs)
+    (λ c. search needs) (λ c κs. search needs) (λ c. search needs) (λ c. search needs) (λ c κs. search needs) returns
+    returns-2 returns-3 returns-4 returns-5 (λ c. search needs))

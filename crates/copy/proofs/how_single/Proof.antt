@@ -10,20 +10,11 @@ use Rattle.copy.proofs.Hows.{one-left, one-new, one-kept}
 use Rattle.copy.proofs.how_single.Statement.{statement}
 use Rattle.copy.proofs.how_single.Tie as tie
 
-is-const-requires : tie.Need-is-const-requires
-is-const-requires c κs = search needs
-
 returns : tie.Need-returns
 returns c =
     let a = c .before .before .before .args in
     let d : ℕ = a .d .0 in
     one-left (usesIn (now (a .facts)) d) (ownUses (take (a .n) (a .code)) d) d (fixedOf (a .i)) (sym (c .before .is-const .ensures) ∙ c .if1 .taken)
-
-uses-of-requires : tie.Need-uses-of-requires
-uses-of-requires c κs = search needs
-
-own-uses-requires : tie.Need-own-uses-requires
-own-uses-requires c κs = search needs
 
 returns-2 : tie.Need-returns-2
 returns-2 c =
@@ -44,4 +35,6 @@ returns-3 c =
     (λ q. c .if2 .left (u .uses-of .ensures ∙ q ∙ sym (c .before .own-uses .ensures)))
 
 pub how-single-spec : {M : Type 1} → statement M
-how-single-spec = tie.close (tie.spec is-const-requires returns uses-of-requires own-uses-requires returns-2 returns-3)
+how-single-spec =
+    tie.close (tie.spec (λ c κs. search needs) returns (λ c κs. search needs) (λ c κs. search needs) returns-2
+    returns-3)

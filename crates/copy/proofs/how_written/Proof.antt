@@ -10,12 +10,6 @@ use borrow.Author.Needs.{needs}
 use Rattle.copy.proofs.how_written.Statement.{statement}
 use Rattle.copy.proofs.how_written.Tie as tie
 
-registers-requires : tie.Need-registers-requires
-registers-requires c κs = search needs
-
-cast-if1 : tie.Need-cast-if1
-cast-if1 c = search needs
-
 returns : tie.Need-returns
 returns c =
     let g = c .before .before in
@@ -23,12 +17,6 @@ returns c =
     λ body budget.
     written-new (factsIn (now (a .facts)) body budget) (ownUses (take (a .n) (a .code))) (fixedOf (a .i)) (a .d .0)
     (omega (arith, g .registers .ensures, c .if1 .taken))
-
-is-single-requires : tie.Need-is-single-requires
-is-single-requires c κs = search needs
-
-how-single-requires : tie.Need-how-single-requires
-how-single-requires c κs = search needs
 
 returns-2 : tie.Need-returns-2
 returns-2 c =
@@ -50,12 +38,5 @@ returns-3 c =
 
 pub how-written-spec : {M : Type 1} → statement M
 how-written-spec =
-    tie.close
-    (tie.spec
-    registers-requires
-    cast-if1
-    returns
-    is-single-requires
-    how-single-requires
-    returns-2
-    returns-3)
+    tie.close (tie.spec (λ c κs. search needs) (λ c. search needs) returns (λ c κs. search needs) (λ c κs. search needs)
+    returns-2 returns-3)

@@ -8,13 +8,10 @@ use Rattle.copy.proofs.Laws.{exchanged-found}
 use Rattle.copy.proofs.kept.Statement.{statement}
 use Rattle.copy.proofs.kept.Tie as tie
 
-renamed-requires : tie.Need-renamed-requires
-renamed-requires c κs = search needs
-
 returns : tie.Need-returns
 returns c =
     let a = c .before .before .before .before .args in
     ap (λ (i : Inst). withInst i (a .x)) (c .renamed .ensures ∙ exchanged-found (localIn (a .s)) (λ (r : ℕ). r) (a .x .inst))
 
 pub kept-spec : {M : Type 1} → statement M
-kept-spec = tie.close (tie.spec renamed-requires returns)
+kept-spec = tie.close (tie.spec (λ c κs. search needs) returns)

@@ -20,23 +20,8 @@ abbrev μ-loop : tie.MeasureT-loop
 loop-holds : tie.Need-loop-holds Inv-loop μ-loop
 loop-holds c = (search needs, omega arith, omega arith)
 
-mul-x : tie.Need-mul-x Inv-loop μ-loop
-mul-x c = search needs
-
-array-copy-out-x : tie.Need-array-copy-out-x Inv-loop μ-loop
-array-copy-out-x c = search needs
-
-reads-of-requires : tie.Need-reads-of-requires Inv-loop μ-loop
-reads-of-requires c κs = search needs
-
 add-z : tie.Need-add-z Inv-loop μ-loop
 add-z c = omega (arith, c .reads-of .ensures .1)
-
-add-k : tie.Need-add-k Inv-loop μ-loop
-add-k c = search needs
-
-loop-less : tie.Need-loop-less Inv-loop μ-loop
-loop-less c = search needs
 
 loop-again : tie.Need-loop-again Inv-loop μ-loop
 loop-again c =
@@ -54,4 +39,5 @@ returns c =
 
 pub own-uses-spec : {M : Type 1} → statement M
 own-uses-spec =
-    tie.close (tie.spec Inv-loop μ-loop loop-holds mul-x array-copy-out-x reads-of-requires add-z add-k loop-less loop-again returns)
+    tie.close (tie.spec Inv-loop μ-loop loop-holds (λ c. search needs) (λ c. search needs) (λ c κs. search needs) add-z
+    (λ c. search needs) (λ c. search needs) loop-again returns)

@@ -3,30 +3,6 @@ use Rattle.copy.proofs.Copying.{placed-left, placed-new, placed-kept}
 use Rattle.copy.proofs.placed.Statement.{statement}
 use Rattle.copy.proofs.placed.Tie as tie
 
-enum-told : tie.Need-enum-told
-enum-told c = search needs
-
-enum-known-how : tie.Need-enum-known-how
-enum-known-how c = search needs
-
-renumbered-requires : tie.Need-renumbered-requires
-renumbered-requires c κs = search needs
-
-pushed-requires : tie.Need-pushed-requires
-pushed-requires c κs = search needs
-
-given-requires : tie.Need-given-requires
-given-requires c κs = search needs
-
-enum-told-2 : tie.Need-enum-told-2
-enum-told-2 c = search needs
-
-kept-requires : tie.Need-kept-requires
-kept-requires c κs = search needs
-
-pushed-requires-2 : tie.Need-pushed-requires-2
-pushed-requires-2 c κs = search needs
-
 returns : tie.Need-returns
 returns c =
     let a = c .before .before .args in
@@ -46,16 +22,6 @@ returns-3 c =
 
 pub placed-spec : {M : Type 1} → statement M
 placed-spec =
-    tie.close
-    (tie.spec
-    enum-told
-    enum-known-how
-    renumbered-requires
-    pushed-requires
-    given-requires
-    enum-told-2
-    kept-requires
-    pushed-requires-2
-    returns
-    returns-2
+    tie.close (tie.spec (λ c. search needs) (λ c. search needs) (λ c κs. search needs) (λ c κs. search needs)
+    (λ c κs. search needs) (λ c. search needs) (λ c κs. search needs) (λ c κs. search needs) returns returns-2
     returns-3)

@@ -6,15 +6,6 @@ use Rattle.copy.proofs.Laws.{codes-more}
 use Rattle.copy.proofs.pushed.Statement.{statement}
 use Rattle.copy.proofs.pushed.Tie as tie
 
-mul-code : tie.Need-mul-code
-mul-code c = search needs
-
-array-set-from-code : tie.Need-array-set-from-code
-array-set-from-code c = search needs
-
-add-t7 : tie.Need-add-t7
-add-t7 c = search needs
-
 returns : tie.Need-returns
 returns c =
     let a = c .before .before .before .args in
@@ -29,4 +20,4 @@ returns c =
     }
 
 pub pushed-spec : {M : Type 1} → statement M
-pushed-spec = tie.close (tie.spec mul-code array-set-from-code add-t7 returns)
+pushed-spec = tie.close (tie.spec (λ c. search needs) (λ c. search needs) (λ c. search needs) returns)

@@ -10,9 +10,6 @@ use Rattle.copy.proofs.Laws.{reads-few}
 use Rattle.copy.proofs.reads_by_roles.Statement.{statement}
 use Rattle.copy.proofs.reads_by_roles.Tie as tie
 
-roles-of-requires : tie.Need-roles-of-requires
-roles-of-requires c κs = search needs
-
 reads-in-requires : tie.Need-reads-in-requires
 reads-in-requires c κs = let q = c .before .roles-of in rw (q .ensures) (n-few (c .before .before .args .i))
 
@@ -28,4 +25,4 @@ returns c =
     (e, omega (arith, reads-few r (a .i)))
 
 pub reads-by-roles-spec : {M : Type 1} → statement M
-reads-by-roles-spec = tie.close (tie.spec roles-of-requires reads-in-requires returns)
+reads-by-roles-spec = tie.close (tie.spec (λ c κs. search needs) reads-in-requires returns)

@@ -8,36 +8,6 @@ use borrow.Author.Needs.{needs}
 use Rattle.copy.proofs.reads_of.Statement.{statement}
 use Rattle.copy.proofs.reads_of.Tie as tie
 
-enum-known-i : tie.Need-enum-known-i
-enum-known-i c = search needs
-
-read-once-requires : tie.Need-read-once-requires
-read-once-requires c κs = search needs
-
-enum-known-i-2 : tie.Need-enum-known-i-2
-enum-known-i-2 c = search needs
-
-read-once-requires-2 : tie.Need-read-once-requires-2
-read-once-requires-2 c κs = search needs
-
-read-once-requires-3 : tie.Need-read-once-requires-3
-read-once-requires-3 c κs = search needs
-
-add-result : tie.Need-add-result
-add-result c = search needs
-
-enum-told : tie.Need-enum-told
-enum-told c = search needs
-
-enum-known-i-3 : tie.Need-enum-known-i-3
-enum-known-i-3 c = search needs
-
-read-once-requires-4 : tie.Need-read-once-requires-4
-read-once-requires-4 c κs = search needs
-
-reads-by-roles-requires : tie.Need-reads-by-roles-requires
-reads-by-roles-requires c κs = search needs
-
 returns : tie.Need-returns
 returns c =
     let r = c .before .before .before .before .args .r .0 in
@@ -63,25 +33,8 @@ returns-4 c =
     let r = c .before .before .before .before .args .r .0 in
     (c .read-once4 .ensures .0 ∙ sym (ap (λ (x : Inst). times r (usesOf x)) (c .before .before .i3 .given .1)), omega (arith, c .read-once4 .ensures .1))
 
-returns-5 : tie.Need-returns-5
-returns-5 c = search needs
-
 pub reads-of-spec : {M : Type 1} → statement M
 reads-of-spec =
-    tie.close
-    (tie.spec
-    enum-known-i
-    read-once-requires
-    enum-known-i-2
-    read-once-requires-2
-    read-once-requires-3
-    add-result
-    enum-told
-    enum-known-i-3
-    read-once-requires-4
-    reads-by-roles-requires
-    returns
-    returns-2
-    returns-3
-    returns-4
-    returns-5)
+    tie.close (tie.spec (λ c. search needs) (λ c κs. search needs) (λ c. search needs) (λ c κs. search needs)
+    (λ c κs. search needs) (λ c. search needs) (λ c. search needs) (λ c. search needs) (λ c κs. search needs)
+    (λ c κs. search needs) returns returns-2 returns-3 returns-4 (λ c. search needs))

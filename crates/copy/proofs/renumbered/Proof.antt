@@ -8,13 +8,10 @@ use Rattle.copy.proofs.Laws.{exchanged-found}
 use Rattle.copy.proofs.renumbered.Statement.{statement}
 use Rattle.copy.proofs.renumbered.Tie as tie
 
-exchange-requires : tie.Need-exchange-requires
-exchange-requires c κs = search needs
-
 returns : tie.Need-returns
 returns c =
     let a = c .before .before .before .before .args in
     ap (λ (i : Inst). withInst i (a .x)) (c .exchange .ensures ∙ exchanged-found (localIn (a .s)) (written (a .d .0) (a .m .0)) (a .x .inst))
 
 pub renumbered-spec : {M : Type 1} → statement M
-renumbered-spec = tie.close (tie.spec exchange-requires returns)
+renumbered-spec = tie.close (tie.spec (λ c κs. search needs) returns)

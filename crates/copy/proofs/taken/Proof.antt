@@ -4,30 +4,6 @@ use borrow.Author.Needs.{needs}
 use Rattle.copy.proofs.taken.Statement.{statement}
 use Rattle.copy.proofs.taken.Tie as tie
 
-record-at-requires : tie.Need-record-at-requires
-record-at-requires c κs = search needs
-
-code-of-requires : tie.Need-code-of-requires
-code-of-requires c κs = search needs
-
-record-at-requires-2 : tie.Need-record-at-requires-2
-record-at-requires-2 c κs = search needs
-
-code-of-requires-2 : tie.Need-code-of-requires-2
-code-of-requires-2 c κs = search needs
-
-record-at-requires-3 : tie.Need-record-at-requires-3
-record-at-requires-3 c κs = search needs
-
-code-of-requires-3 : tie.Need-code-of-requires-3
-code-of-requires-3 c κs = search needs
-
-record-at-requires-4 : tie.Need-record-at-requires-4
-record-at-requires-4 c κs = search needs
-
-code-of-requires-4 : tie.Need-code-of-requires-4
-code-of-requires-4 c κs = search needs
-
 returns : tie.Need-returns
 returns c =
     let d = c .before .before in
@@ -51,14 +27,5 @@ returns c =
 
 pub taken-spec : {M : Type 1} → statement M
 taken-spec =
-    tie.close
-    (tie.spec
-    record-at-requires
-    code-of-requires
-    record-at-requires-2
-    code-of-requires-2
-    record-at-requires-3
-    code-of-requires-3
-    record-at-requires-4
-    code-of-requires-4
-    returns)
+    tie.close (tie.spec (λ c κs. search needs) (λ c κs. search needs) (λ c κs. search needs) (λ c κs. search needs)
+    (λ c κs. search needs) (λ c κs. search needs) (λ c κs. search needs) (λ c κs. search needs) returns)

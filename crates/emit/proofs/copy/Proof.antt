@@ -49,9 +49,6 @@ loop-again c =
           ∙ ap (paste o (a .to) s) (sym (add-one i)),
     )
 
-same-length : tie.Need-same-length Inv-loop μ-loop
-same-length c = search needs
-
 returns : tie.Need-returns Inv-loop μ-loop
 returns c =
     let l = c .before in
@@ -61,16 +58,5 @@ returns c =
 
 pub copy-spec : {M : Type 1} → statement M
 copy-spec =
-    tie.close
-    (tie.spec
-    Inv-loop
-    μ-loop
-    loop-holds
-    shared-slice-read-out
-    add-out
-    slice-write-out
-    add-i
-    loop-less
-    loop-again
-    same-length
-    returns)
+    tie.close (tie.spec Inv-loop μ-loop loop-holds shared-slice-read-out add-out slice-write-out add-i loop-less
+    loop-again (λ c. search needs) returns)

@@ -6,9 +6,6 @@ use Rattle.emit.proofs.Laws.{low-rescued, third-rescued, other-record}
 use Rattle.emit.proofs.is_rescued.Statement.{statement}
 use Rattle.emit.proofs.is_rescued.Tie as tie
 
-is-single-requires : tie.Need-is-single-requires
-is-single-requires c κs = search needs
-
 returns : tie.Need-returns
 returns c =
     let m = c .before in
@@ -23,4 +20,4 @@ returns-2 c =
     ∙ ⊎-elim (λ k. third-rescued (now (a .facts)) (a .r) (k .keys1)) (λ k. low-rescued (now (a .facts)) (a .r) (k .1 .taken)) (m .match .came)
 
 pub is-rescued-spec : {M : Type 1} → statement M
-is-rescued-spec = tie.close (tie.spec is-single-requires returns returns-2)
+is-rescued-spec = tie.close (tie.spec (λ c κs. search needs) returns returns-2)

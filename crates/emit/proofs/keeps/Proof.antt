@@ -13,21 +13,6 @@ use Rattle.emit.specs.Emitted.{marksIn, staysBy}
 use Rattle.emit.proofs.keeps.Statement.{statement}
 use Rattle.emit.proofs.keeps.Tie as tie
 
-least-requires : tie.Need-least-requires
-least-requires c κs = search needs
-
-sub-last : tie.Need-sub-last
-sub-last c = search needs
-
-mark-at-requires : tie.Need-mark-at-requires
-mark-at-requires c κs = search needs
-
-block-requires : tie.Need-block-requires
-block-requires c κs = search needs
-
-stays-requires : tie.Need-stays-requires
-stays-requires c κs = search needs
-
 returns : tie.Need-returns
 returns c =
     let b = c .before in
@@ -46,4 +31,6 @@ returns c =
     (ap codesOf (b .block .ensures) ∙ block-codes (now (a .work)) (now (a .table)) (a .b))
 
 pub keeps-spec : {M : Type 1} → statement M
-keeps-spec = tie.close (tie.spec least-requires sub-last mark-at-requires block-requires stays-requires returns)
+keeps-spec =
+    tie.close (tie.spec (λ c κs. search needs) (λ c. search needs) (λ c κs. search needs) (λ c κs. search needs)
+    (λ c κs. search needs) returns)

@@ -10,12 +10,6 @@ use borrow.Author.Needs.{needs}
 use Rattle.emit.proofs.mark_at.Statement.{statement}
 use Rattle.emit.proofs.mark_at.Tie as tie
 
-least-requires : tie.Need-least-requires
-least-requires c κs = search needs
-
-shared-slice-read-result : tie.Need-shared-slice-read-result
-shared-slice-read-result c = search needs
-
 returns : tie.Need-returns
 returns c =
     let a = c .before .before .before .before .args in
@@ -31,4 +25,4 @@ returns-2 c =
     at-rest (marksIn (now (a .seen))) true (omega (arith, c .if1 .left))
 
 pub mark-at-spec : {M : Type 1} → statement M
-mark-at-spec = tie.close (tie.spec least-requires shared-slice-read-result returns returns-2)
+mark-at-spec = tie.close (tie.spec (λ c κs. search needs) (λ c. search needs) returns returns-2)

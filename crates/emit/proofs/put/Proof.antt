@@ -9,15 +9,6 @@ use Rattle.emit.proofs.Laws.{put-in, put-full}
 use Rattle.emit.proofs.put.Statement.{statement}
 use Rattle.emit.proofs.put.Tie as tie
 
-put-record-requires : tie.Need-put-record-requires
-put-record-requires c κs = search needs
-
-add-result : tie.Need-add-result
-add-result c = search needs
-
-same-length : tie.Need-same-length
-same-length c = search needs
-
 returns : tie.Need-returns
 returns c =
     let a = c .before .before .before .before .before .before .args in
@@ -28,4 +19,4 @@ returns-2 : tie.Need-returns-2
 returns-2 c = let a = c .before .before .args in put-full (now (a .out)) (a .at) (a .r) (omega arith)
 
 pub put-spec : {M : Type 1} → statement M
-put-spec = tie.close (tie.spec put-record-requires add-result same-length returns returns-2)
+put-spec = tie.close (tie.spec (λ c κs. search needs) (λ c. search needs) (λ c. search needs) returns returns-2)

@@ -12,12 +12,6 @@ use Rattle.emit.proofs.Bytes.{puts-copied}
 use Rattle.emit.proofs.put_block.Statement.{statement}
 use Rattle.emit.proofs.put_block.Tie as tie
 
-mul-copy : tie.Need-mul-copy
-mul-copy c = search needs
-
-mul-copy-2 : tie.Need-mul-copy-2
-mul-copy-2 c = search needs
-
 copy-requires : tie.Need-copy-requires
 copy-requires c κs =
     let i = c .before in
@@ -27,12 +21,6 @@ copy-requires c κs =
     let h : n ≤ o - a .at = leb-true _ _ (i .if2 .taken) in
     let g : a .at ≤ o = i .before .if1 .taken in
     (omega arith, omega arith)
-
-add-result : tie.Need-add-result
-add-result c = search needs
-
-same-length : tie.Need-same-length
-same-length c = search needs
 
 returns : tie.Need-returns
 returns c =
@@ -46,25 +34,7 @@ returns c =
     ap (λ (x : List ℕ). place x (a .at + n)) (p .copy .ensures)
     ∙ puts-copied (now (a .code)) (now (a .out)) (a .at) b (omega (arith, i .before .if1 .taken))
 
-put-each-requires : tie.Need-put-each-requires
-put-each-requires c κs = search needs
-
-same-length-2 : tie.Need-same-length-2
-same-length-2 c = search needs
-
-returns-2 : tie.Need-returns-2
-returns-2 c = search needs
-
 pub put-block-spec : {M : Type 1} → statement M
 put-block-spec =
-    tie.close
-    (tie.spec
-    mul-copy
-    mul-copy-2
-    copy-requires
-    add-result
-    same-length
-    returns
-    put-each-requires
-    same-length-2
-    returns-2)
+    tie.close (tie.spec (λ c. search needs) (λ c. search needs) copy-requires (λ c. search needs) (λ c. search needs)
+    returns (λ c κs. search needs) (λ c. search needs) (λ c. search needs))

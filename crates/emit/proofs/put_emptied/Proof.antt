@@ -11,18 +11,6 @@ use Rattle.emit.proofs.Laws.{first-stmt}
 use Rattle.emit.proofs.put_emptied.Statement.{statement}
 use Rattle.emit.proofs.put_emptied.Tie as tie
 
-record-at-requires : tie.Need-record-at-requires
-record-at-requires c κs = search needs
-
-br-record-requires : tie.Need-br-record-requires
-br-record-requires c κs = search needs
-
-put-requires : tie.Need-put-requires
-put-requires c κs = search needs
-
-same-length : tie.Need-same-length
-same-length c = search needs
-
 returns : tie.Need-returns
 returns c =
     let p = c .before .before in
@@ -34,4 +22,6 @@ returns c =
     (p .before .br-record .ensures ∙ first ∙ ap to (first-stmt (recordsOf (now (a .code)))))
 
 pub put-emptied-spec : {M : Type 1} → statement M
-put-emptied-spec = tie.close (tie.spec record-at-requires br-record-requires put-requires same-length returns)
+put-emptied-spec =
+    tie.close (tie.spec (λ c κs. search needs) (λ c κs. search needs) (λ c κs. search needs) (λ c. search needs)
+    returns)

@@ -27,24 +27,6 @@ abbrev μ-loop : tie.MeasureT-loop
 loop-holds : tie.Need-loop-holds Inv-loop μ-loop
 loop-holds c = (omega arith, refl, refl, refl)
 
-size-at-requires : tie.Need-size-at-requires Inv-loop μ-loop
-size-at-requires c κs = search needs
-
-end-after-requires : tie.Need-end-after-requires Inv-loop μ-loop
-end-after-requires c κs = search needs
-
-record-of-block-requires : tie.Need-record-of-block-requires Inv-loop μ-loop
-record-of-block-requires c κs = search needs
-
-put-requires : tie.Need-put-requires Inv-loop μ-loop
-put-requires c κs = search needs
-
-add-b : tie.Need-add-b Inv-loop μ-loop
-add-b c = search needs
-
-loop-less : tie.Need-loop-less Inv-loop μ-loop
-loop-less c = search needs
-
 loop-again : tie.Need-loop-again Inv-loop μ-loop
 unfolding puts headsFrom
 loop-again c =
@@ -68,9 +50,6 @@ loop-again c =
           ∙ l .loop .inv .3,
     )
 
-same-length : tie.Need-same-length Inv-loop μ-loop
-same-length c = search needs
-
 returns : tie.Need-returns Inv-loop μ-loop
 unfolding puts headsFrom
 returns c =
@@ -83,17 +62,5 @@ returns c =
 
 pub put-heads-spec : {M : Type 1} → statement M
 put-heads-spec =
-    tie.close
-    (tie.spec
-    Inv-loop
-    μ-loop
-    loop-holds
-    size-at-requires
-    end-after-requires
-    record-of-block-requires
-    put-requires
-    add-b
-    loop-less
-    loop-again
-    same-length
-    returns)
+    tie.close (tie.spec Inv-loop μ-loop loop-holds (λ c κs. search needs) (λ c κs. search needs) (λ c κs. search needs)
+    (λ c κs. search needs) (λ c. search needs) (λ c. search needs) loop-again (λ c. search needs) returns)

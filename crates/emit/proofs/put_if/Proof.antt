@@ -6,12 +6,6 @@ use Rattle.emit.proofs.Laws.{chosen, other}
 use Rattle.emit.proofs.put_if.Statement.{statement}
 use Rattle.emit.proofs.put_if.Tie as tie
 
-put-requires : tie.Need-put-requires
-put-requires c κs = search needs
-
-same-length : tie.Need-same-length
-same-length c = search needs
-
 returns : tie.Need-returns
 returns c =
     let a = c .before .before .before .before .before .before .args in
@@ -25,4 +19,4 @@ returns-2 c =
     other (put (a .r) s) s (c .if1 .left)
 
 pub put-if-spec : {M : Type 1} → statement M
-put-if-spec = tie.close (tie.spec put-requires same-length returns returns-2)
+put-if-spec = tie.close (tie.spec (λ c κs. search needs) (λ c. search needs) returns returns-2)

@@ -12,9 +12,6 @@ use Rattle.emit.proofs.Laws.{chosen, other}
 use Rattle.emit.proofs.put_lost.Statement.{statement}
 use Rattle.emit.proofs.put_lost.Tie as tie
 
-keeps-requires : tie.Need-keeps-requires
-keeps-requires c κs = search needs
-
 returns : tie.Need-returns
 unfolding puts
 returns c =
@@ -23,15 +20,6 @@ returns c =
     let s = place (now (a .out)) (a .at) in
     let t = sym (c .before .keeps .ensures) ∙ c .if1 .taken in
     ap (λ (l : List Record). puts l s) (chosen [] (rescuedIn (now (a .facts)) (getD R (a .b) [])) t)
-
-block-requires : tie.Need-block-requires
-block-requires c κs = search needs
-
-put-rescued-requires : tie.Need-put-rescued-requires
-put-rescued-requires c κs = search needs
-
-same-length : tie.Need-same-length
-same-length c = search needs
 
 returns-2 : tie.Need-returns-2
 returns-2 c =
@@ -47,4 +35,6 @@ returns-2 c =
     ∙ ap (λ (l : List Record). puts l s) (ap (rescuedIn f) e ∙ other [] (rescuedIn f (getD R (a .b) [])) t)
 
 pub put-lost-spec : {M : Type 1} → statement M
-put-lost-spec = tie.close (tie.spec keeps-requires returns block-requires put-rescued-requires same-length returns-2)
+put-lost-spec =
+    tie.close (tie.spec (λ c κs. search needs) returns (λ c κs. search needs) (λ c κs. search needs) (λ c. search needs)
+    returns-2)

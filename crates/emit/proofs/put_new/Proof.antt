@@ -17,18 +17,6 @@ use Rattle.emit.proofs.Passes.{has-mark}
 use Rattle.emit.proofs.put_new.Statement.{statement}
 use Rattle.emit.proofs.put_new.Tie as tie
 
-block-requires : tie.Need-block-requires
-block-requires c κs = search needs
-
-keeps-requires : tie.Need-keeps-requires
-keeps-requires c κs = search needs
-
-put-block-requires : tie.Need-put-block-requires
-put-block-requires c κs = search needs
-
-same-length : tie.Need-same-length
-same-length c = search needs
-
 returns : tie.Need-returns
 returns c =
     let p = c .before .before in
@@ -60,12 +48,6 @@ cast-t14 c =
     let h = has-mark (marksIn (now (a .seen))) (blocksOf (now (a .work)) (now (a .table))) (a .b) (sym (k .keeps .ensures) ∙ i .if1 .left) in
     omega (arith, h, n)
 
-put-emptied-requires : tie.Need-put-emptied-requires
-put-emptied-requires c κs = search needs
-
-same-length-2 : tie.Need-same-length-2
-same-length-2 c = search needs
-
 returns-2 : tie.Need-returns-2
 unfolding puts
 returns-2 c =
@@ -84,15 +66,5 @@ returns-2 c =
 
 pub put-new-spec : {M : Type 1} → statement M
 put-new-spec =
-    tie.close
-    (tie.spec
-    block-requires
-    keeps-requires
-    put-block-requires
-    same-length
-    returns
-    add-t13
-    cast-t14
-    put-emptied-requires
-    same-length-2
-    returns-2)
+    tie.close (tie.spec (λ c κs. search needs) (λ c κs. search needs) (λ c κs. search needs) (λ c. search needs) returns
+    add-t13 cast-t14 (λ c κs. search needs) (λ c. search needs) returns-2)

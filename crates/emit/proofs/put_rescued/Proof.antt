@@ -27,24 +27,6 @@ abbrev μ-loop : tie.MeasureT-loop
 loop-holds : tie.Need-loop-holds Inv-loop μ-loop
 loop-holds c = (omega arith, refl, refl, refl)
 
-record-at-requires : tie.Need-record-at-requires Inv-loop μ-loop
-record-at-requires c κs = search needs
-
-is-rescued-requires : tie.Need-is-rescued-requires Inv-loop μ-loop
-is-rescued-requires c κs = search needs
-
-record-at-requires-2 : tie.Need-record-at-requires-2 Inv-loop μ-loop
-record-at-requires-2 c κs = search needs
-
-put-if-requires : tie.Need-put-if-requires Inv-loop μ-loop
-put-if-requires c κs = search needs
-
-add-k : tie.Need-add-k Inv-loop μ-loop
-add-k c = search needs
-
-loop-less : tie.Need-loop-less Inv-loop μ-loop
-loop-less c = search needs
-
 loop-again : tie.Need-loop-again Inv-loop μ-loop
 loop-again c =
     let p = c .before .before in
@@ -68,9 +50,6 @@ loop-again c =
           ∙ l .loop .inv .3,
     )
 
-same-length : tie.Need-same-length Inv-loop μ-loop
-same-length c = search needs
-
 returns : tie.Need-returns Inv-loop μ-loop
 unfolding puts
 returns c =
@@ -83,17 +62,5 @@ returns c =
 
 pub put-rescued-spec : {M : Type 1} → statement M
 put-rescued-spec =
-    tie.close
-    (tie.spec
-    Inv-loop
-    μ-loop
-    loop-holds
-    record-at-requires
-    is-rescued-requires
-    record-at-requires-2
-    put-if-requires
-    add-k
-    loop-less
-    loop-again
-    same-length
-    returns)
+    tie.close (tie.spec Inv-loop μ-loop loop-holds (λ c κs. search needs) (λ c κs. search needs) (λ c κs. search needs)
+    (λ c κs. search needs) (λ c. search needs) (λ c. search needs) loop-again (λ c. search needs) returns)

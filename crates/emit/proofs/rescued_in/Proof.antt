@@ -29,21 +29,6 @@ abbrev μ-loop : tie.MeasureT-loop
 loop-holds : tie.Need-loop-holds Inv-loop μ-loop
 loop-holds c = (omega arith, omega arith, refl, omega arith)
 
-record-at-requires : tie.Need-record-at-requires Inv-loop μ-loop
-record-at-requires c κs = search needs
-
-is-rescued-requires : tie.Need-is-rescued-requires Inv-loop μ-loop
-is-rescued-requires c κs = search needs
-
-add-keep : tie.Need-add-keep Inv-loop μ-loop
-add-keep c = search needs
-
-add-k : tie.Need-add-k Inv-loop μ-loop
-add-k c = search needs
-
-loop-less : tie.Need-loop-less Inv-loop μ-loop
-loop-less c = search needs
-
 loop-again : tie.Need-loop-again Inv-loop μ-loop
 loop-again c =
     let l = c .before .before .before .before in
@@ -74,4 +59,5 @@ returns c =
 
 pub rescued-in-spec : {M : Type 1} → statement M
 rescued-in-spec =
-    tie.close (tie.spec Inv-loop μ-loop loop-holds record-at-requires is-rescued-requires add-keep add-k loop-less loop-again returns)
+    tie.close (tie.spec Inv-loop μ-loop loop-holds (λ c κs. search needs) (λ c κs. search needs) (λ c. search needs)
+    (λ c. search needs) (λ c. search needs) loop-again returns)

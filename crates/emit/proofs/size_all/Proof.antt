@@ -32,15 +32,6 @@ abbrev μ-loop : tie.MeasureT-loop
 loop-holds : tie.Need-loop-holds Inv-loop μ-loop
 loop-holds c = (omega arith, refl, omega arith, omega arith, omega arith, omega arith)
 
-sized-requires : tie.Need-sized-requires Inv-loop μ-loop
-sized-requires c κs = search needs
-
-add-b : tie.Need-add-b Inv-loop μ-loop
-add-b c = search needs
-
-loop-less : tie.Need-loop-less Inv-loop μ-loop
-loop-less c = search needs
-
 loop-again : tie.Need-loop-again Inv-loop μ-loop
 loop-again c =
     let l = c .before .before in
@@ -77,4 +68,6 @@ returns c =
     (count-end (i .2) e (i .4), count-end (i .3) g (i .5))
 
 pub size-all-spec : {M : Type 1} → statement M
-size-all-spec = tie.close (tie.spec Inv-loop μ-loop loop-holds sized-requires add-b loop-less loop-again returns)
+size-all-spec =
+    tie.close (tie.spec Inv-loop μ-loop loop-holds (λ c κs. search needs) (λ c. search needs) (λ c. search needs)
+    loop-again returns)

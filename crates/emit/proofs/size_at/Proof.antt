@@ -14,12 +14,6 @@ use Rattle.emit.proofs.Laws.{chosen, other}
 use Rattle.emit.proofs.size_at.Statement.{statement}
 use Rattle.emit.proofs.size_at.Tie as tie
 
-keeps-requires : tie.Need-keeps-requires
-keeps-requires c κs = search needs
-
-block-requires : tie.Need-block-requires
-block-requires c κs = search needs
-
 returns : tie.Need-returns
 returns c =
     let i = c .before in
@@ -40,4 +34,4 @@ returns-2 c =
     ap (λ (l : List Record). length l) (other r (branchRecord (blockOf (suc (a .b))) (map codeOf r) ∷ []) e)
 
 pub size-at-spec : {M : Type 1} → statement M
-size-at-spec = tie.close (tie.spec keeps-requires block-requires returns returns-2)
+size-at-spec = tie.close (tie.spec (λ c κs. search needs) (λ c κs. search needs) returns returns-2)

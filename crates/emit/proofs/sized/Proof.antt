@@ -16,15 +16,6 @@ use Rattle.emit.proofs.Laws.{chosen, other}
 use Rattle.emit.proofs.sized.Statement.{statement}
 use Rattle.emit.proofs.sized.Tie as tie
 
-block-requires : tie.Need-block-requires
-block-requires c κs = search needs
-
-keeps-requires : tie.Need-keeps-requires
-keeps-requires c κs = search needs
-
-plus-requires : tie.Need-plus-requires
-plus-requires c κs = search needs
-
 returns : tie.Need-returns
 returns c =
     let i = c .before in
@@ -41,15 +32,6 @@ returns c =
     ∙ sym (length-records (blockBytes w t (a .b)))
     ∙ ap (λ (l : List Record). length l) (block-records w t (a .b) ∙ chosen r (branchRecord (blockOf (suc (a .b))) (map codeOf r) ∷ []) e) in
     (omega (arith, none), c .plus .ensures ∙ ap (λ (n : ℕ). counted (a .at .code + n)) own)
-
-rescued-in-requires : tie.Need-rescued-in-requires
-rescued-in-requires c κs = search needs
-
-plus-requires-2 : tie.Need-plus-requires-2
-plus-requires-2 c κs = search needs
-
-plus-requires-3 : tie.Need-plus-requires-3
-plus-requires-3 c κs = search needs
 
 returns-2 : tie.Need-returns-2
 returns-2 c =
@@ -73,13 +55,5 @@ returns-2 c =
 
 pub sized-spec : {M : Type 1} → statement M
 sized-spec =
-    tie.close
-    (tie.spec
-    block-requires
-    keeps-requires
-    plus-requires
-    returns
-    rescued-in-requires
-    plus-requires-2
-    plus-requires-3
-    returns-2)
+    tie.close (tie.spec (λ c κs. search needs) (λ c κs. search needs) (λ c κs. search needs) returns
+    (λ c κs. search needs) (λ c κs. search needs) (λ c κs. search needs) returns-2)

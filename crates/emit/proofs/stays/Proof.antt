@@ -26,12 +26,6 @@ returns-3 c =
     let n = length-codes (now (a .code)) in
     stays-long (a .mark) (a .last) (codesOf (now (a .code))) (c .before .before .if1 .left) (c .before .if2 .left) (omega arith)
 
-end-of-requires : tie.Need-end-of-requires
-end-of-requires c κs = search needs
-
-is-jump-requires : tie.Need-is-jump-requires
-is-jump-requires c κs = search needs
-
 returns-4 : tie.Need-returns-4
 returns-4 c =
     let t = c .before .before in
@@ -41,4 +35,4 @@ returns-4 c =
     (ap not (c .is-jump .ensures ∙ ap isJump (c .before .end-of .ensures)))
 
 pub stays-spec : {M : Type 1} → statement M
-stays-spec = tie.close (tie.spec returns returns-2 returns-3 end-of-requires is-jump-requires returns-4)
+stays-spec = tie.close (tie.spec returns returns-2 returns-3 (λ c κs. search needs) (λ c κs. search needs) returns-4)

@@ -13,19 +13,10 @@ use Rattle.ends.proofs.end_of.Tie as tie
 returns : tie.Need-returns
 returns c = let b = now (c .before .before .args .code) in sym (end-none (codesOf b) (length-codes b ∙ c .if1 .taken))
 
-sub-record-at : tie.Need-sub-record-at
-sub-record-at c = search needs
-
-record-at-requires : tie.Need-record-at-requires
-record-at-requires c κs = search needs
-
-end-in-requires : tie.Need-end-in-requires
-end-in-requires c κs = search needs
-
 returns-2 : tie.Need-returns-2
 returns-2 c = let b = now (c .before .before .before .before .args .code) in
     let k = length b / 32 - 1 in
     c .end-in .ensures ∙ ap viewOf (inst-there b k (c .before .record-at .ensures)) ∙ sym (end-last (codesOf b) k (length-codes b ∙ omega arith))
 
 pub end-of-spec : {M : Type 1} → statement M
-end-of-spec = tie.close (tie.spec returns sub-record-at record-at-requires end-in-requires returns-2)
+end-of-spec = tie.close (tie.spec returns (λ c. search needs) (λ c κs. search needs) (λ c κs. search needs) returns-2)

@@ -7,16 +7,10 @@ use borrow.Author.Needs.{needs}
 use Rattle.ends.proofs.inst_at.Statement.{statement}
 use Rattle.ends.proofs.inst_at.Tie as tie
 
-record-at-requires : tie.Need-record-at-requires
-record-at-requires c κs = search needs
-
-inst-of-requires : tie.Need-inst-of-requires
-inst-of-requires c κs = search needs
-
 returns : tie.Need-returns
 returns c =
     let a = c .before .before .before .args in
     c .inst-of .ensures ∙ ap instOf (c .before .record-at .ensures) ∙ sym (ap (λ (x : Code). x .inst) (code-at (now (a .code)) (a .k)))
 
 pub inst-at-spec : {M : Type 1} → statement M
-inst-at-spec = tie.close (tie.spec record-at-requires inst-of-requires returns)
+inst-at-spec = tie.close (tie.spec (λ c κs. search needs) (λ c κs. search needs) returns)

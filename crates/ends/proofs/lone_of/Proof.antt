@@ -7,12 +7,6 @@ use borrow.Author.Needs.{needs}
 use Rattle.ends.proofs.lone_of.Statement.{statement}
 use Rattle.ends.proofs.lone_of.Tie as tie
 
-record-at-requires : tie.Need-record-at-requires
-record-at-requires c κs = search needs
-
-end-in-requires : tie.Need-end-in-requires
-end-in-requires c κs = search needs
-
 returns : tie.Need-returns
 returns c = let b = now (c .before .before .before .before .args .code) in
     c .end-in .ensures ∙ ap viewOf (inst-there b 0 (c .before .record-at .ensures))
@@ -22,4 +16,4 @@ returns-2 : tie.Need-returns-2
 returns-2 c = let b = now (c .before .before .args .code) in sym (lone-none (codesOf b) (λ e. c .if1 .left (sym (length-codes b) ∙ e)))
 
 pub lone-of-spec : {M : Type 1} → statement M
-lone-of-spec = tie.close (tie.spec record-at-requires end-in-requires returns returns-2)
+lone-of-spec = tie.close (tie.spec (λ c κs. search needs) (λ c κs. search needs) returns returns-2)

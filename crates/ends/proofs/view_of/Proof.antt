@@ -10,15 +10,6 @@ use borrow.Author.Needs.{needs}
 use Rattle.ends.proofs.view_of.Statement.{statement}
 use Rattle.ends.proofs.view_of.Tie as tie
 
-enum-known-i : tie.Need-enum-known-i
-enum-known-i c = search needs
-
-enum-known-i-2 : tie.Need-enum-known-i-2
-enum-known-i-2 c = search needs
-
-enum-known-i-3 : tie.Need-enum-known-i-3
-enum-known-i-3 c = search needs
-
 returns : tie.Need-returns
 unfolding viewOf formOf
 returns c = sym (ap viewOf (c .before .i .given .1))
@@ -38,5 +29,5 @@ returns-4 c =
 
 pub view-of-spec : {M : Type 1} → statement M
 view-of-spec =
-    tie.close
-    (tie.spec enum-known-i enum-known-i-2 enum-known-i-3 returns returns-2 returns-3 returns-4)
+    tie.close (tie.spec (λ c. search needs) (λ c. search needs) (λ c. search needs) returns returns-2 returns-3
+    returns-4)

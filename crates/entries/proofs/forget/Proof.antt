@@ -7,26 +7,11 @@ use borrow.Author.Needs.{needs}
 use Rattle.entries.proofs.forget.Statement.{statement}
 use Rattle.entries.proofs.forget.Tie as tie
 
-least-requires : tie.Need-least-requires
-least-requires c κs = search needs
-
-least-requires-2 : tie.Need-least-requires-2
-least-requires-2 c κs = search needs
-
-cast-retain-values : tie.Need-cast-retain-values
-cast-retain-values c = search needs
-
 retain-values-requires : tie.Need-retain-values-requires
 retain-values-requires c κs = let e = c .before .before .before .least .ensures in omega arith
 
 retain-copies-requires : tie.Need-retain-copies-requires
 retain-copies-requires c κs = let e = c .before .before .before .before .before .before .least2 .ensures in omega arith
-
-same-length : tie.Need-same-length
-same-length c = search needs
-
-same-length-2 : tie.Need-same-length-2
-same-length-2 c = search needs
 
 returns : tie.Need-returns
 returns c =
@@ -48,13 +33,5 @@ returns c =
 
 pub forget-spec : {M : Type 1} → statement M
 forget-spec =
-    tie.close
-    (tie.spec
-    least-requires
-    least-requires-2
-    cast-retain-values
-    retain-values-requires
-    retain-copies-requires
-    same-length
-    same-length-2
-    returns)
+    tie.close (tie.spec (λ c κs. search needs) (λ c κs. search needs) (λ c. search needs) retain-values-requires
+    retain-copies-requires (λ c. search needs) (λ c. search needs) returns)

@@ -7,9 +7,6 @@ use borrow.Author.Needs.{needs}
 use Rattle.entries.proofs.source_of.Statement.{statement}
 use Rattle.entries.proofs.source_of.Tie as tie
 
-least-requires : tie.Need-least-requires
-least-requires c κs = search needs
-
 find-copy-requires : tie.Need-find-copy-requires
 find-copy-requires c κs = let e = c .least .ensures in omega arith
 
@@ -20,4 +17,4 @@ returns c =
     c .find-copy .ensures ∙ ap (λ l. valueOr (a .r .0) (found (a .r .0) l)) t
 
 pub source-of-spec : {M : Type 1} → statement M
-source-of-spec = tie.close (tie.spec least-requires find-copy-requires returns)
+source-of-spec = tie.close (tie.spec (λ c κs. search needs) find-copy-requires returns)

@@ -8,23 +8,8 @@ use borrow.Author.Needs.{needs}
 use Rattle.entries.proofs.value_of.Statement.{statement}
 use Rattle.entries.proofs.value_of.Tie as tie
 
-least-requires : tie.Need-least-requires
-least-requires c κs = search needs
-
-cast-find : tie.Need-cast-find
-cast-find c = search needs
-
 find-requires : tie.Need-find-requires
 find-requires c κs = let e = c .before .least .ensures in omega arith
-
-enum-known-f : tie.Need-enum-known-f
-enum-known-f c = search needs
-
-enum-told : tie.Need-enum-told
-enum-told c = search needs
-
-const-of-requires : tie.Need-const-of-requires
-const-of-requires c κs = search needs
 
 returns : tie.Need-returns
 returns c =
@@ -44,13 +29,5 @@ returns-2 c =
 
 pub value-of-spec : {M : Type 1} → statement M
 value-of-spec =
-    tie.close
-    (tie.spec
-    least-requires
-    cast-find
-    find-requires
-    enum-known-f
-    enum-told
-    const-of-requires
-    returns
-    returns-2)
+    tie.close (tie.spec (λ c κs. search needs) (λ c. search needs) find-requires (λ c. search needs) (λ c. search needs)
+    (λ c κs. search needs) returns returns-2)

@@ -2,27 +2,6 @@ use borrow.Author.Needs.{needs}
 use Rattle.exchange.proofs.bool_second.Statement.{statement}
 use Rattle.exchange.proofs.bool_second.Tie as tie
 
-enum-told : tie.Need-enum-told
-enum-told c = search needs
-
-read-as-requires : tie.Need-read-as-requires
-read-as-requires c κs = search needs
-
-enum-told-2 : tie.Need-enum-told-2
-enum-told-2 c = search needs
-
-read-as-requires-2 : tie.Need-read-as-requires-2
-read-as-requires-2 c κs = search needs
-
-enum-told-3 : tie.Need-enum-told-3
-enum-told-3 c = search needs
-
-read-as-requires-3 : tie.Need-read-as-requires-3
-read-as-requires-3 c κs = search needs
-
-enum-told-4 : tie.Need-enum-told-4
-enum-told-4 c = search needs
-
 returns : tie.Need-returns
 returns c = rw (c .before .enum-told .given .1) (c .read-as .ensures)
 
@@ -37,16 +16,5 @@ returns-4 c = rw (c .enum-told4 .given .1)
 
 pub bool-second-spec : {M : Type 1} → statement M
 bool-second-spec =
-    tie.close
-    (tie.spec
-    enum-told
-    read-as-requires
-    enum-told-2
-    read-as-requires-2
-    enum-told-3
-    read-as-requires-3
-    enum-told-4
-    returns
-    returns-2
-    returns-3
-    returns-4)
+    tie.close (tie.spec (λ c. search needs) (λ c κs. search needs) (λ c. search needs) (λ c κs. search needs)
+    (λ c. search needs) (λ c κs. search needs) (λ c. search needs) returns returns-2 returns-3 returns-4)

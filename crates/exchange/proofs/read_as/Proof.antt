@@ -22,18 +22,6 @@ abbrev μ-loop : tie.MeasureT-loop
 loop-holds : tie.Need-loop-holds Inv-loop μ-loop
 loop-holds c = (refl, search needs, search needs)
 
-mul-old : tie.Need-mul-old Inv-loop μ-loop
-mul-old c = search needs
-
-array-copy-out-old : tie.Need-array-copy-out-old Inv-loop μ-loop
-array-copy-out-old c = search needs
-
-mul-new : tie.Need-mul-new Inv-loop μ-loop
-mul-new c = search needs
-
-array-copy-out-new : tie.Need-array-copy-out-new Inv-loop μ-loop
-array-copy-out-new c = search needs
-
 returns : tie.Need-returns Inv-loop μ-loop
 returns c =
     let t = c .before .before .before .before .before in
@@ -42,12 +30,6 @@ returns c =
     let s = l .before .args in
     let here = through-here (s .n) (l .loop .k) (s .t2) (s .t3) (s .r .0) (omega arith) (omega (arith, f)) (omega (arith, f)) in
     ap regOf (sym (here (eq-eqb _ _ (c .if2 .taken))) ∙ l .loop .inv .0)
-
-add-k : tie.Need-add-k Inv-loop μ-loop
-add-k c = search needs
-
-loop-less : tie.Need-loop-less Inv-loop μ-loop
-loop-less c = search needs
 
 loop-again : tie.Need-loop-again Inv-loop μ-loop
 loop-again c =
@@ -72,18 +54,5 @@ returns-3 c =
 
 pub read-as-spec : {M : Type 1} → statement M
 read-as-spec =
-    tie.close
-    (tie.spec
-    Inv-loop
-    μ-loop
-    loop-holds
-    mul-old
-    array-copy-out-old
-    mul-new
-    array-copy-out-new
-    returns
-    add-k
-    loop-less
-    loop-again
-    returns-2
-    returns-3)
+    tie.close (tie.spec Inv-loop μ-loop loop-holds (λ c. search needs) (λ c. search needs) (λ c. search needs)
+    (λ c. search needs) returns (λ c. search needs) (λ c. search needs) loop-again returns-2 returns-3)

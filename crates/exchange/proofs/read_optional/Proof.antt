@@ -5,15 +5,6 @@ use borrow.Author.Needs.{needs}
 use Rattle.exchange.proofs.read_optional.Statement.{statement}
 use Rattle.exchange.proofs.read_optional.Tie as tie
 
-enum-known-v : tie.Need-enum-known-v
-enum-known-v c = search needs
-
-read-as-requires : tie.Need-read-as-requires
-read-as-requires c κs = search needs
-
-enum-told : tie.Need-enum-told
-enum-told c = search needs
-
 returns : tie.Need-returns
 returns c = ap o.Some (c .read-as .ensures) ∙ sym (ap (overOptional _) (c .before .before .v .given .1))
 
@@ -21,4 +12,5 @@ returns-2 : tie.Need-returns-2
 returns-2 c = sym (ap (overOptional _) (c .enum-told .given .1))
 
 pub read-optional-spec : {M : Type 1} → statement M
-read-optional-spec = tie.close (tie.spec enum-known-v read-as-requires enum-told returns returns-2)
+read-optional-spec =
+    tie.close (tie.spec (λ c. search needs) (λ c κs. search needs) (λ c. search needs) returns returns-2)

@@ -4,11 +4,8 @@ use borrow.Author.Needs.{needs}
 use Rattle.exchange.proofs.renamed.Statement.{statement}
 use Rattle.exchange.proofs.renamed.Tie as tie
 
-exchange-requires : tie.Need-exchange-requires
-exchange-requires c κs = search needs
-
 returns : tie.Need-returns
 returns c = c .exchange .ensures ∙ defs-kept 0 _ _
 
 pub renamed-spec : {M : Type 1} → statement M
-renamed-spec = tie.close (tie.spec exchange-requires returns)
+renamed-spec = tie.close (tie.spec (λ c κs. search needs) returns)

@@ -6,21 +6,6 @@ use borrow.Author.Needs.{needs}
 use Rattle.facts.proofs.cell_of.Statement.{statement}
 use Rattle.facts.proofs.cell_of.Tie as tie
 
-cast-k : tie.Need-cast-k
-cast-k c = search needs
-
-mul-result : tie.Need-mul-result
-mul-result c = search needs
-
-add-result : tie.Need-add-result
-add-result c = search needs
-
-mul-result-2 : tie.Need-mul-result-2
-mul-result-2 c = search needs
-
-shared-slice-read-result : tie.Need-shared-slice-read-result
-shared-slice-read-result c = search needs
-
 returns : tie.Need-returns
 returns c = let a = c .before .before .before .args in sym (cell-in (now (a .table)) (a .r .0) (a .j) (a .other) (omega arith))
 
@@ -29,5 +14,5 @@ returns-2 c = let a = c .before .before .args in sym (cell-past (now (a .table))
 
 pub cell-of-spec : {M : Type 1} → statement M
 cell-of-spec =
-    tie.close
-    (tie.spec cast-k mul-result add-result mul-result-2 shared-slice-read-result returns returns-2)
+    tie.close (tie.spec (λ c. search needs) (λ c. search needs) (λ c. search needs) (λ c. search needs)
+    (λ c. search needs) returns returns-2)

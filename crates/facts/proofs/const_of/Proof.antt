@@ -5,12 +5,6 @@ use borrow.Author.Needs.{needs}
 use Rattle.facts.proofs.const_of.Statement.{statement}
 use Rattle.facts.proofs.const_of.Tie as tie
 
-cell-of-requires : tie.Need-cell-of-requires
-cell-of-requires c κs = search needs
-
-cell-of-requires-2 : tie.Need-cell-of-requires-2
-cell-of-requires-2 c κs = search needs
-
 returns : tie.Need-returns
 unfolding constAt
 returns c = rw (← c .before .before .cell-of .ensures, eq-eqb _ _ (c .before .if1 .taken), c .cell-of2 .ensures)
@@ -20,4 +14,4 @@ unfolding constAt
 returns-2 c = rw (← c .before .cell-of .ensures, ne-eqb _ _ (c .if1 .left))
 
 pub const-of-spec : {M : Type 1} → statement M
-const-of-spec = tie.close (tie.spec cell-of-requires cell-of-requires-2 returns returns-2)
+const-of-spec = tie.close (tie.spec (λ c κs. search needs) (λ c κs. search needs) returns returns-2)

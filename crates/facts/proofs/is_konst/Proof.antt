@@ -3,12 +3,9 @@ use borrow.Author.Needs.{needs}
 use Rattle.facts.proofs.is_konst.Statement.{statement}
 use Rattle.facts.proofs.is_konst.Tie as tie
 
-cell-of-requires : tie.Need-cell-of-requires
-cell-of-requires c κs = search needs
-
 returns : tie.Need-returns
 unfolding konstAt
 returns c = rw (c .cell-of .ensures)
 
 pub is-konst-spec : {M : Type 1} → statement M
-is-konst-spec = tie.close (tie.spec cell-of-requires returns)
+is-konst-spec = tie.close (tie.spec (λ c κs. search needs) returns)

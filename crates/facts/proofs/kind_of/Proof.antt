@@ -5,12 +5,6 @@ use borrow.Author.Needs.{needs}
 use Rattle.facts.proofs.kind_of.Statement.{statement}
 use Rattle.facts.proofs.kind_of.Tie as tie
 
-cell-of-requires : tie.Need-cell-of-requires
-cell-of-requires c κs = search needs
-
-cast-result : tie.Need-cast-result
-cast-result c = search needs
-
 returns : tie.Need-returns
 returns c =
     let e = kinds-at (now (c .before .before .before .args .table)) (c .before .before .before .args .r .0) in
@@ -24,4 +18,4 @@ returns-2 c =
     omega arith
 
 pub kind-of-spec : {M : Type 1} → statement M
-kind-of-spec = tie.close (tie.spec cell-of-requires cast-result returns returns-2)
+kind-of-spec = tie.close (tie.spec (λ c κs. search needs) (λ c. search needs) returns returns-2)

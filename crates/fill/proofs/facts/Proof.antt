@@ -12,15 +12,6 @@ use borrow.Author.Needs.{needs}
 use Rattle.fill.proofs.facts.Statement.{statement}
 use Rattle.fill.proofs.facts.Tie as tie
 
-least-requires : tie.Need-least-requires
-least-requires c κs = search needs
-
-mul-fill : tie.Need-mul-fill
-mul-fill c = search needs
-
-slice-relend-prefix-fill : tie.Need-slice-relend-prefix-fill
-slice-relend-prefix-fill c = search needs
-
 slice-aggregate-fill : tie.Need-slice-aggregate-fill
 slice-aggregate-fill c = let e = c .before .least .ensures in simp length-take (omega arith)
 
@@ -31,9 +22,6 @@ fill-requires c κs =
     let e = c .before .least .ensures in
     let long : length (take (5 * n) t) ≡ 5 * n = length-take-le (5 * n) t (omega arith) in
     (omega arith, omega arith)
-
-same-length : tie.Need-same-length
-same-length c = search needs
 
 returns : tie.Need-returns
 returns c =
@@ -46,12 +34,5 @@ returns c =
 
 pub facts-spec : {M : Type 1} → statement M
 facts-spec =
-    tie.close
-    (tie.spec
-    least-requires
-    mul-fill
-    slice-relend-prefix-fill
-    slice-aggregate-fill
-    fill-requires
-    same-length
-    returns)
+    tie.close (tie.spec (λ c κs. search needs) (λ c. search needs) (λ c. search needs) slice-aggregate-fill
+    fill-requires (λ c. search needs) returns)

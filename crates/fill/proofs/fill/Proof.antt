@@ -10,18 +10,6 @@ use borrow.Author.Needs.{needs}
 use Rattle.fill.proofs.fill.Statement.{statement}
 use Rattle.fill.proofs.fill.Tie as tie
 
-start-requires : tie.Need-start-requires
-start-requires c κs = search needs
-
-count-requires : tie.Need-count-requires
-count-requires c κs = search needs
-
-class-requires : tie.Need-class-requires
-class-requires c κs = search needs
-
-same-length : tie.Need-same-length
-same-length c = search needs
-
 returns : tie.Need-returns
 returns c =
     let c5 = c .before .before .before .before .before in
@@ -36,10 +24,5 @@ returns c =
 
 pub fill-spec : {M : Type 1} → statement M
 fill-spec =
-    tie.close
-    (tie.spec
-    start-requires
-    count-requires
-    class-requires
-    same-length
+    tie.close (tie.spec (λ c κs. search needs) (λ c κs. search needs) (λ c κs. search needs) (λ c. search needs)
     returns)

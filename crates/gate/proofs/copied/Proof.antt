@@ -12,15 +12,6 @@ use borrow.Author.Needs.{needs}
 use Rattle.gate.proofs.copied.Statement.{statement}
 use Rattle.gate.proofs.copied.Tie as tie
 
-cast-at : tie.Need-cast-at
-cast-at c = search needs
-
-block-requires : tie.Need-block-requires
-block-requires c κs = search needs
-
-small-requires : tie.Need-small-requires
-small-requires c κs = search needs
-
 returns : tie.Need-returns
 returns c =
     let a = c .before .before .before .before .before .before .args in
@@ -28,15 +19,6 @@ returns c =
     let b = c .before .before .block .ensures in
     let e = sym (block-codes (now (a .code)) (now (a .table)) (a .l .0)) in
     not-small (a .wide) p (a .l .0) (rw (e, ← b) (sym (c .before .small .ensures) ∙ not-true _ (c .if1 .taken)))
-
-add-block : tie.Need-add-block
-add-block c = search needs
-
-block-requires-2 : tie.Need-block-requires-2
-block-requires-2 c κs = search needs
-
-latch-requires : tie.Need-latch-requires
-latch-requires c κs = search needs
 
 returns-2 : tie.Need-returns-2
 returns-2 c =
@@ -51,13 +33,5 @@ returns-2 c =
 
 pub copied-spec : {M : Type 1} → statement M
 copied-spec =
-    tie.close
-    (tie.spec
-    cast-at
-    block-requires
-    small-requires
-    returns
-    add-block
-    block-requires-2
-    latch-requires
-    returns-2)
+    tie.close (tie.spec (λ c. search needs) (λ c κs. search needs) (λ c κs. search needs) returns (λ c. search needs)
+    (λ c κs. search needs) (λ c κs. search needs) returns-2)

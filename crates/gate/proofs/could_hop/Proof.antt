@@ -16,21 +16,6 @@ use borrow.Author.Needs.{needs}
 use Rattle.gate.proofs.could_hop.Statement.{statement}
 use Rattle.gate.proofs.could_hop.Tie as tie
 
-end-at-requires : tie.Need-end-at-requires
-end-at-requires c κs = search needs
-
-enum-known-e : tie.Need-enum-known-e
-enum-known-e c = search needs
-
-cast-block : tie.Need-cast-block
-cast-block c = search needs
-
-block-requires : tie.Need-block-requires
-block-requires c κs = search needs
-
-small-requires : tie.Need-small-requires
-small-requires c κs = search needs
-
 returns : tie.Need-returns
 returns c z wide =
     let m = c .before .before .before .before .before in
@@ -45,32 +30,8 @@ returns c z wide =
     ∙ ap (λ (b : Bool). not (eqb l (a .a)) && b) (sym (not-small wide p l (sym s ∙ sym (c .before .small .ensures) ∙ not-true _ (c .if1 .taken))))
     ∙ and-false (not (eqb l (a .a)))
 
-cast-result : tie.Need-cast-result
-cast-result c = search needs
-
-enum-known-e-2 : tie.Need-enum-known-e-2
-enum-known-e-2 c = search needs
-
-cast-is-lone : tie.Need-cast-is-lone
-cast-is-lone c = search needs
-
-is-lone-requires : tie.Need-is-lone-requires
-is-lone-requires c κs = search needs
-
 returns-2 : tie.Need-returns-2
 returns-2 c z = absurd (true≢false z)
-
-cast-is-lone-2 : tie.Need-cast-is-lone-2
-cast-is-lone-2 c = search needs
-
-is-lone-requires-2 : tie.Need-is-lone-requires-2
-is-lone-requires-2 c κs = search needs
-
-enum-told : tie.Need-enum-told
-enum-told c = search needs
-
-enum-told-2 : tie.Need-enum-told-2
-enum-told-2 c = search needs
 
 returns-3 : tie.Need-returns-3
 returns-3 c z wide =
@@ -110,24 +71,7 @@ returns-6 c z wide =
 
 pub could-hop-spec : {M : Type 1} → statement M
 could-hop-spec =
-    tie.close
-    (tie.spec
-    end-at-requires
-    enum-known-e
-    cast-block
-    block-requires
-    small-requires
-    returns
-    cast-result
-    enum-known-e-2
-    cast-is-lone
-    is-lone-requires
-    returns-2
-    cast-is-lone-2
-    is-lone-requires-2
-    enum-told
-    enum-told-2
-    returns-3
-    returns-4
-    returns-5
-    returns-6)
+    tie.close (tie.spec (λ c κs. search needs) (λ c. search needs) (λ c. search needs) (λ c κs. search needs)
+    (λ c κs. search needs) returns (λ c. search needs) (λ c. search needs) (λ c. search needs) (λ c κs. search needs)
+    returns-2 (λ c. search needs) (λ c κs. search needs) (λ c. search needs) (λ c. search needs) returns-3 returns-4
+    returns-5 returns-6)

@@ -7,27 +7,6 @@ use borrow.Author.Needs.{needs}
 use Rattle.gate.proofs.goes_back.Statement.{statement}
 use Rattle.gate.proofs.goes_back.Tie as tie
 
-enum-known-e : tie.Need-enum-known-e
-enum-known-e c = search needs
-
-cast-result : tie.Need-cast-result
-cast-result c = search needs
-
-enum-known-e-2 : tie.Need-enum-known-e-2
-enum-known-e-2 c = search needs
-
-cast-if1 : tie.Need-cast-if1
-cast-if1 c = search needs
-
-cast-result-2 : tie.Need-cast-result-2
-cast-result-2 c = search needs
-
-enum-told : tie.Need-enum-told
-enum-told c = search needs
-
-enum-told-2 : tie.Need-enum-told-2
-enum-told-2 c = search needs
-
 returns : tie.Need-returns
 unfolding anyOf
 returns c = sym (or-false _) ∙ sym (ap (back (c .before .before .before .before .args .b)) (c .before .before .e .given .1))
@@ -54,17 +33,5 @@ returns-5 c = sym (ap (back (c .before .before .args .b)) (c .enum-told2 .given 
 
 pub goes-back-spec : {M : Type 1} → statement M
 goes-back-spec =
-    tie.close
-    (tie.spec
-    enum-known-e
-    cast-result
-    enum-known-e-2
-    cast-if1
-    cast-result-2
-    enum-told
-    enum-told-2
-    returns
-    returns-2
-    returns-3
-    returns-4
-    returns-5)
+    tie.close (tie.spec (λ c. search needs) (λ c. search needs) (λ c. search needs) (λ c. search needs)
+    (λ c. search needs) (λ c. search needs) (λ c. search needs) returns returns-2 returns-3 returns-4 returns-5)

@@ -23,12 +23,6 @@ abbrev μ-loop : tie.MeasureT-loop
 loop-holds : tie.Need-loop-holds Inv-loop μ-loop
 loop-holds c = (omega arith, refl, refl)
 
-end-at-requires : tie.Need-end-at-requires Inv-loop μ-loop
-end-at-requires c κs = search needs
-
-goes-back-requires : tie.Need-goes-back-requires Inv-loop μ-loop
-goes-back-requires c κs = search needs
-
 returns : tie.Need-returns Inv-loop μ-loop
 returns c = let l = c .before .before .before .before in
     let a = l .before .before .before .args in
@@ -36,12 +30,6 @@ returns c = let l = c .before .before .before .before in
     let n = length-blocks (now (a .code)) (now (a .table)) in
     let t = sym (c .before .goes-back .ensures ∙ ap (back (l .loop .b)) (c .before .before .end-at .ensures)) in
     back-stop p (l .loop .b) (rw n (c .before .before .before .loop-test .taken)) (t ∙ c .if1 .taken) ∙ l .loop .inv .2
-
-add-b : tie.Need-add-b Inv-loop μ-loop
-add-b c = search needs
-
-loop-less : tie.Need-loop-less Inv-loop μ-loop
-loop-less c = search needs
 
 loop-again : tie.Need-loop-again Inv-loop μ-loop
 loop-again c = let l = c .before .before .before .before in
@@ -60,15 +48,5 @@ returns-2 c = let l = c .before in
 
 pub has-back-edge-spec : {M : Type 1} → statement M
 has-back-edge-spec =
-    tie.close
-    (tie.spec
-    Inv-loop
-    μ-loop
-    loop-holds
-    end-at-requires
-    goes-back-requires
-    returns
-    add-b
-    loop-less
-    loop-again
-    returns-2)
+    tie.close (tie.spec Inv-loop μ-loop loop-holds (λ c κs. search needs) (λ c κs. search needs) returns
+    (λ c. search needs) (λ c. search needs) loop-again returns-2)

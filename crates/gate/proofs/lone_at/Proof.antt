@@ -9,16 +9,10 @@ use borrow.Author.Needs.{needs}
 use Rattle.gate.proofs.lone_at.Statement.{statement}
 use Rattle.gate.proofs.lone_at.Tie as tie
 
-block-requires : tie.Need-block-requires
-block-requires c κs = search needs
-
-lone-of-requires : tie.Need-lone-of-requires
-lone-of-requires c κs = search needs
-
 returns : tie.Need-returns
 returns c =
     let a = c .before .before .before .before .args in
     c .lone-of .ensures ∙ ap (λ (b : List ℕ). loneOf (codesOf b)) (c .before .block .ensures) ∙ ap loneOf (block-codes (now (a .code)) (now (a .table)) (a .k))
 
 pub lone-at-spec : {M : Type 1} → statement M
-lone-at-spec = tie.close (tie.spec block-requires lone-of-requires returns)
+lone-at-spec = tie.close (tie.spec (λ c κs. search needs) (λ c κs. search needs) returns)

@@ -9,33 +9,6 @@ use borrow.Author.Needs.{needs}
 use Rattle.gate.proofs.may_hop.Statement.{statement}
 use Rattle.gate.proofs.may_hop.Tie as tie
 
-end-at-requires : tie.Need-end-at-requires
-end-at-requires c κs = search needs
-
-enum-known-e : tie.Need-enum-known-e
-enum-known-e c = search needs
-
-cast-if1 : tie.Need-cast-if1
-cast-if1 c = search needs
-
-copied-requires : tie.Need-copied-requires
-copied-requires c κs = search needs
-
-enum-known-e-2 : tie.Need-enum-known-e-2
-enum-known-e-2 c = search needs
-
-lone-cond-br-requires : tie.Need-lone-cond-br-requires
-lone-cond-br-requires c κs = search needs
-
-lone-cond-br-requires-2 : tie.Need-lone-cond-br-requires-2
-lone-cond-br-requires-2 c κs = search needs
-
-enum-told : tie.Need-enum-told
-enum-told c = search needs
-
-enum-told-2 : tie.Need-enum-told-2
-enum-told-2 c = search needs
-
 returns : tie.Need-returns
 returns c =
     let x = c .before .before .before .before .before .before in
@@ -93,20 +66,6 @@ returns-6 c =
 
 pub may-hop-spec : {M : Type 1} → statement M
 may-hop-spec =
-    tie.close
-    (tie.spec
-    end-at-requires
-    enum-known-e
-    cast-if1
-    copied-requires
-    enum-known-e-2
-    lone-cond-br-requires
-    lone-cond-br-requires-2
-    enum-told
-    enum-told-2
-    returns
-    returns-2
-    returns-3
-    returns-4
-    returns-5
-    returns-6)
+    tie.close (tie.spec (λ c κs. search needs) (λ c. search needs) (λ c. search needs) (λ c κs. search needs)
+    (λ c. search needs) (λ c κs. search needs) (λ c κs. search needs) (λ c. search needs) (λ c. search needs) returns
+    returns-2 returns-3 returns-4 returns-5 returns-6)

@@ -17,14 +17,8 @@ Inv-loop code table wide n a₀ a = let P = blocksOf code table in (n ≡ length
 abbrev μ-loop : tie.MeasureT-loop
 μ-loop code table wide n a₀ a = n - a
 
-next-hop-requires : tie.Need-next-hop-requires Inv-loop μ-loop
-next-hop-requires c κs = search needs
-
 loop-holds : tie.Need-loop-holds Inv-loop μ-loop
 loop-holds c = (refl, c .next-hop .ensures .1 (c .before .before .before .args .wide))
-
-may-hop-requires : tie.Need-may-hop-requires Inv-loop μ-loop
-may-hop-requires c κs = search needs
 
 returns : tie.Need-returns Inv-loop μ-loop
 returns c =
@@ -35,12 +29,6 @@ returns c =
     hop-stop p (l .loop .a) (a .wide) p (rw n (omega (arith, l .loop .inv .0, c .before .before .loop-test .taken)))
     (sym (c .before .may-hop .ensures) ∙ c .if1 .taken)
     ∙ l .loop .inv .1
-
-add-next-hop : tie.Need-add-next-hop Inv-loop μ-loop
-add-next-hop c = search needs
-
-next-hop-requires-2 : tie.Need-next-hop-requires-2 Inv-loop μ-loop
-next-hop-requires-2 c κs = search needs
 
 loop-less : tie.Need-loop-less Inv-loop μ-loop
 loop-less c = let h = c .next-hop2 .ensures .0 in omega arith
@@ -67,16 +55,5 @@ returns-2 c =
 
 pub may-thread-spec : {M : Type 1} → statement M
 may-thread-spec =
-    tie.close
-    (tie.spec
-    Inv-loop
-    μ-loop
-    next-hop-requires
-    loop-holds
-    may-hop-requires
-    returns
-    add-next-hop
-    next-hop-requires-2
-    loop-less
-    loop-again
-    returns-2)
+    tie.close (tie.spec Inv-loop μ-loop (λ c κs. search needs) loop-holds (λ c κs. search needs) returns
+    (λ c. search needs) (λ c κs. search needs) loop-less loop-again returns-2)

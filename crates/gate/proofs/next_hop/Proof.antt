@@ -23,17 +23,8 @@ abbrev μ-loop : tie.MeasureT-loop
 loop-holds : tie.Need-loop-holds Inv-loop μ-loop
 loop-holds c = (omega arith, refl, λ wide. refl)
 
-could-hop-requires : tie.Need-could-hop-requires Inv-loop μ-loop
-could-hop-requires c κs = search needs
-
 returns : tie.Need-returns Inv-loop μ-loop
 returns c = let l = c .before .before .before in (l .loop .inv .0, l .loop .inv .2)
-
-add-a : tie.Need-add-a Inv-loop μ-loop
-add-a c = search needs
-
-loop-less : tie.Need-loop-less Inv-loop μ-loop
-loop-less c = search needs
 
 loop-again : tie.Need-loop-again Inv-loop μ-loop
 loop-again c =
@@ -52,14 +43,5 @@ returns-2 c = let l = c .before in (l .loop .inv .0, l .loop .inv .2)
 
 pub next-hop-spec : {M : Type 1} → statement M
 next-hop-spec =
-    tie.close
-    (tie.spec
-    Inv-loop
-    μ-loop
-    loop-holds
-    could-hop-requires
-    returns
-    add-a
-    loop-less
-    loop-again
-    returns-2)
+    tie.close (tie.spec Inv-loop μ-loop loop-holds (λ c κs. search needs) returns (λ c. search needs)
+    (λ c. search needs) loop-again returns-2)

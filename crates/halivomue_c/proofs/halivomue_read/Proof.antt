@@ -2,11 +2,8 @@ use borrow.Author.Needs.{needs}
 use Rattle.halivomue_c.proofs.halivomue_read.Statement.{statement}
 use Rattle.halivomue_c.proofs.halivomue_read.Tie as tie
 
-read-requires : tie.Need-read-requires
-read-requires c κs = search needs
-
 returns : tie.Need-returns
 returns c = rw (c .read .ensures)
 
 pub halivomue-read-spec : {M : Type 1} → statement M
-halivomue-read-spec = tie.close (tie.spec read-requires returns)
+halivomue-read-spec = tie.close (tie.spec (λ c κs. search needs) returns)

@@ -5,16 +5,10 @@ use Rattle.halivomue_c.specs.Answer.{shortenAnswer}
 use Rattle.halivomue_c.proofs.halivomue_shorten.Statement.{statement}
 use Rattle.halivomue_c.proofs.halivomue_shorten.Tie as tie
 
-shorten-requires : tie.Need-shorten-requires
-shorten-requires c κs = search needs
-
-same-length : tie.Need-same-length
-same-length c = search needs
-
 returns : tie.Need-returns
 returns c =
     let e = c .before .before .shorten .ensures .0 in
     (ap (λ (o : Outcome). shortenAnswer (o .answer)) e, ap (λ (o : Outcome). o .output) e)
 
 pub halivomue-shorten-spec : {M : Type 1} → statement M
-halivomue-shorten-spec = tie.close (tie.spec shorten-requires same-length returns)
+halivomue-shorten-spec = tie.close (tie.spec (λ c κs. search needs) (λ c. search needs) returns)

@@ -2,11 +2,8 @@ use borrow.Author.Needs.{needs}
 use Rattle.halivomue_c.proofs.halivomue_tidy.Statement.{statement}
 use Rattle.halivomue_c.proofs.halivomue_tidy.Tie as tie
 
-tidy-requires : tie.Need-tidy-requires
-tidy-requires c κs = search needs
-
 returns : tie.Need-returns
 returns c = rw (c .tidy .ensures)
 
 pub halivomue-tidy-spec : {M : Type 1} → statement M
-halivomue-tidy-spec = tie.close (tie.spec tidy-requires returns)
+halivomue-tidy-spec = tie.close (tie.spec (λ c κs. search needs) returns)

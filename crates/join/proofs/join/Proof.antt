@@ -6,39 +6,6 @@ use borrow.Author.Needs.{needs}
 use Rattle.join.proofs.join.Statement.{statement}
 use Rattle.join.proofs.join.Tie as tie
 
-next-number-requires : tie.Need-next-number-requires
-next-number-requires c κs = search needs
-
-cast-block : tie.Need-cast-block
-cast-block c = search needs
-
-block-requires : tie.Need-block-requires
-block-requires c κs = search needs
-
-copy-of-requires : tie.Need-copy-of-requires
-copy-of-requires c κs = search needs
-
-put-kinds-requires : tie.Need-put-kinds-requires
-put-kinds-requires c κs = search needs
-
-to-end-requires : tie.Need-to-end-requires
-to-end-requires c κs = search needs
-
-pop-requires : tie.Need-pop-requires
-pop-requires c κs = search needs
-
-append-requires : tie.Need-append-requires
-append-requires c κs = search needs
-
-same-length : tie.Need-same-length
-same-length c = search needs
-
-same-length-2 : tie.Need-same-length-2
-same-length-2 c = search needs
-
-same-length-3 : tie.Need-same-length-3
-same-length-3 c = search needs
-
 returns : tie.Need-returns
 returns c body budget =
     let end = c .before .before .before .before in
@@ -56,17 +23,6 @@ returns c body budget =
 
 pub join-spec : {M : Type 1} → statement M
 join-spec =
-    tie.close
-    (tie.spec
-    next-number-requires
-    cast-block
-    block-requires
-    copy-of-requires
-    put-kinds-requires
-    to-end-requires
-    pop-requires
-    append-requires
-    same-length
-    same-length-2
-    same-length-3
-    returns)
+    tie.close (tie.spec (λ c κs. search needs) (λ c. search needs) (λ c κs. search needs) (λ c κs. search needs)
+    (λ c κs. search needs) (λ c κs. search needs) (λ c κs. search needs) (λ c κs. search needs) (λ c. search needs)
+    (λ c. search needs) (λ c. search needs) returns)

@@ -8,19 +8,10 @@ use Rattle.facts.proofs.Rows.{getD-any}
 use Rattle.join.proofs.kind_at.Statement.{statement}
 use Rattle.join.proofs.kind_at.Tie as tie
 
-registers-requires : tie.Need-registers-requires
-registers-requires c κs = search needs
-
-cast-if1 : tie.Need-cast-if1
-cast-if1 c = search needs
-
 returns : tie.Need-returns
 returns c =
     let a = c .before .before .before .before .args in
     sym (List·getD-eq-default (kindsIn (now (a .facts))) 0 (rw (← c .before .before .registers .ensures) (c .if1 .taken)))
-
-kind-of-requires : tie.Need-kind-of-requires
-kind-of-requires c κs = search needs
 
 returns-2 : tie.Need-returns-2
 returns-2 c =
@@ -29,4 +20,4 @@ returns-2 c =
     c .kind-of .ensures ∙ getD-any (kindsIn (now (a .facts))) (a .r .0) 5 0 (omega (arith, n, c .before .if1 .left))
 
 pub kind-at-spec : {M : Type 1} → statement M
-kind-at-spec = tie.close (tie.spec registers-requires cast-if1 returns kind-of-requires returns-2)
+kind-at-spec = tie.close (tie.spec (λ c κs. search needs) (λ c. search needs) returns (λ c κs. search needs) returns-2)

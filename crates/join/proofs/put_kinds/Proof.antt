@@ -30,14 +30,8 @@ Inv-loop kinds₀ facts n from old end at₀ k₀ kinds at k =
 abbrev μ-loop : tie.MeasureT-loop
 μ-loop kinds₀ facts n from old end at₀ k₀ kinds at k = end - k
 
-least-requires : tie.Need-least-requires Inv-loop μ-loop
-least-requires c κs = search needs
-
 loop-holds : tie.Need-loop-holds Inv-loop μ-loop
 loop-holds c = (omega arith, c .least .ensures, search needs, refl, refl)
-
-same-length : tie.Need-same-length Inv-loop μ-loop
-same-length c = search needs
 
 returns : tie.Need-returns Inv-loop μ-loop
 returns c =
@@ -45,27 +39,6 @@ returns c =
     let a = l .before .before .before .before .args in
     let ks = firstKinds (now (a .facts)) (a .t3) (a .n) in
     sym (kinds-past (l .loop .kinds) (l .loop .at) (drop (l .loop .k) ks) (c .if1 .taken)) ∙ l .loop .inv .4
-
-mul-r : tie.Need-mul-r Inv-loop μ-loop
-mul-r c = search needs
-
-array-copy-out-r : tie.Need-array-copy-out-r Inv-loop μ-loop
-array-copy-out-r c = search needs
-
-kind-at-requires : tie.Need-kind-at-requires Inv-loop μ-loop
-kind-at-requires c κs = search needs
-
-slice-write-kinds : tie.Need-slice-write-kinds Inv-loop μ-loop
-slice-write-kinds c = search needs
-
-add-at : tie.Need-add-at Inv-loop μ-loop
-add-at c = search needs
-
-add-k : tie.Need-add-k Inv-loop μ-loop
-add-k c = search needs
-
-loop-less : tie.Need-loop-less Inv-loop μ-loop
-loop-less c = search needs
 
 loop-again : tie.Need-loop-again Inv-loop μ-loop
 loop-again c =
@@ -86,9 +59,6 @@ loop-again c =
           ∙ l .loop .inv .4,
     )
 
-same-length-2 : tie.Need-same-length-2 Inv-loop μ-loop
-same-length-2 c = search needs
-
 returns-2 : tie.Need-returns-2 Inv-loop μ-loop
 returns-2 c =
     let l = c .before in
@@ -99,21 +69,6 @@ returns-2 c =
 
 pub put-kinds-spec : {M : Type 1} → statement M
 put-kinds-spec =
-    tie.close
-    (tie.spec
-    Inv-loop
-    μ-loop
-    least-requires
-    loop-holds
-    same-length
-    returns
-    mul-r
-    array-copy-out-r
-    kind-at-requires
-    slice-write-kinds
-    add-at
-    add-k
-    loop-less
-    loop-again
-    same-length-2
-    returns-2)
+    tie.close (tie.spec Inv-loop μ-loop (λ c κs. search needs) loop-holds (λ c. search needs) returns
+    (λ c. search needs) (λ c. search needs) (λ c κs. search needs) (λ c. search needs) (λ c. search needs)
+    (λ c. search needs) (λ c. search needs) loop-again (λ c. search needs) returns-2)

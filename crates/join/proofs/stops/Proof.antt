@@ -10,9 +10,6 @@ use Rattle.join.proofs.Laws.{stop-self, stop-body, stop-konst, stop-gro
 use Rattle.join.proofs.stops.Statement.{statement}
 use Rattle.join.proofs.stops.Tie as tie
 
-cast-at : tie.Need-cast-at
-cast-at c = search needs
-
 returns : tie.Need-returns
 returns c =
     let x = c in
@@ -21,9 +18,6 @@ returns c =
     let w = grownTo (blocksOf (now (a .code)) (now (a .table))) (a .grown) in
     stop-self f w (a .a) (a .l .0) (x .if1 .taken)
 
-is-pause-requires : tie.Need-is-pause-requires
-is-pause-requires c κs = search needs
-
 returns-2 : tie.Need-returns-2
 returns-2 c =
     let x = c .before .before in
@@ -31,15 +25,6 @@ returns-2 c =
     let f = factsIn (now (a .facts)) (bodyIn (a .pause)) (a .budget) in
     let w = grownTo (blocksOf (now (a .code)) (now (a .table))) (a .grown) in
     stop-body f w (a .a) (a .l .0) (x .if1 .left) (sym (c .before .is-pause .ensures) ∙ c .if2 .taken)
-
-has-pause-requires : tie.Need-has-pause-requires
-has-pause-requires c κs = search needs
-
-block-requires : tie.Need-block-requires
-block-requires c κs = search needs
-
-binds-requires : tie.Need-binds-requires
-binds-requires c κs = search needs
 
 returns-3 : tie.Need-returns-3
 returns-3 c =
@@ -64,9 +49,6 @@ returns-4 c =
     (d .before .before .before .has-pause .ensures) (d .before .before .block .ensures) (d .before .binds .ensures) (d .if3 .left) in
     stop-grown f w (a .a) (a .l .0) (x .if1 .left) p k (omega arith)
 
-copied-requires : tie.Need-copied-requires
-copied-requires c κs = search needs
-
 returns-5 : tie.Need-returns-5
 returns-5 c =
     let x = c .before .before .before .before .before .before .before .before in
@@ -81,16 +63,5 @@ returns-5 c =
 
 pub stops-spec : {M : Type 1} → statement M
 stops-spec =
-    tie.close
-    (tie.spec
-    cast-at
-    returns
-    is-pause-requires
-    returns-2
-    has-pause-requires
-    block-requires
-    binds-requires
-    returns-3
-    returns-4
-    copied-requires
-    returns-5)
+    tie.close (tie.spec (λ c. search needs) returns (λ c κs. search needs) returns-2 (λ c κs. search needs)
+    (λ c κs. search needs) (λ c κs. search needs) returns-3 returns-4 (λ c κs. search needs) returns-5)

@@ -21,9 +21,6 @@ Inv-loop facts reg n k₀ k =
 abbrev μ-loop : tie.MeasureT-loop
 μ-loop facts reg n k₀ k = n - k
 
-roles-of-requires : tie.Need-roles-of-requires Inv-loop μ-loop
-roles-of-requires c κs = search needs
-
 loop-holds : tie.Need-loop-holds Inv-loop μ-loop
 loop-holds c =
     let q = c .before .roles-of in
@@ -31,14 +28,8 @@ loop-holds c =
     let five : length (q .result .reg) ≡ 5 = rw (q .ensures) (reg-five i) in
     (omega (arith, few i (q .ensures)), five, refl)
 
-mul-r : tie.Need-mul-r Inv-loop μ-loop
-mul-r c = search needs
-
 array-copy-out-r : tie.Need-array-copy-out-r Inv-loop μ-loop
 array-copy-out-r c = omega arith
-
-is-konst-requires : tie.Need-is-konst-requires Inv-loop μ-loop
-is-konst-requires c κs = search needs
 
 returns : tie.Need-returns Inv-loop μ-loop
 returns c =
@@ -49,12 +40,6 @@ returns c =
     field-stop p (l .loop .k) (q .result .n) (q .result .reg) (omega arith) (l .loop .inv .0) (sym (c .before .is-konst .ensures) ∙ c .if1 .taken)
     ∙ l .loop .inv .2
     ∙ all (a .i) (q .ensures) p
-
-add-k : tie.Need-add-k Inv-loop μ-loop
-add-k c = search needs
-
-loop-less : tie.Need-loop-less Inv-loop μ-loop
-loop-less c = search needs
 
 loop-again : tie.Need-loop-again Inv-loop μ-loop
 loop-again c =
@@ -77,17 +62,5 @@ returns-2 c =
 
 pub names-konst-spec : {M : Type 1} → statement M
 names-konst-spec =
-    tie.close
-    (tie.spec
-    Inv-loop
-    μ-loop
-    roles-of-requires
-    loop-holds
-    mul-r
-    array-copy-out-r
-    is-konst-requires
-    returns
-    add-k
-    loop-less
-    loop-again
-    returns-2)
+    tie.close (tie.spec Inv-loop μ-loop (λ c κs. search needs) loop-holds (λ c. search needs) array-copy-out-r
+    (λ c κs. search needs) returns (λ c. search needs) (λ c. search needs) loop-again returns-2)

@@ -37,12 +37,6 @@ abbrev μ-loop : tie.MeasureT-loop
 loop-holds : tie.Need-loop-holds Inv-loop μ-loop
 loop-holds c = (omega arith, refl, refl)
 
-inst-at-requires : tie.Need-inst-at-requires Inv-loop μ-loop
-inst-at-requires c κs = search needs
-
-names-konst-requires : tie.Need-names-konst-requires Inv-loop μ-loop
-names-konst-requires c κs = search needs
-
 returns : tie.Need-returns Inv-loop μ-loop
 unfolding readsKonst
 returns c =
@@ -51,12 +45,6 @@ returns c =
     let n = length-codes (now (a .code)) in
     let t = told (names (now (a .facts))) (c .before .before .inst-at .ensures) (c .before .names-konst .ensures) (c .if1 .taken) in
     any-stop (namesIn (now (a .facts))) (codesOf (now (a .code))) (l .loop .k) (codeOf blank) (omega arith) t ∙ l .loop .inv .2
-
-add-k : tie.Need-add-k Inv-loop μ-loop
-add-k c = search needs
-
-loop-less : tie.Need-loop-less Inv-loop μ-loop
-loop-less c = search needs
 
 loop-again : tie.Need-loop-again Inv-loop μ-loop
 loop-again c =
@@ -77,4 +65,5 @@ returns-2 c =
 
 pub reads-konst-spec : {M : Type 1} → statement M
 reads-konst-spec =
-    tie.close (tie.spec Inv-loop μ-loop loop-holds inst-at-requires names-konst-requires returns add-k loop-less loop-again returns-2)
+    tie.close (tie.spec Inv-loop μ-loop loop-holds (λ c κs. search needs) (λ c κs. search needs) returns
+    (λ c. search needs) (λ c. search needs) loop-again returns-2)

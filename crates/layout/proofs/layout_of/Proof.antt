@@ -27,9 +27,6 @@ at5 c = span-next 4 (recordsOf (now (c .before .before .before .before .before .
 at6 : (c : tie.After-span6) → c .span6 .result ≡ endOf 6 (recordsOf (now (c .before .before .before .before .before .before .before .args .b)))
 at6 c = span-next 5 (recordsOf (now (c .before .before .before .before .before .before .before .args .b))) (at5 (c .before)) (c .span6 .ensures)
 
-span-requires : tie.Need-span-requires
-span-requires c κs = search needs
-
 span-requires-2 : tie.Need-span-requires-2
 span-requires-2 c κs = rw (at1 c) (endOf-le 1 (recordsOf (now (c .before .before .args .b))))
 
@@ -69,13 +66,5 @@ returns-2 c =
 
 pub layout-of-spec : {M : Type 1} → statement M
 layout-of-spec =
-    tie.close
-    (tie.spec
-    span-requires
-    span-requires-2
-    span-requires-3
-    span-requires-4
-    span-requires-5
-    span-requires-6
-    returns
-    returns-2)
+    tie.close (tie.spec (λ c κs. search needs) span-requires-2 span-requires-3 span-requires-4 span-requires-5
+    span-requires-6 returns returns-2)

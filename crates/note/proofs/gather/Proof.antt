@@ -32,9 +32,6 @@ loop-holds c =
     let none-yet = held-eq (entries-zero (now (a .known))) (entries-zero (now (a .copy))) in
     (ap (λ k. notes (factsIn (now (a .facts)) none 0) k (codesOf (now (a .code)))) none-yet, (omega arith, (omega arith, (refl, refl))))
 
-note-requires : tie.Need-note-requires Inv-loop μ-loop
-note-requires c κs = search needs
-
 add-k : tie.Need-add-k Inv-loop μ-loop
 add-k c =
     let t = c .before .before .before .before .before .before .before in
@@ -58,12 +55,6 @@ loop-again c =
       (omega (arith, s .1 .known-le), (omega (arith, s .1 .copy-le), (search needs, search needs))),
     )
 
-same-length : tie.Need-same-length Inv-loop μ-loop
-same-length c = search needs
-
-same-length-2 : tie.Need-same-length-2 Inv-loop μ-loop
-same-length-2 c = search needs
-
 returns : tie.Need-returns Inv-loop μ-loop
 returns c =
     let l = c .before in
@@ -74,15 +65,5 @@ returns c =
 
 pub gather-spec : {M : Type 1} → statement M
 gather-spec =
-    tie.close
-    (tie.spec
-    Inv-loop
-    μ-loop
-    loop-holds
-    note-requires
-    add-k
-    loop-less
-    loop-again
-    same-length
-    same-length-2
-    returns)
+    tie.close (tie.spec Inv-loop μ-loop loop-holds (λ c κs. search needs) add-k loop-less loop-again (λ c. search needs)
+    (λ c. search needs) returns)

@@ -18,39 +18,6 @@ use borrow.Author.Needs.{needs}
 use Rattle.note.proofs.note.Statement.{statement}
 use Rattle.note.proofs.note.Tie as tie
 
-record-at-requires : tie.Need-record-at-requires
-record-at-requires c κs = search needs
-
-word-of-requires : tie.Need-word-of-requires
-word-of-requires c κs = search needs
-
-note-const-requires : tie.Need-note-const-requires
-note-const-requires c κs = search needs
-
-note-move-requires : tie.Need-note-move-requires
-note-move-requires c κs = search needs
-
-bool-of-requires : tie.Need-bool-of-requires
-bool-of-requires c κs = search needs
-
-note-bool-requires : tie.Need-note-bool-requires
-note-bool-requires c κs = search needs
-
-opt-of-requires : tie.Need-opt-of-requires
-opt-of-requires c κs = search needs
-
-note-call-requires : tie.Need-note-call-requires
-note-call-requires c κs = search needs
-
-forget-requires : tie.Need-forget-requires
-forget-requires c κs = search needs
-
-same-length : tie.Need-same-length
-same-length c = search needs
-
-same-length-2 : tie.Need-same-length-2
-same-length-2 c = search needs
-
 returns : tie.Need-returns
 unfolding learn formOf forgetAll
 returns c =
@@ -64,12 +31,6 @@ returns c =
     let word = ap (λ (v : ℕ). withValue (x .p1) v (forget (x .p1) k)) (c .before .before .before .before .before .word-of .ensures) in
     (n .0 ∙ word ∙ noted-as f k x 0 (r .record-at .ensures) (m .match .keys1), n .1)
 
-same-length-3 : tie.Need-same-length-3
-same-length-3 c = search needs
-
-same-length-4 : tie.Need-same-length-4
-same-length-4 c = search needs
-
 returns-2 : tie.Need-returns-2
 unfolding learn formOf forgetAll
 returns-2 c =
@@ -80,12 +41,6 @@ returns-2 c =
     let k = heldIn (a .h) (now (a .known)) (now (a .copy)) in
     let n = c .before .before .before .before .note-move .ensures in
     (n .0 ∙ noted-as f k (r .record-at .result) 2 (r .record-at .ensures) (m .match .keys2), n .1)
-
-same-length-5 : tie.Need-same-length-5
-same-length-5 c = search needs
-
-same-length-6 : tie.Need-same-length-6
-same-length-6 c = search needs
 
 returns-3 : tie.Need-returns-3
 unfolding learn formOf forgetAll
@@ -111,12 +66,6 @@ returns-4 c =
       none-left ∙ noted-as f k (r .record-at .result) 16 (r .record-at .ensures) (c .match .keys5),
       record { known-le = omega arith; copy-le = omega arith },
     )
-
-same-length-7 : tie.Need-same-length-7
-same-length-7 c = search needs
-
-same-length-8 : tie.Need-same-length-8
-same-length-8 c = search needs
 
 returns-5 : tie.Need-returns-5
 unfolding learn formOf forgetAll
@@ -158,12 +107,6 @@ returns-7 c =
       record { known-le = omega arith; copy-le = omega arith },
     )
 
-same-length-9 : tie.Need-same-length-9
-same-length-9 c = search needs
-
-same-length-10 : tie.Need-same-length-10
-same-length-10 c = search needs
-
 returns-8 : tie.Need-returns-8
 unfolding learn formOf forgetAll
 returns-8 c =
@@ -184,32 +127,8 @@ returns-8 c =
 
 pub note-spec : {M : Type 1} → statement M
 note-spec =
-    tie.close
-    (tie.spec
-    record-at-requires
-    word-of-requires
-    note-const-requires
-    note-move-requires
-    bool-of-requires
-    note-bool-requires
-    opt-of-requires
-    note-call-requires
-    forget-requires
-    same-length
-    same-length-2
-    returns
-    same-length-3
-    same-length-4
-    returns-2
-    same-length-5
-    same-length-6
-    returns-3
-    returns-4
-    same-length-7
-    same-length-8
-    returns-5
-    returns-6
-    returns-7
-    same-length-9
-    same-length-10
-    returns-8)
+    tie.close (tie.spec (λ c κs. search needs) (λ c κs. search needs) (λ c κs. search needs) (λ c κs. search needs)
+    (λ c κs. search needs) (λ c κs. search needs) (λ c κs. search needs) (λ c κs. search needs) (λ c κs. search needs)
+    (λ c. search needs) (λ c. search needs) returns (λ c. search needs) (λ c. search needs) returns-2
+    (λ c. search needs) (λ c. search needs) returns-3 returns-4 (λ c. search needs) (λ c. search needs) returns-5
+    returns-6 returns-7 (λ c. search needs) (λ c. search needs) returns-8)

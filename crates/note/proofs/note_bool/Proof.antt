@@ -12,18 +12,6 @@ use borrow.Author.Needs.{needs}
 use Rattle.note.proofs.note_bool.Statement.{statement}
 use Rattle.note.proofs.note_bool.Tie as tie
 
-forget-requires : tie.Need-forget-requires
-forget-requires c κs = search needs
-
-learn-bool-requires : tie.Need-learn-bool-requires
-learn-bool-requires c κs = search needs
-
-same-length : tie.Need-same-length
-same-length c = search needs
-
-same-length-2 : tie.Need-same-length-2
-same-length-2 c = search needs
-
 returns : tie.Need-returns
 returns c =
     let a = c .before .before .before .before .before .before .before .before .before .before .before .before .before .before .args in
@@ -38,4 +26,4 @@ returns c =
 
 pub note-bool-spec : {M : Type 1} → statement M
 note-bool-spec =
-    tie.close (tie.spec forget-requires learn-bool-requires same-length same-length-2 returns)
+    tie.close (tie.spec (λ c κs. search needs) (λ c κs. search needs) (λ c. search needs) (λ c. search needs) returns)

@@ -9,21 +9,6 @@ use borrow.Author.Needs.{needs}
 use Rattle.note.proofs.note_call.Statement.{statement}
 use Rattle.note.proofs.note_call.Tie as tie
 
-enum-known-d : tie.Need-enum-known-d
-enum-known-d c = search needs
-
-forget-requires : tie.Need-forget-requires
-forget-requires c κs = search needs
-
-enum-told : tie.Need-enum-told
-enum-told c = search needs
-
-same-length : tie.Need-same-length
-same-length c = search needs
-
-same-length-2 : tie.Need-same-length-2
-same-length-2 c = search needs
-
 returns : tie.Need-returns
 unfolding forgetAll
 returns c =
@@ -41,5 +26,5 @@ returns-2 c =
 
 pub note-call-spec : {M : Type 1} → statement M
 note-call-spec =
-    tie.close
-    (tie.spec enum-known-d forget-requires enum-told same-length same-length-2 returns returns-2)
+    tie.close (tie.spec (λ c. search needs) (λ c κs. search needs) (λ c. search needs) (λ c. search needs)
+    (λ c. search needs) returns returns-2)

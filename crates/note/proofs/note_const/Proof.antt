@@ -6,18 +6,6 @@ use borrow.Author.Needs.{needs}
 use Rattle.note.proofs.note_const.Statement.{statement}
 use Rattle.note.proofs.note_const.Tie as tie
 
-forget-requires : tie.Need-forget-requires
-forget-requires c κs = search needs
-
-learn-value-requires : tie.Need-learn-value-requires
-learn-value-requires c κs = search needs
-
-same-length : tie.Need-same-length
-same-length c = search needs
-
-same-length-2 : tie.Need-same-length-2
-same-length-2 c = search needs
-
 returns : tie.Need-returns
 returns c =
     let a = c .before .before .before .before .before .before .before .before .before .before .before .before .before .args in
@@ -29,4 +17,4 @@ returns c =
 
 pub note-const-spec : {M : Type 1} → statement M
 note-const-spec =
-    tie.close (tie.spec forget-requires learn-value-requires same-length same-length-2 returns)
+    tie.close (tie.spec (λ c κs. search needs) (λ c κs. search needs) (λ c. search needs) (λ c. search needs) returns)

@@ -8,18 +8,6 @@ use borrow.Author.Needs.{needs}
 use Rattle.note.proofs.note_move.Statement.{statement}
 use Rattle.note.proofs.note_move.Tie as tie
 
-forget-requires : tie.Need-forget-requires
-forget-requires c κs = search needs
-
-learn-move-requires : tie.Need-learn-move-requires
-learn-move-requires c κs = search needs
-
-same-length : tie.Need-same-length
-same-length c = search needs
-
-same-length-2 : tie.Need-same-length-2
-same-length-2 c = search needs
-
 returns : tie.Need-returns
 returns c =
     let a = c .before .before .before .before .before .before .before .before .before .before .before .before .before .before .before .before .before .args in
@@ -31,4 +19,4 @@ returns c =
 
 pub note-move-spec : {M : Type 1} → statement M
 note-move-spec =
-    tie.close (tie.spec forget-requires learn-move-requires same-length same-length-2 returns)
+    tie.close (tie.spec (λ c κs. search needs) (λ c κs. search needs) (λ c. search needs) (λ c. search needs) returns)

@@ -24,15 +24,6 @@ returns-2 c =
     let copy = length (now (a .copy)) / 2 in
     rw (le-leb n known (c .before .if1 .left), lt-leb n copy (c .if2 .taken))
 
-gather-requires : tie.Need-gather-requires
-gather-requires c κs = search needs
-
-same-length : tie.Need-same-length
-same-length c = search needs
-
-same-length-2 : tie.Need-same-length-2
-same-length-2 c = search needs
-
 returns-3 : tie.Need-returns-3
 returns-3 c =
     let c5 = c .before .before .before .before .before in
@@ -47,11 +38,4 @@ returns-3 c =
 
 pub notes-spec : {M : Type 1} → statement M
 notes-spec =
-    tie.close
-    (tie.spec
-    returns
-    returns-2
-    gather-requires
-    same-length
-    same-length-2
-    returns-3)
+    tie.close (tie.spec returns returns-2 (λ c κs. search needs) (λ c. search needs) (λ c. search needs) returns-3)

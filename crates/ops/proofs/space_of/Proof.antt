@@ -5,17 +5,8 @@ use Rattle.general.proofs.Numbers.{past}
 use Rattle.ops.proofs.space_of.Statement.{statement}
 use Rattle.ops.proofs.space_of.Tie as tie
 
-cast-t5 : tie.Need-cast-t5
-cast-t5 c = search needs
-
-returns : tie.Need-returns
-returns c = search needs
-
 returns-2 : tie.Need-returns-2
 returns-2 c = rw (c .match .keys2)
-
-returns-3 : tie.Need-returns-3
-returns-3 c = search needs
 
 returns-4 : tie.Need-returns-4
 returns-4 c = rw (c .match .keys4)
@@ -28,4 +19,5 @@ returns-6 c = let h : 5 ≤ c .before .args .op = past 5 _ (c .match .rest) in r
 
 pub space-of-spec : {M : Type 1} → statement M
 space-of-spec =
-    tie.close (tie.spec cast-t5 returns returns-2 returns-3 returns-4 returns-5 returns-6)
+    tie.close (tie.spec (λ c. search needs) (λ c. search needs) returns-2 (λ c. search needs) returns-4 returns-5
+    returns-6)

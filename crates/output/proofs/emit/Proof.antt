@@ -12,20 +12,8 @@ use Rattle.output.proofs.Laws.{room, under, emit-refused, emit-written}
 use Rattle.output.proofs.emit.Statement.{statement}
 use Rattle.output.proofs.emit.Tie as tie
 
-reached-requires : tie.Need-reached-requires
-reached-requires c κs = search needs
-
 slice-aggregate-size-all : tie.Need-slice-aggregate-size-all
 slice-aggregate-size-all c = search needs
-
-size-all-requires : tie.Need-size-all-requires
-size-all-requires c κs = search needs
-
-count-all-requires : tie.Need-count-all-requires
-count-all-requires c κs = search needs
-
-refused-requires : tie.Need-refused-requires
-refused-requires c κs = search needs
 
 returns : tie.Need-returns
 returns c =
@@ -53,26 +41,11 @@ returns c =
     (i .if1 .taken)
     (c .refused .ensures)
 
-short-requires : tie.Need-short-requires
-short-requires c κs = search needs
-
-slice-aggregate-write-all : tie.Need-slice-aggregate-write-all
-slice-aggregate-write-all c = search needs
-
-write-all-requires : tie.Need-write-all-requires
-write-all-requires c κs = search needs
-
-short-requires-2 : tie.Need-short-requires-2
-short-requires-2 c κs = search needs
-
 answered-requires : tie.Need-answered-requires
 answered-requires c κs =
     let i = c .before .before .before .before .before .before .before in
     let o = i .before .before .before .before .before .before .before .before .before .before .before .before .before .before in
     room (length (now (o .args .out))) _ (i .if1 .left) (o .good .0 .0)
-
-same-length : tie.Need-same-length
-same-length c = search needs
 
 returns-2 : tie.Need-returns-2
 returns-2 c =
@@ -108,18 +81,6 @@ returns-2 c =
 
 pub emit-spec : {M : Type 1} → statement M
 emit-spec =
-    tie.close
-    (tie.spec
-    reached-requires
-    slice-aggregate-size-all
-    size-all-requires
-    count-all-requires
-    refused-requires
-    returns
-    short-requires
-    slice-aggregate-write-all
-    write-all-requires
-    short-requires-2
-    answered-requires
-    same-length
-    returns-2)
+    tie.close (tie.spec (λ c κs. search needs) slice-aggregate-size-all (λ c κs. search needs) (λ c κs. search needs)
+    (λ c κs. search needs) returns (λ c κs. search needs) (λ c. search needs) (λ c κs. search needs)
+    (λ c κs. search needs) answered-requires (λ c. search needs) returns-2)

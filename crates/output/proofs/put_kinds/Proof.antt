@@ -24,26 +24,8 @@ abbrev μ-loop : tie.MeasureT-loop
 loop-holds : tie.Need-loop-holds Inv-loop μ-loop
 loop-holds c = (omega arith, refl, refl)
 
-shared-slice-read-reg-ty-of : tie.Need-shared-slice-read-reg-ty-of Inv-loop μ-loop
-shared-slice-read-reg-ty-of c = search needs
-
 cast-reg-ty-of : tie.Need-cast-reg-ty-of Inv-loop μ-loop
 cast-reg-ty-of c = omega (arith, c .shared-slice-known2 .given (c .before .before .loop .k))
-
-reg-ty-of-requires : tie.Need-reg-ty-of-requires Inv-loop μ-loop
-reg-ty-of-requires c κs = search needs
-
-record-of-register-requires : tie.Need-record-of-register-requires Inv-loop μ-loop
-record-of-register-requires c κs = search needs
-
-put-requires : tie.Need-put-requires Inv-loop μ-loop
-put-requires c κs = search needs
-
-add-k : tie.Need-add-k Inv-loop μ-loop
-add-k c = search needs
-
-loop-less : tie.Need-loop-less Inv-loop μ-loop
-loop-less c = search needs
 
 loop-again : tie.Need-loop-again Inv-loop μ-loop
 loop-again c =
@@ -61,9 +43,6 @@ loop-again c =
           ∙ l .loop .inv .2,
     )
 
-same-length : tie.Need-same-length Inv-loop μ-loop
-same-length c = search needs
-
 returns : tie.Need-returns Inv-loop μ-loop
 returns c =
     let l = c .before in
@@ -72,18 +51,6 @@ returns c =
 
 pub put-kinds-spec : {M : Type 1} → statement M
 put-kinds-spec =
-    tie.close
-    (tie.spec
-    Inv-loop
-    μ-loop
-    loop-holds
-    shared-slice-read-reg-ty-of
-    cast-reg-ty-of
-    reg-ty-of-requires
-    record-of-register-requires
-    put-requires
-    add-k
-    loop-less
-    loop-again
-    same-length
+    tie.close (tie.spec Inv-loop μ-loop loop-holds (λ c. search needs) cast-reg-ty-of (λ c κs. search needs)
+    (λ c κs. search needs) (λ c κs. search needs) (λ c. search needs) (λ c. search needs) loop-again (λ c. search needs)
     returns)

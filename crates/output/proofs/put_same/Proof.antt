@@ -6,12 +6,6 @@ use Rattle.output.proofs.Laws.{filed-refused, filed-written}
 use Rattle.output.proofs.put_same.Statement.{statement}
 use Rattle.output.proofs.put_same.Tie as tie
 
-count-same-requires : tie.Need-count-same-requires
-count-same-requires c κs = search needs
-
-refused-requires : tie.Need-refused-requires
-refused-requires c κs = search needs
-
 returns : tie.Need-returns
 returns c =
     let i = c .before in
@@ -19,15 +13,6 @@ returns c =
     let rs = sameRecords (now (a .registers)) (now (a .heads)) (now (a .body)) (now (a .code)) (now (a .operands)) (now (a .arms)) in
     let n = i .before .count-same .ensures in
     filed-refused rs (counts (a .moved) 0 0 0) (now (a .out)) (omega arith) (c .refused .ensures)
-
-write-same-requires : tie.Need-write-same-requires
-write-same-requires c κs = search needs
-
-answered-requires : tie.Need-answered-requires
-answered-requires c κs = search needs
-
-same-length : tie.Need-same-length
-same-length c = search needs
 
 returns-2 : tie.Need-returns-2
 returns-2 c =
@@ -46,12 +31,5 @@ returns-2 c =
 
 pub put-same-spec : {M : Type 1} → statement M
 put-same-spec =
-    tie.close
-    (tie.spec
-    count-same-requires
-    refused-requires
-    returns
-    write-same-requires
-    answered-requires
-    same-length
-    returns-2)
+    tie.close (tie.spec (λ c κs. search needs) (λ c κs. search needs) returns (λ c κs. search needs)
+    (λ c κs. search needs) (λ c. search needs) returns-2)

@@ -9,30 +9,6 @@ use Rattle.output.specs.Filed.{kindRecords, keptBy, leftBy}
 use Rattle.output.proofs.write_all.Statement.{statement}
 use Rattle.output.proofs.write_all.Tie as tie
 
-put-block-requires : tie.Need-put-block-requires
-put-block-requires c κs = search needs
-
-put-kinds-requires : tie.Need-put-kinds-requires
-put-kinds-requires c κs = search needs
-
-put-heads-requires : tie.Need-put-heads-requires
-put-heads-requires c κs = search needs
-
-put-block-requires-2 : tie.Need-put-block-requires-2
-put-block-requires-2 c κs = search needs
-
-put-kept-requires : tie.Need-put-kept-requires
-put-kept-requires c κs = search needs
-
-put-code-requires : tie.Need-put-code-requires
-put-code-requires c κs = search needs
-
-put-block-requires-3 : tie.Need-put-block-requires-3
-put-block-requires-3 c κs = search needs
-
-put-block-requires-4 : tie.Need-put-block-requires-4
-put-block-requires-4 c κs = search needs
-
 same-length : tie.Need-same-length
 same-length c =
     let p8 = c .before .before in
@@ -77,15 +53,5 @@ returns c =
 
 pub write-all-spec : {M : Type 1} → statement M
 write-all-spec =
-    tie.close
-    (tie.spec
-    put-block-requires
-    put-kinds-requires
-    put-heads-requires
-    put-block-requires-2
-    put-kept-requires
-    put-code-requires
-    put-block-requires-3
-    put-block-requires-4
-    same-length
-    returns)
+    tie.close (tie.spec (λ c κs. search needs) (λ c κs. search needs) (λ c κs. search needs) (λ c κs. search needs)
+    (λ c κs. search needs) (λ c κs. search needs) (λ c κs. search needs) (λ c κs. search needs) same-length returns)

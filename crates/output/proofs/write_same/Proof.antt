@@ -7,27 +7,6 @@ use Rattle.emit.proofs.Passes.{puts-append}
 use Rattle.output.proofs.write_same.Statement.{statement}
 use Rattle.output.proofs.write_same.Tie as tie
 
-put-block-requires : tie.Need-put-block-requires
-put-block-requires c κs = search needs
-
-put-block-requires-2 : tie.Need-put-block-requires-2
-put-block-requires-2 c κs = search needs
-
-put-block-requires-3 : tie.Need-put-block-requires-3
-put-block-requires-3 c κs = search needs
-
-put-block-requires-4 : tie.Need-put-block-requires-4
-put-block-requires-4 c κs = search needs
-
-put-block-requires-5 : tie.Need-put-block-requires-5
-put-block-requires-5 c κs = search needs
-
-put-block-requires-6 : tie.Need-put-block-requires-6
-put-block-requires-6 c κs = search needs
-
-same-length : tie.Need-same-length
-same-length c = search needs
-
 returns : tie.Need-returns
 returns c =
     let p6 = c .before .before in
@@ -46,13 +25,5 @@ returns c =
 
 pub write-same-spec : {M : Type 1} → statement M
 write-same-spec =
-    tie.close
-    (tie.spec
-    put-block-requires
-    put-block-requires-2
-    put-block-requires-3
-    put-block-requires-4
-    put-block-requires-5
-    put-block-requires-6
-    same-length
-    returns)
+    tie.close (tie.spec (λ c κs. search needs) (λ c κs. search needs) (λ c κs. search needs) (λ c κs. search needs)
+    (λ c κs. search needs) (λ c κs. search needs) (λ c. search needs) returns)

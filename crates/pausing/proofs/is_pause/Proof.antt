@@ -6,19 +6,10 @@ use borrow.Author.Needs.{needs}
 use Rattle.pausing.proofs.is_pause.Statement.{statement}
 use Rattle.pausing.proofs.is_pause.Tie as tie
 
-enum-known-pause : tie.Need-enum-known-pause
-enum-known-pause c = search needs
-
-enum-told : tie.Need-enum-told
-enum-told c = search needs
-
 returns : tie.Need-returns
 returns c =
     let p = c .before .before .before in
     sym (ap (λ (x : Pause). holds (bodyIn x) (p .before .before .args .l .0)) (p .pause .given .1))
 
-returns-2 : tie.Need-returns-2
-returns-2 c = search needs
-
 pub is-pause-spec : {M : Type 1} → statement M
-is-pause-spec = tie.close (tie.spec enum-known-pause enum-told returns returns-2)
+is-pause-spec = tie.close (tie.spec (λ c. search needs) (λ c. search needs) returns (λ c. search needs))

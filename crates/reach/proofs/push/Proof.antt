@@ -13,17 +13,11 @@ use Rattle.reach.proofs.Search.{pushed-past, pushed-old, pushed-new, ha
 use Rattle.reach.proofs.push.Statement.{statement}
 use Rattle.reach.proofs.push.Tie as tie
 
-cast-at : tie.Need-cast-at
-cast-at c = search needs
-
 returns : tie.Need-returns
 returns c =
     let s = c .before .before in
     let a = s .args in
     (s .pre, pushed-past (a .nb) (searchOf (now (a .seen)) (now (a .stack)) (a .top)) (a .b .0) (c .if1 .taken))
-
-element-copy-out-if2 : tie.Need-element-copy-out-if2
-element-copy-out-if2 c = search needs
 
 returns-2 : tie.Need-returns-2
 returns-2 c =
@@ -31,20 +25,11 @@ returns-2 c =
     let a = s .args in
     (s .pre, pushed-old (a .nb) (searchOf (now (a .seen)) (now (a .stack)) (a .top)) (a .b .0) (c .before .before .if1 .left) (c .if2 .taken))
 
-element-write-seen : tie.Need-element-write-seen
-element-write-seen c = search needs
-
-mul-stack : tie.Need-mul-stack
-mul-stack c = search needs
-
 element-write-stack : tie.Need-element-write-stack
 element-write-stack c =
     let s = c .before .before .before .before in
     let r = has-room (s .pre) (c .before .before .if1 .left) (c .if2 .left) in
     omega (arith, s .pre .slots)
-
-add-result : tie.Need-add-result
-add-result c = search needs
 
 returns-3 : tie.Need-returns-3
 returns-3 c =
@@ -62,14 +47,5 @@ returns-3 c =
 
 pub push-spec : {M : Type 1} → statement M
 push-spec =
-    tie.close
-    (tie.spec
-    cast-at
-    returns
-    element-copy-out-if2
-    returns-2
-    element-write-seen
-    mul-stack
-    element-write-stack
-    add-result
-    returns-3)
+    tie.close (tie.spec (λ c. search needs) returns (λ c. search needs) returns-2 (λ c. search needs)
+    (λ c. search needs) element-write-stack (λ c. search needs) returns-3)

@@ -26,9 +26,6 @@ abbrev μ-loop : tie.MeasureT-loop
 loop-holds : tie.Need-loop-holds Inv-loop μ-loop
 loop-holds c = (omega arith, refl, c .before .pre, refl)
 
-record-at-requires : tie.Need-record-at-requires Inv-loop μ-loop
-record-at-requires c κs = search needs
-
 push-requires : tie.Need-push-requires Inv-loop μ-loop
 push-requires c κs = c .before .before .before .before .before .before .loop .inv .2
 
@@ -44,9 +41,6 @@ returns c =
     let s = searchOf (l .loop .seen) (l .loop .stack) (l .loop .at) in
     let d = default-arm (a .nb) (a .n) rs (rw n h) (j .before .before .record-at .ensures) s (j .if1 .taken) (c .if2 .taken) in
     (p .ensures .0, p .ensures .1 ∙ d ∙ l .loop .inv .3)
-
-add-k : tie.Need-add-k Inv-loop μ-loop
-add-k c = search needs
 
 loop-less : tie.Need-loop-less Inv-loop μ-loop
 loop-less c = let h = c .before .before .before .loop-test .taken in omega arith
@@ -81,15 +75,5 @@ returns-2 c =
 
 pub push-arms-spec : {M : Type 1} → statement M
 push-arms-spec =
-    tie.close
-    (tie.spec
-    Inv-loop
-    μ-loop
-    loop-holds
-    record-at-requires
-    push-requires
-    returns
-    add-k
-    loop-less
-    loop-again
-    returns-2)
+    tie.close (tie.spec Inv-loop μ-loop loop-holds (λ c κs. search needs) push-requires returns (λ c. search needs)
+    loop-less loop-again returns-2)

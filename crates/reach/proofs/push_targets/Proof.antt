@@ -4,30 +4,6 @@ use borrow.Author.Needs.{needs}
 use Rattle.reach.proofs.push_targets.Statement.{statement}
 use Rattle.reach.proofs.push_targets.Tie as tie
 
-enum-known-e : tie.Need-enum-known-e
-enum-known-e c = search needs
-
-push-requires : tie.Need-push-requires
-push-requires c κs = search needs
-
-enum-known-e-2 : tie.Need-enum-known-e-2
-enum-known-e-2 c = search needs
-
-push-requires-2 : tie.Need-push-requires-2
-push-requires-2 c κs = search needs
-
-push-requires-3 : tie.Need-push-requires-3
-push-requires-3 c κs = search needs
-
-enum-known-e-3 : tie.Need-enum-known-e-3
-enum-known-e-3 c = search needs
-
-push-arms-requires : tie.Need-push-arms-requires
-push-arms-requires c κs = search needs
-
-enum-told : tie.Need-enum-told
-enum-told c = search needs
-
 returns : tie.Need-returns
 unfolding pushedAll
 returns c = (c .push .ensures .0, rw (c .before .before .before .before .e .given .1) (c .push .ensures .1))
@@ -52,17 +28,6 @@ returns-4 c = (c .before .before .before .pre, rw (c .enum-told .given .1))
 
 pub push-targets-spec : {M : Type 1} → statement M
 push-targets-spec =
-    tie.close
-    (tie.spec
-    enum-known-e
-    push-requires
-    enum-known-e-2
-    push-requires-2
-    push-requires-3
-    enum-known-e-3
-    push-arms-requires
-    enum-told
-    returns
-    returns-2
-    returns-3
+    tie.close (tie.spec (λ c. search needs) (λ c κs. search needs) (λ c. search needs) (λ c κs. search needs)
+    (λ c κs. search needs) (λ c. search needs) (λ c κs. search needs) (λ c. search needs) returns returns-2 returns-3
     returns-4)

@@ -18,9 +18,6 @@ Inv-loop code table arms nb seen₀ stack₀ top₀ seen stack top = Held (first
 abbrev μ-loop : tie.MeasureT-loop
 μ-loop code table arms nb seen₀ stack₀ top₀ seen stack top = top + 2 * unmarked seen
 
-least-requires : tie.Need-least-requires Inv-loop μ-loop
-least-requires c κs = search needs
-
 push-requires : tie.Need-push-requires Inv-loop μ-loop
 push-requires c κs = let e = c .before .before .least .ensures in sized-clear (omega arith) refl
 
@@ -46,9 +43,6 @@ cast-b c =
     let n = h .count in
     let f = h .sized .few in
     omega arith
-
-end-at-requires : tie.Need-end-at-requires Inv-loop μ-loop
-end-at-requires c κs = search needs
 
 sub-push-targets : tie.Need-sub-push-targets Inv-loop μ-loop
 sub-push-targets c = omega (arith, c .before .before .before .loop-test .taken)
@@ -84,20 +78,5 @@ returns c = held-end (c .before .loop .inv) (c .loop-test .left)
 
 pub reached-spec : {M : Type 1} → statement M
 reached-spec =
-    tie.close
-    (tie.spec
-    Inv-loop
-    μ-loop
-    least-requires
-    push-requires
-    loop-holds
-    sub-b
-    mul-b
-    array-read-b
-    cast-b
-    end-at-requires
-    sub-push-targets
-    push-targets-requires
-    loop-less
-    loop-again
-    returns)
+    tie.close (tie.spec Inv-loop μ-loop (λ c κs. search needs) push-requires loop-holds sub-b mul-b array-read-b cast-b
+    (λ c κs. search needs) sub-push-targets push-targets-requires loop-less loop-again returns)

@@ -70,5 +70,4 @@ returns-7 c =
     refl)))))
 
 pub beyond-spec : {M : Type 1} → statement M
-beyond-spec =
-    tie.close (tie.spec returns returns-2 returns-3 returns-4 returns-5 returns-6 returns-7)
+beyond-spec = tie.close (tie.spec returns returns-2 returns-3 returns-4 returns-5 returns-6 returns-7)

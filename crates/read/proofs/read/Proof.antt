@@ -9,15 +9,9 @@ use borrow.Author.Needs.{needs}
 use Rattle.read.proofs.read.Statement.{statement}
 use Rattle.read.proofs.read.Tie as tie
 
-refused-requires : tie.Need-refused-requires
-refused-requires c κs = search needs
-
 returns : tie.Need-returns
 unfolding reading
 returns c = c .refused .ensures ∙ sym (rw (ne-eqb _ _ (c .before .if1 .taken)))
-
-refused-requires-2 : tie.Need-refused-requires-2
-refused-requires-2 c κs = search needs
 
 returns-2 : tie.Need-returns-2
 unfolding reading
@@ -32,11 +26,4 @@ returns-3 c = c .read-records .ensures ∙ sym (rw (eq-eqb _ _ (c .before .befor
 
 pub read-spec : {M : Type 1} → statement M
 read-spec =
-    tie.close
-    (tie.spec
-    refused-requires
-    returns
-    refused-requires-2
-    returns-2
-    read-records-requires
-    returns-3)
+    tie.close (tie.spec (λ c κs. search needs) returns (λ c κs. search needs) returns-2 read-records-requires returns-3)

@@ -61,18 +61,5 @@ returns-3 c = let p = c .before .before .before .before .before .before .before 
 
 pub read-blocks-spec : {M : Type 1} → statement M
 read-blocks-spec =
-    tie.close
-    (tie.spec
-    sub-count
-    sub-n
-    cast-tiled-blocks
-    tiled-blocks-requires
-    add-refused
-    refused-requires
-    returns
-    ended-blocks-requires
-    add-refused-2
-    refused-requires-2
-    returns-2
-    read-tables-requires
-    returns-3)
+    tie.close (tie.spec sub-count sub-n cast-tiled-blocks tiled-blocks-requires add-refused refused-requires returns
+    ended-blocks-requires add-refused-2 refused-requires-2 returns-2 read-tables-requires returns-3)

@@ -13,9 +13,6 @@ use borrow.Author.Needs.{needs}
 use Rattle.read.proofs.read_records.Statement.{statement}
 use Rattle.read.proofs.read_records.Tie as tie
 
-layout-of-requires : tie.Need-layout-of-requires
-layout-of-requires c κs = search needs
-
 refused-requires : tie.Need-refused-requires
 refused-requires c κs = omega (arith, length-records (now (c .before .before .before .before .args .b)))
 
@@ -48,12 +45,6 @@ sub-beyond-3 c = let z = sizes (laid (c .before .before .before .before)) in ome
 sub-beyond-4 : tie.Need-sub-beyond-4
 sub-beyond-4 c = let z = sizes (laid (c .before .before .before .before .before)) in omega arith
 
-beyond-requires : tie.Need-beyond-requires
-beyond-requires c κs = search needs
-
-refused-requires-2 : tie.Need-refused-requires-2
-refused-requires-2 c κs = search needs
-
 returns-2 : tie.Need-returns-2
 unfolding readRecords
 returns-2 c =
@@ -82,18 +73,5 @@ returns-3 c =
 
 pub read-records-spec : {M : Type 1} → statement M
 read-records-spec =
-    tie.close
-    (tie.spec
-    layout-of-requires
-    refused-requires
-    returns
-    sub-arms
-    sub-beyond
-    sub-beyond-2
-    sub-beyond-3
-    sub-beyond-4
-    beyond-requires
-    refused-requires-2
-    returns-2
-    read-blocks-requires
-    returns-3)
+    tie.close (tie.spec (λ c κs. search needs) refused-requires returns sub-arms sub-beyond sub-beyond-2 sub-beyond-3
+    sub-beyond-4 (λ c κs. search needs) (λ c κs. search needs) returns-2 read-blocks-requires returns-3)

@@ -60,9 +60,6 @@ returns-2 c =
     pass-on 6 _ _ _ (rw (← k) (omega arith))
     (refuse-at 7 0 _ _ _ (c .refused2 .ensures) (m ∙ sym (zero-add _)) (rw (← m) (omega arith)))
 
-refused-requires-3 : tie.Need-refused-requires-3
-refused-requires-3 c κs = search needs
-
 returns-3 : tie.Need-returns-3
 unfolding readTables
 returns-3 c =
@@ -77,20 +74,5 @@ returns-3 c =
 
 pub read-tables-spec : {M : Type 1} → statement M
 read-tables-spec =
-    tie.close
-    (tie.spec
-    sub-count
-    numbered-arms-requires
-    add-refused
-    refused-requires
-    returns
-    cast-t9
-    sub-t10
-    cast-t11
-    sub-t12
-    cast-t13
-    named-records-requires
-    refused-requires-2
-    returns-2
-    refused-requires-3
-    returns-3)
+    tie.close (tie.spec sub-count numbered-arms-requires add-refused refused-requires returns cast-t9 sub-t10 cast-t11
+    sub-t12 cast-t13 named-records-requires refused-requires-2 returns-2 (λ c κs. search needs) returns-3)

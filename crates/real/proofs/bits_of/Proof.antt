@@ -5,14 +5,8 @@ use Rattle.real.proofs.Laws.{eq-not-nan}
 use Rattle.real.proofs.bits_of.Statement.{statement}
 use Rattle.real.proofs.bits_of.Tie as tie
 
-enum-known-r : tie.Need-enum-known-r
-enum-known-r c = search needs
-
 float-to-bits-result : tie.Need-float-to-bits-result
 float-to-bits-result c = eq-not-nan _ (c .if1 .taken)
-
-enum-known-r-2 : tie.Need-enum-known-r-2
-enum-known-r-2 c = search needs
 
 returns : tie.Need-returns
 unfolding bitsOf
@@ -28,5 +22,4 @@ returns-3 c = sym (ap bitsOf (c .before .r2 .given .1))
 
 pub bits-of-spec : {M : Type 1} → statement M
 bits-of-spec =
-    tie.close
-    (tie.spec enum-known-r float-to-bits-result enum-known-r-2 returns returns-2 returns-3)
+    tie.close (tie.spec (λ c. search needs) float-to-bits-result (λ c. search needs) returns returns-2 returns-3)

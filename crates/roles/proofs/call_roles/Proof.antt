@@ -4,12 +4,6 @@ use borrow.Author.Needs.{needs}
 use Rattle.roles.proofs.call_roles.Statement.{statement}
 use Rattle.roles.proofs.call_roles.Tie as tie
 
-enum-known-dst : tie.Need-enum-known-dst
-enum-known-dst c = search needs
-
-enum-told : tie.Need-enum-told
-enum-told c = search needs
-
 returns : tie.Need-returns
 returns c = sym (ap (callRoles _) (c .before .dst .given .1))
 
@@ -17,4 +11,4 @@ returns-2 : tie.Need-returns-2
 returns-2 c = sym (ap (callRoles _) (c .enum-told .given .1))
 
 pub call-roles-spec : {M : Type 1} → statement M
-call-roles-spec = tie.close (tie.spec enum-known-dst enum-told returns returns-2)
+call-roles-spec = tie.close (tie.spec (λ c. search needs) (λ c. search needs) returns returns-2)

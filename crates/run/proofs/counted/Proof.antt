@@ -9,20 +9,8 @@ use borrow.Author.Needs.{needs}
 use Rattle.run.proofs.counted.Statement.{statement}
 use Rattle.run.proofs.counted.Tie as tie
 
-least-requires : tie.Need-least-requires
-least-requires c κs = search needs
-
-mul-facts : tie.Need-mul-facts
-mul-facts c = search needs
-
 slice-aggregate-facts : tie.Need-slice-aggregate-facts
 slice-aggregate-facts c = let e = c .before .least .ensures in simp length-take (omega arith)
-
-facts-requires : tie.Need-facts-requires
-facts-requires c κs = search needs
-
-same-length : tie.Need-same-length
-same-length c = search needs
 
 returns : tie.Need-returns
 returns c =
@@ -33,5 +21,5 @@ returns c =
 
 pub counted-spec : {M : Type 1} → statement M
 counted-spec =
-    tie.close
-    (tie.spec least-requires mul-facts slice-aggregate-facts facts-requires same-length returns)
+    tie.close (tie.spec (λ c κs. search needs) (λ c. search needs) slice-aggregate-facts (λ c κs. search needs)
+    (λ c. search needs) returns)

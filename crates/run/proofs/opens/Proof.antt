@@ -8,15 +8,6 @@ use borrow.Author.Needs.{needs}
 use Rattle.run.proofs.opens.Statement.{statement}
 use Rattle.run.proofs.opens.Tie as tie
 
-has-back-edge-requires : tie.Need-has-back-edge-requires
-has-back-edge-requires c κs = search needs
-
-has-pause-requires : tie.Need-has-pause-requires
-has-pause-requires c κs = search needs
-
-may-thread-requires : tie.Need-may-thread-requires
-may-thread-requires c κs = search needs
-
 returns : tie.Need-returns
 returns c =
     let a = c .before .before .before .before .before .before .args in
@@ -27,6 +18,4 @@ returns-2 : tie.Need-returns-2
 returns-2 c = c .if1 .left ∙ neither _ (c .before .has-back-edge .ensures) (c .if1 .left)
 
 pub opens-spec : {M : Type 1} → statement M
-opens-spec =
-    tie.close
-    (tie.spec has-back-edge-requires has-pause-requires may-thread-requires returns returns-2)
+opens-spec = tie.close (tie.spec (λ c κs. search needs) (λ c κs. search needs) (λ c κs. search needs) returns returns-2)

@@ -8,17 +8,11 @@ use Rattle.run.proofs.stays.Tie as tie
 returns : tie.Need-returns
 returns c e = inl (c .if1 .taken)
 
-opens-requires : tie.Need-opens-requires
-opens-requires c κs = search needs
-
 returns-2 : tie.Need-returns-2
 returns-2 c e = absurd (false≢true e)
-
-none-meet-requires : tie.Need-none-meet-requires
-none-meet-requires c κs = search needs
 
 returns-3 : tie.Need-returns-3
 returns-3 c e = inr (c .none-meet .ensures e, sym (c .before .before .opens .ensures) ∙ c .before .if2 .left)
 
 pub stays-spec : {M : Type 1} → statement M
-stays-spec = tie.close (tie.spec returns opens-requires returns-2 none-meet-requires returns-3)
+stays-spec = tie.close (tie.spec returns (λ c κs. search needs) returns-2 (λ c κs. search needs) returns-3)

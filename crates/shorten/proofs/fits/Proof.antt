@@ -6,20 +6,11 @@ use borrow.Author.Needs.{needs}
 use Rattle.shorten.proofs.fits.Statement.{statement}
 use Rattle.shorten.proofs.fits.Tie as tie
 
-part-requires : tie.Need-part-requires
-part-requires c κs = search needs
-
 returns : tie.Need-returns
 returns c e = absurd (false≢true e)
 
-part-requires-2 : tie.Need-part-requires-2
-part-requires-2 c κs = search needs
-
 returns-2 : tie.Need-returns-2
 returns-2 c e = absurd (false≢true e)
-
-part-requires-3 : tie.Need-part-requires-3
-part-requires-3 c κs = search needs
 
 returns-3 : tie.Need-returns-3
 returns-3 c e =
@@ -29,4 +20,5 @@ returns-3 c e =
 
 pub fits-spec : {M : Type 1} → statement M
 fits-spec =
-    tie.close (tie.spec part-requires returns part-requires-2 returns-2 part-requires-3 returns-3)
+    tie.close (tie.spec (λ c κs. search needs) returns (λ c κs. search needs) returns-2 (λ c κs. search needs)
+    returns-3)

@@ -10,12 +10,6 @@ use borrow.Author.Needs.{needs}
 use Rattle.shorten.proofs.shorten.Statement.{statement}
 use Rattle.shorten.proofs.shorten.Tie as tie
 
-read-requires : tie.Need-read-requires
-read-requires c κs = search needs
-
-refused-requires : tie.Need-refused-requires
-refused-requires c κs = search needs
-
 returns : tie.Need-returns
 returns c =
     let d = c .before .before .before in
@@ -24,15 +18,6 @@ returns c =
     let o = now (a .out) in
     clauses b o (λ (i : ℕ). omega (arith, d .before .before .shared-slice-known .given i)) (c .refused .result) o
     (c .refused .ensures o ∙ refused-is b o (d .read .ensures) (c .before .if1 .taken))
-
-starts-requires : tie.Need-starts-requires
-starts-requires c κs = search needs
-
-part-requires : tie.Need-part-requires
-part-requires c κs = search needs
-
-refused-requires-2 : tie.Need-refused-requires-2
-refused-requires-2 c κs = search needs
 
 returns-2 : tie.Need-returns-2
 returns-2 c =
@@ -45,12 +30,6 @@ returns-2 c =
     (c .refused2 .ensures o ∙ many-registers b o bytes (d .read .ensures) (c .before .before .before .before .if1 .left)
     (by-part (λ x. x .registers) b (c .before .before .before .starts .ensures) (c .before .before .part .ensures) (λ n. 480 < n / 32)
     (c .before .if2 .taken)))
-
-part-requires-2 : tie.Need-part-requires-2
-part-requires-2 c κs = search needs
-
-refused-requires-3 : tie.Need-refused-requires-3
-refused-requires-3 c κs = search needs
 
 returns-3 : tie.Need-returns-3
 returns-3 c =
@@ -65,12 +44,6 @@ returns-3 c =
     (c .before .before .before .before .part .ensures) (λ n. n / 32 ≤ 480) (c .before .before .before .if2 .left))
     (by-part (λ x. x .code) b (c .before .before .before .before .before .starts .ensures) (c .before .before .part2 .ensures) (λ n. 480 < n / 32)
     (c .before .if3 .taken)))
-
-shorten-read-requires : tie.Need-shorten-read-requires
-shorten-read-requires c κs = search needs
-
-same-length : tie.Need-same-length
-same-length c = search needs
 
 returns-4 : tie.Need-returns-4
 returns-4 c =
@@ -90,18 +63,6 @@ returns-4 c =
 
 pub shorten-spec : {M : Type 1} → statement M
 shorten-spec =
-    tie.close
-    (tie.spec
-    read-requires
-    refused-requires
-    returns
-    starts-requires
-    part-requires
-    refused-requires-2
-    returns-2
-    part-requires-2
-    refused-requires-3
-    returns-3
-    shorten-read-requires
-    same-length
-    returns-4)
+    tie.close (tie.spec (λ c κs. search needs) (λ c κs. search needs) returns (λ c κs. search needs)
+    (λ c κs. search needs) (λ c κs. search needs) returns-2 (λ c κs. search needs) (λ c κs. search needs) returns-3
+    (λ c κs. search needs) (λ c. search needs) returns-4)

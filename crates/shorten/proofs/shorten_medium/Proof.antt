@@ -7,53 +7,11 @@ use borrow.Author.Needs.{needs}
 use Rattle.shorten.proofs.shorten_medium.Statement.{statement}
 use Rattle.shorten.proofs.shorten_medium.Tie as tie
 
-part-requires : tie.Need-part-requires
-part-requires c κs = search needs
-
-least-requires : tie.Need-least-requires
-least-requires c κs = search needs
-
-part-requires-2 : tie.Need-part-requires-2
-part-requires-2 c κs = search needs
-
-least-requires-2 : tie.Need-least-requires-2
-least-requires-2 c κs = search needs
-
-slice-aggregate-shorten-in : tie.Need-slice-aggregate-shorten-in
-slice-aggregate-shorten-in c = search needs
-
-mul-table : tie.Need-mul-table
-mul-table c = search needs
-
-array-borrow-prefix-table : tie.Need-array-borrow-prefix-table
-array-borrow-prefix-table c = search needs
-
 slice-aggregate-shorten-in-2 : tie.Need-slice-aggregate-shorten-in-2
 slice-aggregate-shorten-in-2 c = let e = c .before .before .before .before .before .least .ensures in simp length-take (omega arith)
 
-slice-aggregate-shorten-in-3 : tie.Need-slice-aggregate-shorten-in-3
-slice-aggregate-shorten-in-3 c = search needs
-
-slice-aggregate-shorten-in-4 : tie.Need-slice-aggregate-shorten-in-4
-slice-aggregate-shorten-in-4 c = search needs
-
-slice-aggregate-shorten-in-5 : tie.Need-slice-aggregate-shorten-in-5
-slice-aggregate-shorten-in-5 c = search needs
-
-mul-facts : tie.Need-mul-facts
-mul-facts c = search needs
-
-array-borrow-prefix-facts : tie.Need-array-borrow-prefix-facts
-array-borrow-prefix-facts c = search needs
-
 slice-aggregate-shorten-in-6 : tie.Need-slice-aggregate-shorten-in-6
 slice-aggregate-shorten-in-6 c = let e = c .before .before .before .before .before .before .before .least2 .ensures in simp length-take (omega arith)
-
-shorten-in-requires : tie.Need-shorten-in-requires
-shorten-in-requires c κs = search needs
-
-same-length : tie.Need-same-length
-same-length c = search needs
 
 returns : tie.Need-returns
 returns c =
@@ -66,22 +24,7 @@ returns c =
 
 pub shorten-medium-spec : {M : Type 1} → statement M
 shorten-medium-spec =
-    tie.close
-    (tie.spec
-    part-requires
-    least-requires
-    part-requires-2
-    least-requires-2
-    slice-aggregate-shorten-in
-    mul-table
-    array-borrow-prefix-table
-    slice-aggregate-shorten-in-2
-    slice-aggregate-shorten-in-3
-    slice-aggregate-shorten-in-4
-    slice-aggregate-shorten-in-5
-    mul-facts
-    array-borrow-prefix-facts
-    slice-aggregate-shorten-in-6
-    shorten-in-requires
-    same-length
-    returns)
+    tie.close (tie.spec (λ c κs. search needs) (λ c κs. search needs) (λ c κs. search needs) (λ c κs. search needs)
+    (λ c. search needs) (λ c. search needs) (λ c. search needs) slice-aggregate-shorten-in-2 (λ c. search needs)
+    (λ c. search needs) (λ c. search needs) (λ c. search needs) (λ c. search needs) slice-aggregate-shorten-in-6
+    (λ c κs. search needs) (λ c. search needs) returns)

@@ -7,11 +7,8 @@ use Rattle.shortening.proofs.pause_of.Tie as tie
 returns : tie.Need-returns
 returns c = no-body (now (c .before .before .args .body)) (c .if1 .taken)
 
-record-at-requires : tie.Need-record-at-requires
-record-at-requires c κs = search needs
-
 returns-2 : tie.Need-returns-2
 returns-2 c = first-body (now (c .before .before .before .args .body)) (c .before .if1 .left) (c .record-at .ensures)
 
 pub pause-of-spec : {M : Type 1} → statement M
-pause-of-spec = tie.close (tie.spec returns record-at-requires returns-2)
+pause-of-spec = tie.close (tie.spec returns (λ c κs. search needs) returns-2)

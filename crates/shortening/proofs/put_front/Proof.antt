@@ -16,25 +16,10 @@ Inv-loop b₀ s n i₀ b i = (i ≤ n) × (n ≡ min (length s) (length b₀)) �
 abbrev μ-loop : tie.MeasureT-loop
 μ-loop b₀ s n i₀ b i = n - i
 
-least-requires : tie.Need-least-requires Inv-loop μ-loop
-least-requires c κs = search needs
-
 loop-holds : tie.Need-loop-holds Inv-loop μ-loop
 loop-holds c =
     let a = c .before .before .before .args in
     (omega arith, c .least .ensures, refl, paste-zero (now (a .b)) 0 (now (a .s)))
-
-shared-slice-read-b : tie.Need-shared-slice-read-b Inv-loop μ-loop
-shared-slice-read-b c = search needs
-
-slice-write-b : tie.Need-slice-write-b Inv-loop μ-loop
-slice-write-b c = search needs
-
-add-i : tie.Need-add-i Inv-loop μ-loop
-add-i c = search needs
-
-loop-less : tie.Need-loop-less Inv-loop μ-loop
-loop-less c = search needs
 
 loop-again : tie.Need-loop-again Inv-loop μ-loop
 loop-again c =
@@ -48,9 +33,6 @@ loop-again c =
       ap (λ (x : List ℕ). set x i (getD (now (a .s)) i 0)) (v .3) ∙ front-step (now (a .b)) (now (a .s)) i (omega arith) (omega arith),
     )
 
-same-length : tie.Need-same-length Inv-loop μ-loop
-same-length c = search needs
-
 returns : tie.Need-returns Inv-loop μ-loop
 returns c =
     let l = c .before in
@@ -60,16 +42,5 @@ returns c =
 
 pub put-front-spec : {M : Type 1} → statement M
 put-front-spec =
-    tie.close
-    (tie.spec
-    Inv-loop
-    μ-loop
-    least-requires
-    loop-holds
-    shared-slice-read-b
-    slice-write-b
-    add-i
-    loop-less
-    loop-again
-    same-length
-    returns)
+    tie.close (tie.spec Inv-loop μ-loop (λ c κs. search needs) loop-holds (λ c. search needs) (λ c. search needs)
+    (λ c. search needs) (λ c. search needs) loop-again (λ c. search needs) returns)

@@ -7,39 +7,6 @@ use borrow.Author.Needs.{needs}
 use Rattle.shortening.proofs.shorten_in.Statement.{statement}
 use Rattle.shortening.proofs.shorten_in.Tie as tie
 
-part-requires : tie.Need-part-requires
-part-requires c κs = search needs
-
-put-front-requires : tie.Need-put-front-requires
-put-front-requires c κs = search needs
-
-part-requires-2 : tie.Need-part-requires-2
-part-requires-2 c κs = search needs
-
-put-front-requires-2 : tie.Need-put-front-requires-2
-put-front-requires-2 c κs = search needs
-
-part-requires-3 : tie.Need-part-requires-3
-part-requires-3 c κs = search needs
-
-pause-of-requires : tie.Need-pause-of-requires
-pause-of-requires c κs = search needs
-
-part-requires-4 : tie.Need-part-requires-4
-part-requires-4 c κs = search needs
-
-part-requires-5 : tie.Need-part-requires-5
-part-requires-5 c κs = search needs
-
-run-requires : tie.Need-run-requires
-run-requires c κs = search needs
-
-write-requires : tie.Need-write-requires
-write-requires c κs = search needs
-
-same-length : tie.Need-same-length
-same-length c = search needs
-
 same-length-2 : tie.Need-same-length-2
 same-length-2 c =
     let r = c .before .before .before .before .before .before .before .before .before .before in
@@ -54,18 +21,6 @@ same-length-3 c =
     let r = r .before .before .before .before .before .before .before .before .before .before in
     let t = r .before .before .before .before .before .before .before .before .before .before .before .before .before in
     r .run .kept .1 .0 ∙ t .put-front2 .kept .0
-
-same-length-4 : tie.Need-same-length-4
-same-length-4 c = search needs
-
-same-length-5 : tie.Need-same-length-5
-same-length-5 c = search needs
-
-same-length-6 : tie.Need-same-length-6
-same-length-6 c = search needs
-
-same-length-7 : tie.Need-same-length-7
-same-length-7 c = search needs
 
 returns : tie.Need-returns
 returns c =
@@ -83,23 +38,7 @@ returns c =
 
 pub shorten-in-spec : {M : Type 1} → statement M
 shorten-in-spec =
-    tie.close
-    (tie.spec
-    part-requires
-    put-front-requires
-    part-requires-2
-    put-front-requires-2
-    part-requires-3
-    pause-of-requires
-    part-requires-4
-    part-requires-5
-    run-requires
-    write-requires
-    same-length
-    same-length-2
-    same-length-3
-    same-length-4
-    same-length-5
-    same-length-6
-    same-length-7
-    returns)
+    tie.close (tie.spec (λ c κs. search needs) (λ c κs. search needs) (λ c κs. search needs) (λ c κs. search needs)
+    (λ c κs. search needs) (λ c κs. search needs) (λ c κs. search needs) (λ c κs. search needs) (λ c κs. search needs)
+    (λ c κs. search needs) (λ c. search needs) same-length-2 same-length-3 (λ c. search needs) (λ c. search needs)
+    (λ c. search needs) (λ c. search needs) returns)

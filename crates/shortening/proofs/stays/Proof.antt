@@ -4,21 +4,6 @@ use borrow.Author.Needs.{needs}
 use Rattle.shortening.proofs.stays.Statement.{statement}
 use Rattle.shortening.proofs.stays.Tie as tie
 
-part-requires : tie.Need-part-requires
-part-requires c κs = search needs
-
-pause-of-requires : tie.Need-pause-of-requires
-pause-of-requires c κs = search needs
-
-part-requires-2 : tie.Need-part-requires-2
-part-requires-2 c κs = search needs
-
-part-requires-3 : tie.Need-part-requires-3
-part-requires-3 c κs = search needs
-
-stays-requires : tie.Need-stays-requires
-stays-requires c κs = search needs
-
 returns : tie.Need-returns
 returns c e =
     let a = c .before .before .before .before .before .before .args in
@@ -27,11 +12,5 @@ returns c e =
 
 pub stays-spec : {M : Type 1} → statement M
 stays-spec =
-    tie.close
-    (tie.spec
-    part-requires
-    pause-of-requires
-    part-requires-2
-    part-requires-3
-    stays-requires
-    returns)
+    tie.close (tie.spec (λ c κs. search needs) (λ c κs. search needs) (λ c κs. search needs) (λ c κs. search needs)
+    (λ c κs. search needs) returns)

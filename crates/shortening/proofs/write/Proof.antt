@@ -7,24 +7,12 @@ use borrow.Author.Needs.{needs}
 use Rattle.shortening.proofs.write.Statement.{statement}
 use Rattle.shortening.proofs.write.Tie as tie
 
-write-emitted-requires : tie.Need-write-emitted-requires
-write-emitted-requires c κs = search needs
-
-same-length : tie.Need-same-length
-same-length c = search needs
-
 returns : tie.Need-returns
 returns c =
     let q = c .before .before in
     let a = q .before .before .before .before .before .before .before .before .before .before .args in
     by-edited (partsOf (now (a .b)) (a .l)) (left (now (a .work)) (now (a .table)) (now (a .kinds)) (now (a .facts)) (a .r)) (now (a .out)) refl
     (q .before .before .if1 .taken) (q .write-emitted .ensures)
-
-write-same-requires : tie.Need-write-same-requires
-write-same-requires c κs = search needs
-
-same-length-2 : tie.Need-same-length-2
-same-length-2 c = search needs
 
 returns-2 : tie.Need-returns-2
 returns-2 c =
@@ -35,11 +23,5 @@ returns-2 c =
 
 pub write-spec : {M : Type 1} → statement M
 write-spec =
-    tie.close
-    (tie.spec
-    write-emitted-requires
-    same-length
-    returns
-    write-same-requires
-    same-length-2
+    tie.close (tie.spec (λ c κs. search needs) (λ c. search needs) returns (λ c κs. search needs) (λ c. search needs)
     returns-2)

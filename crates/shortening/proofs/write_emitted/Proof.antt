@@ -7,32 +7,8 @@ use borrow.Author.Needs.{needs}
 use Rattle.shortening.proofs.write_emitted.Statement.{statement}
 use Rattle.shortening.proofs.write_emitted.Tie as tie
 
-least-requires : tie.Need-least-requires
-least-requires c κs = search needs
-
-cast-grown : tie.Need-cast-grown
-cast-grown c = search needs
-
-part-requires : tie.Need-part-requires
-part-requires c κs = search needs
-
 slice-aggregate-emit : tie.Need-slice-aggregate-emit
 slice-aggregate-emit c = let e = c .before .before .before .before .before .least .ensures in simp length-take (omega arith)
-
-part-requires-2 : tie.Need-part-requires-2
-part-requires-2 c κs = search needs
-
-part-requires-3 : tie.Need-part-requires-3
-part-requires-3 c κs = search needs
-
-part-requires-4 : tie.Need-part-requires-4
-part-requires-4 c κs = search needs
-
-emit-requires : tie.Need-emit-requires
-emit-requires c κs = search needs
-
-same-length : tie.Need-same-length
-same-length c = search needs
 
 returns : tie.Need-returns
 returns c =
@@ -47,15 +23,6 @@ returns c =
 
 pub write-emitted-spec : {M : Type 1} → statement M
 write-emitted-spec =
-    tie.close
-    (tie.spec
-    least-requires
-    cast-grown
-    part-requires
-    slice-aggregate-emit
-    part-requires-2
-    part-requires-3
-    part-requires-4
-    emit-requires
-    same-length
+    tie.close (tie.spec (λ c κs. search needs) (λ c. search needs) (λ c κs. search needs) slice-aggregate-emit
+    (λ c κs. search needs) (λ c κs. search needs) (λ c κs. search needs) (λ c κs. search needs) (λ c. search needs)
     returns)

@@ -6,38 +6,8 @@ use borrow.Author.Needs.{needs}
 use Rattle.shortening.proofs.write_same.Statement.{statement}
 use Rattle.shortening.proofs.write_same.Tie as tie
 
-part-requires : tie.Need-part-requires
-part-requires c κs = search needs
-
-least-requires : tie.Need-least-requires
-least-requires c κs = search needs
-
-part-requires-2 : tie.Need-part-requires-2
-part-requires-2 c κs = search needs
-
-part-requires-3 : tie.Need-part-requires-3
-part-requires-3 c κs = search needs
-
-part-requires-4 : tie.Need-part-requires-4
-part-requires-4 c κs = search needs
-
-mul-put-same : tie.Need-mul-put-same
-mul-put-same c = search needs
-
 slice-aggregate-put-same : tie.Need-slice-aggregate-put-same
 slice-aggregate-put-same c = let e = c .before .before .before .before .before .least .ensures in simp length-take (omega arith)
-
-part-requires-5 : tie.Need-part-requires-5
-part-requires-5 c κs = search needs
-
-part-requires-6 : tie.Need-part-requires-6
-part-requires-6 c κs = search needs
-
-put-same-requires : tie.Need-put-same-requires
-put-same-requires c κs = search needs
-
-same-length : tie.Need-same-length
-same-length c = search needs
 
 returns : tie.Need-returns
 returns c table kinds facts =
@@ -51,17 +21,6 @@ returns c table kinds facts =
 
 pub write-same-spec : {M : Type 1} → statement M
 write-same-spec =
-    tie.close
-    (tie.spec
-    part-requires
-    least-requires
-    part-requires-2
-    part-requires-3
-    part-requires-4
-    mul-put-same
-    slice-aggregate-put-same
-    part-requires-5
-    part-requires-6
-    put-same-requires
-    same-length
-    returns)
+    tie.close (tie.spec (λ c κs. search needs) (λ c κs. search needs) (λ c κs. search needs) (λ c κs. search needs)
+    (λ c κs. search needs) (λ c. search needs) slice-aggregate-put-same (λ c κs. search needs) (λ c κs. search needs)
+    (λ c κs. search needs) (λ c. search needs) returns)

@@ -29,12 +29,6 @@ abbrev μ-loop : tie.MeasureT-loop
 loop-holds : tie.Need-loop-holds Inv-loop μ-loop
 loop-holds c = (omega arith, refl, refl)
 
-record-at-requires : tie.Need-record-at-requires Inv-loop μ-loop
-record-at-requires c κs = search needs
-
-step-by-requires : tie.Need-step-by-requires Inv-loop μ-loop
-step-by-requires c κs = search needs
-
 returns : tie.Need-returns Inv-loop μ-loop
 returns c = let l = c .before .before .before .before in
     let a = l .before .before .args in
@@ -42,12 +36,6 @@ returns c = let l = c .before .before .before .before in
     let n = length-codes b in
     let t = told (stepBy (a .wide)) (inst-there b (l .loop .k) (c .before .before .record-at .ensures)) (c .before .step-by .ensures) (c .if1 .taken) in
     any-stop (step (a .wide)) (codesOf b) (l .loop .k) (codeOf blank) (rw n (c .before .before .before .loop-test .taken)) t ∙ l .loop .inv .2
-
-add-k : tie.Need-add-k Inv-loop μ-loop
-add-k c = search needs
-
-loop-less : tie.Need-loop-less Inv-loop μ-loop
-loop-less c = search needs
 
 loop-again : tie.Need-loop-again Inv-loop μ-loop
 loop-again c = let l = c .before .before .before .before in
@@ -67,15 +55,5 @@ returns-2 c = let l = c .before in
 
 pub any-step-spec : {M : Type 1} → statement M
 any-step-spec =
-    tie.close
-    (tie.spec
-    Inv-loop
-    μ-loop
-    loop-holds
-    record-at-requires
-    step-by-requires
-    returns
-    add-k
-    loop-less
-    loop-again
-    returns-2)
+    tie.close (tie.spec Inv-loop μ-loop loop-holds (λ c κs. search needs) (λ c κs. search needs) returns
+    (λ c. search needs) (λ c. search needs) loop-again returns-2)

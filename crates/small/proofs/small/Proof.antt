@@ -32,15 +32,6 @@ returns-2 c = let b = now (c .before .before .before .args .code) in
 loop-holds : tie.Need-loop-holds Inv-loop μ-loop
 loop-holds c = (omega arith, refl, refl)
 
-add-loop : tie.Need-add-loop Inv-loop μ-loop
-add-loop c = search needs
-
-record-at-requires : tie.Need-record-at-requires Inv-loop μ-loop
-record-at-requires c κs = search needs
-
-dupable-requires : tie.Need-dupable-requires Inv-loop μ-loop
-dupable-requires c κs = search needs
-
 returns-3 : tie.Need-returns-3 Inv-loop μ-loop
 returns-3 c = let b = now (c .before .before .before .before .before .before .before .before .args .code) in
     let n = length-codes b in
@@ -49,12 +40,6 @@ returns-3 c = let b = now (c .before .before .before .before .before .before .be
     let e = copyable-stop (codesOf b) (l .loop .k) (rw n (c .before .before .before .loop-test .taken)) t in
     short-code (codesOf b) (rw n (c .before .before .before .before .before .before .if1 .left)) (e ∙ l .loop .inv .2)
 
-add-k : tie.Need-add-k Inv-loop μ-loop
-add-k c = search needs
-
-loop-less : tie.Need-loop-less Inv-loop μ-loop
-loop-less c = search needs
-
 loop-again : tie.Need-loop-again Inv-loop μ-loop
 loop-again c = let b = now (c .before .before .before .before .before .before .before .before .args .code) in
     let n = length-codes b in
@@ -62,12 +47,6 @@ loop-again c = let b = now (c .before .before .before .before .before .before .b
     let t = told dupable (inst-there b (l .loop .k) (c .before .before .record-at .ensures)) (c .before .dupable .ensures) (not-false _ (c .if3 .left)) in
     let e = copyable-pass (codesOf b) (l .loop .k) (rw n (c .before .before .before .loop-test .taken)) t in
     (omega arith, l .loop .inv .1, e ∙ l .loop .inv .2)
-
-record-at-requires-2 : tie.Need-record-at-requires-2 Inv-loop μ-loop
-record-at-requires-2 c κs = search needs
-
-small-end-requires : tie.Need-small-end-requires Inv-loop μ-loop
-small-end-requires c κs = search needs
 
 returns-4 : tie.Need-returns-4 Inv-loop μ-loop
 returns-4 c = let b = now (c .before .before .before .before .before .before .before .args .code) in
@@ -79,20 +58,6 @@ returns-4 c = let b = now (c .before .before .before .before .before .before .be
 
 pub small-spec : {M : Type 1} → statement M
 small-spec =
-    tie.close
-    (tie.spec
-    Inv-loop
-    μ-loop
-    returns
-    returns-2
-    loop-holds
-    add-loop
-    record-at-requires
-    dupable-requires
-    returns-3
-    add-k
-    loop-less
-    loop-again
-    record-at-requires-2
-    small-end-requires
-    returns-4)
+    tie.close (tie.spec Inv-loop μ-loop returns returns-2 loop-holds (λ c. search needs) (λ c κs. search needs)
+    (λ c κs. search needs) returns-3 (λ c. search needs) (λ c. search needs) loop-again (λ c κs. search needs)
+    (λ c κs. search needs) returns-4)

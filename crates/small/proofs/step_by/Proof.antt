@@ -8,18 +8,6 @@ use borrow.Author.Needs.{needs}
 use Rattle.small.proofs.step_by.Statement.{statement}
 use Rattle.small.proofs.step_by.Tie as tie
 
-int-of-requires : tie.Need-int-of-requires
-int-of-requires c κs = search needs
-
-add-or-sub-requires : tie.Need-add-or-sub-requires
-add-or-sub-requires c κs = search needs
-
-int-of-requires-2 : tie.Need-int-of-requires-2
-int-of-requires-2 c κs = search needs
-
-add-or-sub-requires-2 : tie.Need-add-or-sub-requires-2
-add-or-sub-requires-2 c κs = search needs
-
 returns : tie.Need-returns
 unfolding stepBy formOf
 returns c =
@@ -47,13 +35,5 @@ returns-4 c = let a = c .before .args in sym (step-record (a .wide) (a .r) (c .m
 
 pub step-by-spec : {M : Type 1} → statement M
 step-by-spec =
-    tie.close
-    (tie.spec
-    int-of-requires
-    add-or-sub-requires
-    int-of-requires-2
-    add-or-sub-requires-2
-    returns
-    returns-2
-    returns-3
-    returns-4)
+    tie.close (tie.spec (λ c κs. search needs) (λ c κs. search needs) (λ c κs. search needs) (λ c κs. search needs)
+    returns returns-2 returns-3 returns-4)

@@ -9,12 +9,6 @@ use borrow.Author.Needs.{needs}
 use Rattle.small.proofs.step_shape.Statement.{statement}
 use Rattle.small.proofs.step_shape.Tie as tie
 
-end-of-requires : tie.Need-end-of-requires
-end-of-requires c κs = search needs
-
-two-to-br-requires : tie.Need-two-to-br-requires
-two-to-br-requires c κs = search needs
-
 returns : tie.Need-returns
 returns c = let a = c .before .before .before .before .args in
     let b = now (a .code) in
@@ -34,9 +28,6 @@ returns-3 c = let a = c .before .before .before .before .before .before .args in
     let wide = not-false _ (c .before .if2 .left) in
     shape-long (a .wide) (a .l) (codesOf b) (t ∙ c .before .before .if1 .left) wide (rw length-codes (c .if3 .taken))
 
-jumps-back-requires : tie.Need-jumps-back-requires
-jumps-back-requires c κs = search needs
-
 returns-4 : tie.Need-returns-4
 returns-4 c = let a = c .before .before .before .before .before .before .before .args in
     let b = now (a .code) in
@@ -47,12 +38,5 @@ returns-4 c = let a = c .before .before .before .before .before .before .before 
 
 pub step-shape-spec : {M : Type 1} → statement M
 step-shape-spec =
-    tie.close
-    (tie.spec
-    end-of-requires
-    two-to-br-requires
-    returns
-    returns-2
-    returns-3
-    jumps-back-requires
+    tie.close (tie.spec (λ c κs. search needs) (λ c κs. search needs) returns returns-2 returns-3 (λ c κs. search needs)
     returns-4)

@@ -5,9 +5,6 @@ use Rattle.general.proofs.Booleans.{both, neither}
 use Rattle.small.proofs.two_to_br.Statement.{statement}
 use Rattle.small.proofs.two_to_br.Tie as tie
 
-is-br-requires : tie.Need-is-br-requires
-is-br-requires c κs = search needs
-
 returns : tie.Need-returns
 returns c = both refl (eq-eqb _ _ (c .before .if1 .taken)) (c .is-br .ensures)
 
@@ -15,4 +12,4 @@ returns-2 : tie.Need-returns-2
 returns-2 c = ne-eqb _ _ (c .if1 .left) ∙ neither _ refl (ne-eqb _ _ (c .if1 .left))
 
 pub two-to-br-spec : {M : Type 1} → statement M
-two-to-br-spec = tie.close (tie.spec is-br-requires returns returns-2)
+two-to-br-spec = tie.close (tie.spec (λ c κs. search needs) returns returns-2)

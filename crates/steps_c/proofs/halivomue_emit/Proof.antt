@@ -4,16 +4,10 @@ use borrow.Author.Needs.{needs}
 use Rattle.steps_c.proofs.halivomue_emit.Statement.{statement}
 use Rattle.steps_c.proofs.halivomue_emit.Tie as tie
 
-emit-requires : tie.Need-emit-requires
-emit-requires c κs = search needs
-
-same-length : tie.Need-same-length
-same-length c = search needs
-
 returns : tie.Need-returns
 returns c =
     let e = c .before .before .emit .ensures in
     (ap (λ (o : Outcome). o .answer .length) e, ap (λ (o : Outcome). o .output) e)
 
 pub halivomue-emit-spec : {M : Type 1} → statement M
-halivomue-emit-spec = tie.close (tie.spec emit-requires same-length returns)
+halivomue-emit-spec = tie.close (tie.spec (λ c κs. search needs) (λ c. search needs) returns)

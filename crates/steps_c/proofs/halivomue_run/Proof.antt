@@ -8,30 +8,6 @@ use borrow.Author.Needs.{needs}
 use Rattle.steps_c.proofs.halivomue_run.Statement.{statement}
 use Rattle.steps_c.proofs.halivomue_run.Tie as tie
 
-pause-of-requires : tie.Need-pause-of-requires
-pause-of-requires c κs = search needs
-
-run-requires : tie.Need-run-requires
-run-requires c κs = search needs
-
-same-length : tie.Need-same-length
-same-length c = search needs
-
-same-length-2 : tie.Need-same-length-2
-same-length-2 c = search needs
-
-same-length-3 : tie.Need-same-length-3
-same-length-3 c = search needs
-
-same-length-4 : tie.Need-same-length-4
-same-length-4 c = search needs
-
-same-length-5 : tie.Need-same-length-5
-same-length-5 c = search needs
-
-same-length-6 : tie.Need-same-length-6
-same-length-6 c = search needs
-
 returns : tie.Need-returns
 returns c =
     let r = c .before .before .before .before .before .before .before .before .before .before .before .before .before in
@@ -46,14 +22,5 @@ returns c =
 
 pub halivomue-run-spec : {M : Type 1} → statement M
 halivomue-run-spec =
-    tie.close
-    (tie.spec
-    pause-of-requires
-    run-requires
-    same-length
-    same-length-2
-    same-length-3
-    same-length-4
-    same-length-5
-    same-length-6
-    returns)
+    tie.close (tie.spec (λ c κs. search needs) (λ c κs. search needs) (λ c. search needs) (λ c. search needs)
+    (λ c. search needs) (λ c. search needs) (λ c. search needs) (λ c. search needs) returns)

@@ -12,24 +12,12 @@ use borrow.Author.Needs.{needs}
 use Rattle.thread.proofs.hop_br.Statement.{statement}
 use Rattle.thread.proofs.hop_br.Tie as tie
 
-stops-requires : tie.Need-stops-requires
-stops-requires c κs = search needs
-
-same-length : tie.Need-same-length
-same-length c = search needs
-
-same-length-2 : tie.Need-same-length-2
-same-length-2 c = search needs
-
 returns : tie.Need-returns
 returns c known copy =
     let x = c .before in
     let a = x .before .before .before .before .before .before .before .args in
     br-stays (now (a .facts)) (bodyIn (a .pause)) (a .budget) known copy (now (a .work)) (now (a .table)) (now (a .kinds)) (a .s) (a .a) (a .l .0)
     (sym (x .stops .ensures) ∙ c .if1 .taken)
-
-join-requires : tie.Need-join-requires
-join-requires c κs = search needs
 
 add-t23 : tie.Need-add-t23
 add-t23 c =
@@ -46,18 +34,6 @@ add-t23 c =
     let fits : a .s .grown + j .join .result .n < 2 ^ 64 = omega (arith, few, le, start .fits .budget .fits) in
     record { fits = fits }
 
-fresh-to-requires : tie.Need-fresh-to-requires
-fresh-to-requires c κs = search needs
-
-same-length-3 : tie.Need-same-length-3
-same-length-3 c = search needs
-
-same-length-4 : tie.Need-same-length-4
-same-length-4 c = search needs
-
-same-length-5 : tie.Need-same-length-5
-same-length-5 c = search needs
-
 returns-2 : tie.Need-returns-2
 returns-2 c known copy =
     let j = c .before .before .before .before .before .before .before .before in
@@ -69,16 +45,5 @@ returns-2 c known copy =
 
 pub hop-br-spec : {M : Type 1} → statement M
 hop-br-spec =
-    tie.close
-    (tie.spec
-    stops-requires
-    same-length
-    same-length-2
-    returns
-    join-requires
-    add-t23
-    fresh-to-requires
-    same-length-3
-    same-length-4
-    same-length-5
-    returns-2)
+    tie.close (tie.spec (λ c κs. search needs) (λ c. search needs) (λ c. search needs) returns (λ c κs. search needs)
+    add-t23 (λ c κs. search needs) (λ c. search needs) (λ c. search needs) (λ c. search needs) returns-2)

@@ -6,21 +6,6 @@ use borrow.Author.Needs.{needs}
 use Rattle.thread.proofs.hop_cond_br.Statement.{statement}
 use Rattle.thread.proofs.hop_cond_br.Tie as tie
 
-hop-cond-br-requires : tie.Need-hop-cond-br-requires
-hop-cond-br-requires c κs = search needs
-
-turned-requires : tie.Need-turned-requires
-turned-requires c κs = search needs
-
-same-length : tie.Need-same-length
-same-length c = search needs
-
-same-length-2 : tie.Need-same-length-2
-same-length-2 c = search needs
-
-same-length-3 : tie.Need-same-length-3
-same-length-3 c = search needs
-
 returns : tie.Need-returns
 returns c budget kinds =
     let x = c .before .before .before .before .before .before .before in
@@ -30,5 +15,5 @@ returns c budget kinds =
 
 pub hop-cond-br-spec : {M : Type 1} → statement M
 hop-cond-br-spec =
-    tie.close
-    (tie.spec hop-cond-br-requires turned-requires same-length same-length-2 same-length-3 returns)
+    tie.close (tie.spec (λ c κs. search needs) (λ c κs. search needs) (λ c. search needs) (λ c. search needs)
+    (λ c. search needs) returns)

@@ -29,33 +29,6 @@ abbrev μ-hops : tie.MeasureT-hops
 hops-holds : tie.Need-hops-holds Inv-hops μ-hops
 hops-holds c = (omega arith, refl, refl, refl, refl, refl, refl)
 
-end-at-requires : tie.Need-end-at-requires Inv-hops μ-hops
-end-at-requires c κs = search needs
-
-enum-known-c : tie.Need-enum-known-c Inv-hops μ-hops
-enum-known-c c = search needs
-
-hop-cond-br-requires : tie.Need-hop-cond-br-requires Inv-hops μ-hops
-hop-cond-br-requires c κs = search needs
-
-enum-known-l : tie.Need-enum-known-l Inv-hops μ-hops
-enum-known-l c = search needs
-
-hop-br-requires : tie.Need-hop-br-requires Inv-hops μ-hops
-hop-br-requires c κs = search needs
-
-enum-told : tie.Need-enum-told Inv-hops μ-hops
-enum-told c = search needs
-
-enum-told-2 : tie.Need-enum-told-2 Inv-hops μ-hops
-enum-told-2 c = search needs
-
-add-h : tie.Need-add-h Inv-hops μ-hops
-add-h c = search needs
-
-hops-less : tie.Need-hops-less Inv-hops μ-hops
-hops-less c = search needs
-
 hops-again : tie.Need-hops-again Inv-hops μ-hops
 hops-again c =
     let d = c .before in
@@ -87,21 +60,6 @@ hops-again c =
           ∙ i .6))
           (c .match .came),
     )
-
-same-length : tie.Need-same-length Inv-hops μ-hops
-same-length c = search needs
-
-same-length-2 : tie.Need-same-length-2 Inv-hops μ-hops
-same-length-2 c = search needs
-
-same-length-3 : tie.Need-same-length-3 Inv-hops μ-hops
-same-length-3 c = search needs
-
-same-length-4 : tie.Need-same-length-4 Inv-hops μ-hops
-same-length-4 c = search needs
-
-same-length-5 : tie.Need-same-length-5 Inv-hops μ-hops
-same-length-5 c = search needs
 
 returns : tie.Need-returns Inv-hops μ-hops
 returns c =
@@ -161,21 +119,6 @@ returns-2 c =
     (not-true _ (c .if1 .taken))
     ∙ i .6
 
-same-length-11 : tie.Need-same-length-11 Inv-hops μ-hops
-same-length-11 c = search needs
-
-same-length-12 : tie.Need-same-length-12 Inv-hops μ-hops
-same-length-12 c = search needs
-
-same-length-13 : tie.Need-same-length-13 Inv-hops μ-hops
-same-length-13 c = search needs
-
-same-length-14 : tie.Need-same-length-14 Inv-hops μ-hops
-same-length-14 c = search needs
-
-same-length-15 : tie.Need-same-length-15 Inv-hops μ-hops
-same-length-15 c = search needs
-
 returns-3 : tie.Need-returns-3 Inv-hops μ-hops
 returns-3 c =
     let z = c .before .before .before .before .before .before .before .before .before in
@@ -193,21 +136,6 @@ returns-3 c =
     (d .end-at .result) (d .end-at .ensures) (x .l .given .1) (z .hop-br .ensures k q)) (not-true _ (c .if2 .taken))
     ∙ i .6
 
-same-length-16 : tie.Need-same-length-16 Inv-hops μ-hops
-same-length-16 c = search needs
-
-same-length-17 : tie.Need-same-length-17 Inv-hops μ-hops
-same-length-17 c = search needs
-
-same-length-18 : tie.Need-same-length-18 Inv-hops μ-hops
-same-length-18 c = search needs
-
-same-length-19 : tie.Need-same-length-19 Inv-hops μ-hops
-same-length-19 c = search needs
-
-same-length-20 : tie.Need-same-length-20 Inv-hops μ-hops
-same-length-20 c = search needs
-
 returns-4 : tie.Need-returns-4 Inv-hops μ-hops
 returns-4 c =
     let d = c .before .before in
@@ -222,21 +150,6 @@ returns-4 c =
     (hop-case (now (a .facts)) (bodyIn (a .pause)) (a .budget) k q (l .hops .work) (l .hops .table) (l .hops .kinds) (l .hops .s) (a .a)
     (d .end-at .result) (d .end-at .ensures) (c .enum-told .given .1)) refl
     ∙ i .6
-
-same-length-21 : tie.Need-same-length-21 Inv-hops μ-hops
-same-length-21 c = search needs
-
-same-length-22 : tie.Need-same-length-22 Inv-hops μ-hops
-same-length-22 c = search needs
-
-same-length-23 : tie.Need-same-length-23 Inv-hops μ-hops
-same-length-23 c = search needs
-
-same-length-24 : tie.Need-same-length-24 Inv-hops μ-hops
-same-length-24 c = search needs
-
-same-length-25 : tie.Need-same-length-25 Inv-hops μ-hops
-same-length-25 c = search needs
 
 returns-5 : tie.Need-returns-5 Inv-hops μ-hops
 returns-5 c =
@@ -255,48 +168,10 @@ returns-5 c =
 
 pub hops-spec : {M : Type 1} → statement M
 hops-spec =
-    tie.close
-    (tie.spec
-    Inv-hops
-    μ-hops
-    hops-holds
-    end-at-requires
-    enum-known-c
-    hop-cond-br-requires
-    enum-known-l
-    hop-br-requires
-    enum-told
-    enum-told-2
-    add-h
-    hops-less
-    hops-again
-    same-length
-    same-length-2
-    same-length-3
-    same-length-4
-    same-length-5
-    returns
-    same-length-6
-    same-length-7
-    same-length-8
-    same-length-9
-    same-length-10
-    returns-2
-    same-length-11
-    same-length-12
-    same-length-13
-    same-length-14
-    same-length-15
-    returns-3
-    same-length-16
-    same-length-17
-    same-length-18
-    same-length-19
-    same-length-20
-    returns-4
-    same-length-21
-    same-length-22
-    same-length-23
-    same-length-24
-    same-length-25
-    returns-5)
+    tie.close (tie.spec Inv-hops μ-hops hops-holds (λ c κs. search needs) (λ c. search needs) (λ c κs. search needs)
+    (λ c. search needs) (λ c κs. search needs) (λ c. search needs) (λ c. search needs) (λ c. search needs)
+    (λ c. search needs) hops-again (λ c. search needs) (λ c. search needs) (λ c. search needs) (λ c. search needs)
+    (λ c. search needs) returns same-length-6 same-length-7 same-length-8 same-length-9 same-length-10 returns-2
+    (λ c. search needs) (λ c. search needs) (λ c. search needs) (λ c. search needs) (λ c. search needs) returns-3
+    (λ c. search needs) (λ c. search needs) (λ c. search needs) (λ c. search needs) (λ c. search needs) returns-4
+    (λ c. search needs) (λ c. search needs) (λ c. search needs) (λ c. search needs) (λ c. search needs) returns-5)

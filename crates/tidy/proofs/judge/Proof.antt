@@ -8,18 +8,6 @@ use Rattle.tidy.proofs.Accepted.{judge-is}
 use Rattle.tidy.proofs.judge.Statement.{statement}
 use Rattle.tidy.proofs.judge.Tie as tie
 
-slice-aggregate-note-blocks : tie.Need-slice-aggregate-note-blocks
-slice-aggregate-note-blocks c = search needs
-
-note-blocks-requires : tie.Need-note-blocks-requires
-note-blocks-requires c κs = search needs
-
-note-targets-requires : tie.Need-note-targets-requires
-note-targets-requires c κs = search needs
-
-slice-aggregate-read-blocks : tie.Need-slice-aggregate-read-blocks
-slice-aggregate-read-blocks c = search needs
-
 read-blocks-requires : tie.Need-read-blocks-requires
 read-blocks-requires c κs =
     let f = c .before .before .before .before .before .before .before .before .pre .1 in
@@ -34,11 +22,5 @@ returns c =
 
 pub judge-spec : {M : Type 1} → statement M
 judge-spec =
-    tie.close
-    (tie.spec
-    slice-aggregate-note-blocks
-    note-blocks-requires
-    note-targets-requires
-    slice-aggregate-read-blocks
-    read-blocks-requires
-    returns)
+    tie.close (tie.spec (λ c. search needs) (λ c κs. search needs) (λ c κs. search needs) (λ c. search needs)
+    read-blocks-requires returns)

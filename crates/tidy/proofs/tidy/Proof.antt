@@ -8,14 +8,8 @@ use Rattle.tidy.proofs.Accepted.{in-order, accepted, refused-is, number
 use Rattle.tidy.proofs.tidy.Statement.{statement}
 use Rattle.tidy.proofs.tidy.Tie as tie
 
-read-requires : tie.Need-read-requires
-read-requires c κs = search needs
-
 returns : tie.Need-returns
 returns c = refused-is (now (c .before .before .before .before .args .b)) (c .before .before .read .ensures) (c .if1 .taken)
-
-starts-requires : tie.Need-starts-requires
-starts-requires c κs = search needs
 
 judge-requires : tie.Need-judge-requires
 judge-requires c κs =
@@ -29,11 +23,4 @@ returns-2 c = accepted-is (now (c .before .before .before .before .before .befor
     (c .before .before .if1 .left) (c .judge .ensures)
 
 pub tidy-spec : {M : Type 1} → statement M
-tidy-spec =
-    tie.close
-    (tie.spec
-    read-requires
-    returns
-    starts-requires
-    judge-requires
-    returns-2)
+tidy-spec = tie.close (tie.spec (λ c κs. search needs) returns (λ c κs. search needs) judge-requires returns-2)

@@ -5,18 +5,6 @@ use borrow.Author.Needs.{needs}
 use Rattle.fill.proofs.class.put_address.Statement.{statement}
 use Rattle.fill.proofs.class.put_address.Tie as tie
 
-is-up-requires : tie.Need-is-up-requires
-is-up-requires c κs = search needs
-
-returns : tie.Need-returns
-returns c = search needs
-
-put-konst-requires : tie.Need-put-konst-requires
-put-konst-requires c κs = search needs
-
-same-length : tie.Need-same-length
-same-length c = search needs
-
 returns-2 : tie.Need-returns-2
 returns-2 c =
     let c5 = c .before .before .before .before .before in
@@ -25,4 +13,4 @@ returns-2 c =
 
 pub put-address-spec : {M : Type 1} → statement M
 put-address-spec =
-    tie.close (tie.spec is-up-requires returns put-konst-requires same-length returns-2)
+    tie.close (tie.spec (λ c κs. search needs) (λ c. search needs) (λ c κs. search needs) (λ c. search needs) returns-2)

@@ -10,24 +10,6 @@ use borrow.Author.Needs.{needs}
 use Rattle.fill.proofs.class.put_class.Statement.{statement}
 use Rattle.fill.proofs.class.put_class.Tie as tie
 
-word-of-requires : tie.Need-word-of-requires
-word-of-requires c κs = search needs
-
-put-word-requires : tie.Need-put-word-requires
-put-word-requires c κs = search needs
-
-put-konst-requires : tie.Need-put-konst-requires
-put-konst-requires c κs = search needs
-
-space-of-requires : tie.Need-space-of-requires
-space-of-requires c κs = search needs
-
-put-address-requires : tie.Need-put-address-requires
-put-address-requires c κs = search needs
-
-same-length : tie.Need-same-length
-same-length c = search needs
-
 returns : tie.Need-returns
 unfolding classStep formOf
 returns c =
@@ -36,18 +18,12 @@ returns c =
     c .before .before .put-word .ensures ∙ ap (withWord (now (a .table)) (a .r .p1)) (c .before .before .before .word-of .ensures)
     ∙ ap (classStep (now (a .table))) (inst-at (a .r) 0 (m .match .keys1))
 
-same-length-2 : tie.Need-same-length-2
-same-length-2 c = search needs
-
 returns-2 : tie.Need-returns-2
 unfolding classStep formOf
 returns-2 c =
     let m = c .before .before .before .before in
     let a = m .before .before .args in
     c .before .before .put-konst .ensures ∙ ap (classStep (now (a .table))) (inst-at (a .r) 1 (m .match .keys2))
-
-same-length-3 : tie.Need-same-length-3
-same-length-3 c = search needs
 
 returns-3 : tie.Need-returns-3
 unfolding classStep formOf
@@ -67,17 +43,6 @@ returns-4 c =
 
 pub put-class-spec : {M : Type 1} → statement M
 put-class-spec =
-    tie.close
-    (tie.spec
-    word-of-requires
-    put-word-requires
-    put-konst-requires
-    space-of-requires
-    put-address-requires
-    same-length
-    returns
-    same-length-2
-    returns-2
-    same-length-3
-    returns-3
+    tie.close (tie.spec (λ c κs. search needs) (λ c κs. search needs) (λ c κs. search needs) (λ c κs. search needs)
+    (λ c κs. search needs) (λ c. search needs) returns (λ c. search needs) returns-2 (λ c. search needs) returns-3
     returns-4)

@@ -19,20 +19,8 @@ Inv-loop table₀ j most operands start len k₀ table k =
 abbrev μ-loop : tie.MeasureT-loop
 μ-loop table₀ j most operands start len k₀ table k = len - k
 
-cast-start : tie.Need-cast-start Inv-loop μ-loop
-cast-start c = search needs
-
-cast-len : tie.Need-cast-len Inv-loop μ-loop
-cast-len c = search needs
-
 loop-holds : tie.Need-loop-holds Inv-loop μ-loop
 loop-holds c = (refl, (search needs, (search needs, refl)))
-
-add-if1 : tie.Need-add-if1 Inv-loop μ-loop
-add-if1 c = search needs
-
-same-length : tie.Need-same-length Inv-loop μ-loop
-same-length c = search needs
 
 returns : tie.Need-returns Inv-loop μ-loop
 returns c =
@@ -42,21 +30,6 @@ returns c =
     let part = take (a .list .len) (drop (a .list .start) ops) in
     let short = part-short ops (a .list .start) (a .list .len) (l .loop .k) (rw (operands-length (now (a .operands))) (c .if1 .taken)) in
     over-done (counted (a .j) (a .most)) part (l .loop .k) short (l .loop .inv .0)
-
-add-record-at : tie.Need-add-record-at Inv-loop μ-loop
-add-record-at c = search needs
-
-record-at-requires : tie.Need-record-at-requires Inv-loop μ-loop
-record-at-requires c κs = search needs
-
-bump-requires : tie.Need-bump-requires Inv-loop μ-loop
-bump-requires c κs = search needs
-
-add-k : tie.Need-add-k Inv-loop μ-loop
-add-k c = search needs
-
-loop-less : tie.Need-loop-less Inv-loop μ-loop
-loop-less c = search needs
 
 loop-again : tie.Need-loop-again Inv-loop μ-loop
 loop-again c =
@@ -74,9 +47,6 @@ loop-again c =
       (l .loop .inv .1 .0, (l .loop .inv .1 .1 .0, search needs)),
     )
 
-same-length-2 : tie.Need-same-length-2 Inv-loop μ-loop
-same-length-2 c = search needs
-
 returns-2 : tie.Need-returns-2 Inv-loop μ-loop
 returns-2 c =
     let l = c .before in
@@ -88,21 +58,6 @@ returns-2 c =
 
 pub bump-list-spec : {M : Type 1} → statement M
 bump-list-spec =
-    tie.close
-    (tie.spec
-    Inv-loop
-    μ-loop
-    cast-start
-    cast-len
-    loop-holds
-    add-if1
-    same-length
-    returns
-    add-record-at
-    record-at-requires
-    bump-requires
-    add-k
-    loop-less
-    loop-again
-    same-length-2
-    returns-2)
+    tie.close (tie.spec Inv-loop μ-loop (λ c. search needs) (λ c. search needs) loop-holds (λ c. search needs)
+    (λ c. search needs) returns (λ c. search needs) (λ c κs. search needs) (λ c κs. search needs) (λ c. search needs)
+    (λ c. search needs) loop-again (λ c. search needs) returns-2)

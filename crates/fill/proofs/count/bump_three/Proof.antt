@@ -7,19 +7,10 @@ use borrow.Author.Needs.{needs}
 use Rattle.fill.proofs.count.bump_three.Statement.{statement}
 use Rattle.fill.proofs.count.bump_three.Tie as tie
 
-bump-two-requires : tie.Need-bump-two-requires
-bump-two-requires c κs = search needs
-
-bump-requires : tie.Need-bump-requires
-bump-requires c κs = search needs
-
-same-length : tie.Need-same-length
-same-length c = search needs
-
 returns : tie.Need-returns
 returns c =
     let a = c .before .before .before .before .before .before .before .before .before .args in
     c .before .before .bump .ensures ∙ ap (λ (t : List ℕ). counted 2 cap t (a .b)) (c .before .before .before .before .before .before .bump-two .ensures)
 
 pub bump-three-spec : {M : Type 1} → statement M
-bump-three-spec = tie.close (tie.spec bump-two-requires bump-requires same-length returns)
+bump-three-spec = tie.close (tie.spec (λ c κs. search needs) (λ c κs. search needs) (λ c. search needs) returns)

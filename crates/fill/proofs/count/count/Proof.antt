@@ -25,15 +25,6 @@ abbrev μ-loop : tie.MeasureT-loop
 loop-holds : tie.Need-loop-holds Inv-loop μ-loop
 loop-holds c = (refl, refl)
 
-count-record-requires : tie.Need-count-record-requires Inv-loop μ-loop
-count-record-requires c κs = search needs
-
-add-k : tie.Need-add-k Inv-loop μ-loop
-add-k c = search needs
-
-loop-less : tie.Need-loop-less Inv-loop μ-loop
-loop-less c = search needs
-
 loop-again : tie.Need-loop-again Inv-loop μ-loop
 loop-again c =
     let l = c .before .before .before .before .before in
@@ -45,9 +36,6 @@ loop-again c =
     let more : l .loop .k < length (codesOf b) = rw (length-codes b) (c .before .before .before .before .loop-test .taken) in
     (over-again (countCode ops) (codesOf b) (l .loop .k) (codeOf blank) more one (l .loop .inv .0), search needs)
 
-same-length : tie.Need-same-length Inv-loop μ-loop
-same-length c = search needs
-
 returns : tie.Need-returns Inv-loop μ-loop
 returns c =
     let l = c .before in
@@ -57,14 +45,5 @@ returns c =
 
 pub count-spec : {M : Type 1} → statement M
 count-spec =
-    tie.close
-    (tie.spec
-    Inv-loop
-    μ-loop
-    loop-holds
-    count-record-requires
-    add-k
-    loop-less
-    loop-again
-    same-length
-    returns)
+    tie.close (tie.spec Inv-loop μ-loop loop-holds (λ c κs. search needs) (λ c. search needs) (λ c. search needs)
+    loop-again (λ c. search needs) returns)

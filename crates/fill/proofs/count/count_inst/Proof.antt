@@ -6,9 +6,6 @@ use borrow.Author.Needs.{needs}
 use Rattle.fill.proofs.count.count_inst.Statement.{statement}
 use Rattle.fill.proofs.count.count_inst.Tie as tie
 
-roles-of-requires : tie.Need-roles-of-requires
-roles-of-requires c κs = search needs
-
 bump-regs-requires : tie.Need-bump-regs-requires
 bump-regs-requires c κs = (few-defs (c .before .before .before .before .before .args .i) (c .before .before .roles-of .ensures), omega arith)
 
@@ -16,12 +13,6 @@ bump-regs-requires-2 : tie.Need-bump-regs-requires-2
 bump-regs-requires-2 c κs =
     let c5 = c .before .before .before .before .before in
     (few-all (c5 .before .before .before .before .args .i) (c5 .before .roles-of .ensures), omega arith)
-
-bump-list-requires : tie.Need-bump-list-requires
-bump-list-requires c κs = search needs
-
-same-length : tie.Need-same-length
-same-length c = search needs
 
 returns : tie.Need-returns
 returns c =
@@ -34,11 +25,5 @@ returns c =
 
 pub count-inst-spec : {M : Type 1} → statement M
 count-inst-spec =
-    tie.close
-    (tie.spec
-    roles-of-requires
-    bump-regs-requires
-    bump-regs-requires-2
-    bump-list-requires
-    same-length
-    returns)
+    tie.close (tie.spec (λ c κs. search needs) bump-regs-requires bump-regs-requires-2 (λ c κs. search needs)
+    (λ c. search needs) returns)

@@ -21,21 +21,6 @@ abbrev μ-loop : tie.MeasureT-loop
 loop-holds : tie.Need-loop-holds Inv-loop μ-loop
 loop-holds c = let a = c .before .before .args in (omega arith, (start-none (kindsOf (now (a .registers))) (now (a .table)), refl))
 
-record-at-requires : tie.Need-record-at-requires Inv-loop μ-loop
-record-at-requires c κs = search needs
-
-mul-put-row : tie.Need-mul-put-row Inv-loop μ-loop
-mul-put-row c = search needs
-
-put-row-requires : tie.Need-put-row-requires Inv-loop μ-loop
-put-row-requires c κs = search needs
-
-add-k : tie.Need-add-k Inv-loop μ-loop
-add-k c = search needs
-
-loop-less : tie.Need-loop-less Inv-loop μ-loop
-loop-less c = search needs
-
 loop-again : tie.Need-loop-again Inv-loop μ-loop
 loop-again c =
     let l = c .before .before .before .before .before .before in
@@ -44,9 +29,6 @@ loop-again c =
     let kind = ap (λ r. r .kind) (c .before .before .before .before .record-at .ensures) ∙ sym (kind-at b (l .loop .k)) in
     let next = start-next (kindsOf b) (l .loop .k) (l .loop .table) _ (omega arith) (l .loop .inv .1 .0) kind (c .before .before .put-row .ensures) in
     (omega arith, (next, search needs))
-
-same-length : tie.Need-same-length Inv-loop μ-loop
-same-length c = search needs
 
 returns : tie.Need-returns Inv-loop μ-loop
 returns c =
@@ -57,16 +39,5 @@ returns c =
 
 pub start-spec : {M : Type 1} → statement M
 start-spec =
-    tie.close
-    (tie.spec
-    Inv-loop
-    μ-loop
-    loop-holds
-    record-at-requires
-    mul-put-row
-    put-row-requires
-    add-k
-    loop-less
-    loop-again
-    same-length
-    returns)
+    tie.close (tie.spec Inv-loop μ-loop loop-holds (λ c κs. search needs) (λ c. search needs) (λ c κs. search needs)
+    (λ c. search needs) (λ c. search needs) loop-again (λ c. search needs) returns)

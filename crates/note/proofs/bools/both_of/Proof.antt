@@ -5,14 +5,8 @@ use borrow.Author.Needs.{needs}
 use Rattle.note.proofs.bools.both_of.Statement.{statement}
 use Rattle.note.proofs.bools.both_of.Tie as tie
 
-test-requires : tie.Need-test-requires
-test-requires c κs = search needs
-
-bit-requires : tie.Need-bit-requires
-bit-requires c κs = search needs
-
 returns : tie.Need-returns
 returns c = let a = c .before .before .args in c .bit .ensures ∙ ap bit (c .before .test .ensures) ∙ test-both (a .op) (a .v) (a .w)
 
 pub both-of-spec : {M : Type 1} → statement M
-both-of-spec = tie.close (tie.spec test-requires bit-requires returns)
+both-of-spec = tie.close (tie.spec (λ c κs. search needs) (λ c κs. search needs) returns)

@@ -6,12 +6,6 @@ use borrow.Author.Needs.{needs}
 use Rattle.note.proofs.learn.copies.Statement.{statement}
 use Rattle.note.proofs.learn.copies.Tie as tie
 
-kind-of-requires : tie.Need-kind-of-requires
-kind-of-requires c κs = search needs
-
-kind-of-requires-2 : tie.Need-kind-of-requires-2
-kind-of-requires-2 c κs = search needs
-
 returns : tie.Need-returns
 returns c =
     let a = c .before .before .before .before .args in
@@ -42,4 +36,4 @@ returns-3 c =
     ∙ rw (eq-eqb (k .result) (o .result) (c .before .if1 .left), ne-eqb (k .result) 0 (c .if2 .left)))
 
 pub copies-spec : {M : Type 1} → statement M
-copies-spec = tie.close (tie.spec kind-of-requires kind-of-requires-2 returns returns-2 returns-3)
+copies-spec = tie.close (tie.spec (λ c κs. search needs) (λ c κs. search needs) returns returns-2 returns-3)

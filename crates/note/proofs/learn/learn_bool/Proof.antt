@@ -8,21 +8,6 @@ use borrow.Author.Needs.{needs}
 use Rattle.note.proofs.learn.learn_bool.Statement.{statement}
 use Rattle.note.proofs.learn.learn_bool.Tie as tie
 
-value-of-requires : tie.Need-value-of-requires
-value-of-requires c κs = search needs
-
-value-of-requires-2 : tie.Need-value-of-requires-2
-value-of-requires-2 c κs = search needs
-
-bool-of-requires : tie.Need-bool-of-requires
-bool-of-requires c κs = search needs
-
-learn-value-requires : tie.Need-learn-value-requires
-learn-value-requires c κs = search needs
-
-same-length : tie.Need-same-length
-same-length c = search needs
-
 returns : tie.Need-returns
 returns c =
     let c5 = c .before .before .before .before .before in
@@ -34,11 +19,5 @@ returns c =
 
 pub learn-bool-spec : {M : Type 1} → statement M
 learn-bool-spec =
-    tie.close
-    (tie.spec
-    value-of-requires
-    value-of-requires-2
-    bool-of-requires
-    learn-value-requires
-    same-length
-    returns)
+    tie.close (tie.spec (λ c κs. search needs) (λ c κs. search needs) (λ c κs. search needs) (λ c κs. search needs)
+    (λ c. search needs) returns)

@@ -9,15 +9,6 @@ use borrow.Author.Needs.{needs}
 use Rattle.note.proofs.learn.learn_copy.Statement.{statement}
 use Rattle.note.proofs.learn.learn_copy.Tie as tie
 
-copies-requires : tie.Need-copies-requires
-copies-requires c κs = search needs
-
-add-copy-requires : tie.Need-add-copy-requires
-add-copy-requires c κs = search needs
-
-same-length : tie.Need-same-length
-same-length c = search needs
-
 returns : tie.Need-returns
 returns c =
     let a = c .before .before .before .before .before .before .before .before .args in
@@ -36,10 +27,4 @@ returns-2 c =
 
 pub learn-copy-spec : {M : Type 1} → statement M
 learn-copy-spec =
-    tie.close
-    (tie.spec
-    copies-requires
-    add-copy-requires
-    same-length
-    returns
-    returns-2)
+    tie.close (tie.spec (λ c κs. search needs) (λ c κs. search needs) (λ c. search needs) returns returns-2)

@@ -18,24 +18,6 @@ returns c =
     let k = heldIn (a .h) (now (a .known)) (now (a .copy)) in
     (moved-same f k (a .d .0) (a .s .0) (c .if1 .taken), record { known-le = omega arith; copy-le = omega arith })
 
-source-of-requires : tie.Need-source-of-requires
-source-of-requires c κs = search needs
-
-value-of-requires : tie.Need-value-of-requires
-value-of-requires c κs = search needs
-
-learn-value-requires : tie.Need-learn-value-requires
-learn-value-requires c κs = search needs
-
-learn-copy-requires : tie.Need-learn-copy-requires
-learn-copy-requires c κs = search needs
-
-same-length : tie.Need-same-length
-same-length c = search needs
-
-same-length-2 : tie.Need-same-length-2
-same-length-2 c = search needs
-
 returns-2 : tie.Need-returns-2
 returns-2 c =
     let c5 = c .before .before .before .before .before in
@@ -52,13 +34,5 @@ returns-2 c =
 
 pub learn-move-spec : {M : Type 1} → statement M
 learn-move-spec =
-    tie.close
-    (tie.spec
-    returns
-    source-of-requires
-    value-of-requires
-    learn-value-requires
-    learn-copy-requires
-    same-length
-    same-length-2
-    returns-2)
+    tie.close (tie.spec returns (λ c κs. search needs) (λ c κs. search needs) (λ c κs. search needs)
+    (λ c κs. search needs) (λ c. search needs) (λ c. search needs) returns-2)

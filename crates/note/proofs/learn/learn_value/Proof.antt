@@ -10,18 +10,6 @@ use borrow.Author.Needs.{needs}
 use Rattle.note.proofs.learn.learn_value.Statement.{statement}
 use Rattle.note.proofs.learn.learn_value.Tie as tie
 
-enum-known-v : tie.Need-enum-known-v
-enum-known-v c = search needs
-
-add-value-requires : tie.Need-add-value-requires
-add-value-requires c κs = search needs
-
-enum-told : tie.Need-enum-told
-enum-told c = search needs
-
-same-length : tie.Need-same-length
-same-length c = search needs
-
 returns : tie.Need-returns
 returns c =
     let a = c .before .before .before .before .before .before .before .before .args in
@@ -37,11 +25,5 @@ returns-2 c =
 
 pub learn-value-spec : {M : Type 1} → statement M
 learn-value-spec =
-    tie.close
-    (tie.spec
-    enum-known-v
-    add-value-requires
-    enum-told
-    same-length
-    returns
+    tie.close (tie.spec (λ c. search needs) (λ c κs. search needs) (λ c. search needs) (λ c. search needs) returns
     returns-2)

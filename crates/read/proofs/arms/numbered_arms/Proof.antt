@@ -38,15 +38,6 @@ loop-holds c =
 add-record-at : tie.Need-add-record-at Inv-loop μ-loop
 add-record-at c = omega (arith, length-records (now (c .before .before .before .args .b)))
 
-record-at-requires : tie.Need-record-at-requires Inv-loop μ-loop
-record-at-requires c κs = search needs
-
-sub-numbers : tie.Need-sub-numbers Inv-loop μ-loop
-sub-numbers c = search needs
-
-numbers-requires : tie.Need-numbers-requires Inv-loop μ-loop
-numbers-requires c κs = search needs
-
 returns : tie.Need-returns Inv-loop μ-loop
 returns c =
     let t = c .before .before in
@@ -58,17 +49,8 @@ returns c =
     let stop = part-stop numbers nextArm rs (a .first) (a .count) (p .pre .0) (l .loop .k) s (t .before .loop-test .taken) (t .record-at .ensures) in
     (stop (c .before .numbers .ensures) (not-true _ (c .if1 .taken)) ∙ l .loop .inv .3, l .loop .inv .2)
 
-ends-table-requires : tie.Need-ends-table-requires Inv-loop μ-loop
-ends-table-requires c κs = search needs
-
 add-due : tie.Need-add-due Inv-loop μ-loop
 add-due c = omega (arith, c .ends-table .ensures .1)
-
-add-k : tie.Need-add-k Inv-loop μ-loop
-add-k c = search needs
-
-loop-less : tie.Need-loop-less Inv-loop μ-loop
-loop-less c = search needs
 
 loop-again : tie.Need-loop-again Inv-loop μ-loop
 loop-again c =
@@ -96,19 +78,6 @@ returns-2 c = let l = c .before in
 
 pub numbered-arms-spec : {M : Type 1} → statement M
 numbered-arms-spec =
-    tie.close
-    (tie.spec
-    Inv-loop
-    μ-loop
-    loop-holds
-    add-record-at
-    record-at-requires
-    sub-numbers
-    numbers-requires
-    returns
-    ends-table-requires
-    add-due
-    add-k
-    loop-less
-    loop-again
+    tie.close (tie.spec Inv-loop μ-loop loop-holds add-record-at (λ c κs. search needs) (λ c. search needs)
+    (λ c κs. search needs) returns (λ c κs. search needs) add-due (λ c. search needs) (λ c. search needs) loop-again
     returns-2)

@@ -41,19 +41,10 @@ loop-holds c = (omega arith, zero-add _)
 add-record-at : tie.Need-add-record-at Inv-loop μ-loop
 add-record-at c = omega (arith, length-records (now (c .before .before .before .args .b)))
 
-record-at-requires : tie.Need-record-at-requires Inv-loop μ-loop
-record-at-requires c κs = search needs
-
-cast-start : tie.Need-cast-start Inv-loop μ-loop
-cast-start c = search needs
-
 add-ends-well : tie.Need-add-ends-well Inv-loop μ-loop
 add-ends-well c =
     let q = inside (c .before) in
     omega (arith, length-records (now (c .before .before .before .before .before .args .b)))
-
-cast-ends-well : tie.Need-cast-ends-well Inv-loop μ-loop
-cast-ends-well c = search needs
 
 sub-ends-well : tie.Need-sub-ends-well Inv-loop μ-loop
 sub-ends-well c =
@@ -76,12 +67,6 @@ returns c =
     let well = ap endsWell (code-part rs (a .code) (a .n) (t .record-at .result) (q .0) (q .1)) in
     let stop = tests-stop (λ r. endsWell (codeOf (part (a .code) (a .n) rs) r)) rs (a .first) (a .count) (s .pre .0) (l .loop .k) in
     stop (t .before .loop-test .taken) (t .record-at .ensures) (c .before .ends-well .ensures ∙ well) (not-true _ (c .if1 .taken)) ∙ l .loop .inv .1
-
-add-k : tie.Need-add-k Inv-loop μ-loop
-add-k c = search needs
-
-loop-less : tie.Need-loop-less Inv-loop μ-loop
-loop-less c = search needs
 
 loop-again : tie.Need-loop-again Inv-loop μ-loop
 loop-again c =
@@ -107,20 +92,6 @@ returns-2 c =
 
 pub ended-blocks-spec : {M : Type 1} → statement M
 ended-blocks-spec =
-    tie.close
-    (tie.spec
-    Inv-loop
-    μ-loop
-    loop-holds
-    add-record-at
-    record-at-requires
-    cast-start
-    add-ends-well
-    cast-ends-well
-    sub-ends-well
-    ends-well-requires
-    returns
-    add-k
-    loop-less
-    loop-again
-    returns-2)
+    tie.close (tie.spec Inv-loop μ-loop loop-holds add-record-at (λ c κs. search needs) (λ c. search needs)
+    add-ends-well (λ c. search needs) sub-ends-well ends-well-requires returns (λ c. search needs) (λ c. search needs)
+    loop-again returns-2)

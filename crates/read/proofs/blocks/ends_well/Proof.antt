@@ -14,9 +14,6 @@ use borrow.Author.Needs.{needs}
 use Rattle.read.proofs.blocks.ends_well.Statement.{statement}
 use Rattle.read.proofs.blocks.ends_well.Tie as tie
 
-first-terminator-requires : tie.Need-first-terminator-requires
-first-terminator-requires c κs = search needs
-
 add-result : tie.Need-add-result
 add-result c =
     let s = c .before .before in
@@ -30,4 +27,4 @@ returns c = let a = c .before .before .args in
     rw (c .first-terminator .ensures, part-length (recordsOf (now (a .b))) (a .first) (a .count) (c .before .before .pre))
 
 pub ends-well-spec : {M : Type 1} → statement M
-ends-well-spec = tie.close (tie.spec first-terminator-requires add-result returns)
+ends-well-spec = tie.close (tie.spec (λ c κs. search needs) add-result returns)

@@ -33,12 +33,6 @@ loop-holds c = (omega arith, zero-add _)
 add-record-at : tie.Need-add-record-at Inv-loop μ-loop
 add-record-at c = omega (arith, length-records (now (c .before .before .before .args .b)))
 
-record-at-requires : tie.Need-record-at-requires Inv-loop μ-loop
-record-at-requires c κs = search needs
-
-terminator-requires : tie.Need-terminator-requires Inv-loop μ-loop
-terminator-requires c κs = search needs
-
 returns : tie.Need-returns Inv-loop μ-loop
 returns c =
     let t = c .before .before in
@@ -46,12 +40,6 @@ returns c =
     let s = l .before .before in
     let stop = tests-stop goesOn (recordsOf (now (s .args .b))) (s .args .first) (s .args .count) (s .pre) (l .loop .k) (t .before .loop-test .taken) in
     stop (t .record-at .ensures) (ap not (c .before .terminator .ensures)) (ap not (c .if1 .taken)) ∙ l .loop .inv .1
-
-add-k : tie.Need-add-k Inv-loop μ-loop
-add-k c = search needs
-
-loop-less : tie.Need-loop-less Inv-loop μ-loop
-loop-less c = search needs
 
 loop-again : tie.Need-loop-again Inv-loop μ-loop
 loop-again c =
@@ -69,16 +57,5 @@ returns-2 c = let l = c .before in
 
 pub first-terminator-spec : {M : Type 1} → statement M
 first-terminator-spec =
-    tie.close
-    (tie.spec
-    Inv-loop
-    μ-loop
-    loop-holds
-    add-record-at
-    record-at-requires
-    terminator-requires
-    returns
-    add-k
-    loop-less
-    loop-again
-    returns-2)
+    tie.close (tie.spec Inv-loop μ-loop loop-holds add-record-at (λ c κs. search needs) (λ c κs. search needs) returns
+    (λ c. search needs) (λ c. search needs) loop-again returns-2)

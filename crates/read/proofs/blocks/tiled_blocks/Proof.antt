@@ -33,15 +33,6 @@ loop-holds c =
 add-record-at : tie.Need-add-record-at Inv-loop μ-loop
 add-record-at c = omega (arith, length-records (now (c .before .before .before .args .b)))
 
-record-at-requires : tie.Need-record-at-requires Inv-loop μ-loop
-record-at-requires c κs = search needs
-
-sub-tiles : tie.Need-sub-tiles Inv-loop μ-loop
-sub-tiles c = search needs
-
-tiles-requires : tie.Need-tiles-requires Inv-loop μ-loop
-tiles-requires c κs = search needs
-
 returns : tie.Need-returns Inv-loop μ-loop
 returns c =
     let t = c .before .before in
@@ -51,12 +42,6 @@ returns c =
     let s : State = (l .loop .due, a .count - l .loop .k) in
     let stop = part-stop (tiles (a .n)) nextBlock (recordsOf (now (a .b))) (a .first) (a .count) (p .pre) (l .loop .k) s (t .before .loop-test .taken) in
     stop (t .record-at .ensures) (c .before .tiles .ensures) (not-true _ (c .if1 .taken)) ∙ l .loop .inv .1
-
-add-k : tie.Need-add-k Inv-loop μ-loop
-add-k c = search needs
-
-loop-less : tie.Need-loop-less Inv-loop μ-loop
-loop-less c = search needs
 
 loop-again : tie.Need-loop-again Inv-loop μ-loop
 loop-again c =
@@ -78,17 +63,5 @@ returns-2 c = let l = c .before in
 
 pub tiled-blocks-spec : {M : Type 1} → statement M
 tiled-blocks-spec =
-    tie.close
-    (tie.spec
-    Inv-loop
-    μ-loop
-    loop-holds
-    add-record-at
-    record-at-requires
-    sub-tiles
-    tiles-requires
-    returns
-    add-k
-    loop-less
-    loop-again
-    returns-2)
+    tie.close (tie.spec Inv-loop μ-loop loop-holds add-record-at (λ c κs. search needs) (λ c. search needs)
+    (λ c κs. search needs) returns (λ c. search needs) (λ c. search needs) loop-again returns-2)

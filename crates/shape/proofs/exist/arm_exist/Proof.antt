@@ -8,12 +8,6 @@ use borrow.Author.Needs.{needs}
 use Rattle.shape.proofs.exist.arm_exist.Statement.{statement}
 use Rattle.shape.proofs.exist.arm_exist.Tie as tie
 
-one-requires : tie.Need-one-requires
-one-requires c κs = search needs
-
-one-requires-2 : tie.Need-one-requires-2
-one-requires-2 c κs = search needs
-
 returns : tie.Need-returns
 returns c = rw (c .before .match .keys1) (c .one .ensures)
 
@@ -24,4 +18,4 @@ returns-3 : tie.Need-returns-3
 returns-3 c = ap (λ (l : List Place). allExist (c .before .args .n) l (fields (c .before .args .r))) (at-rest armPlaces [] (past 2 _ (c .match .rest)))
 
 pub arm-exist-spec : {M : Type 1} → statement M
-arm-exist-spec = tie.close (tie.spec one-requires one-requires-2 returns returns-2 returns-3)
+arm-exist-spec = tie.close (tie.spec (λ c κs. search needs) (λ c κs. search needs) returns returns-2 returns-3)

@@ -3,36 +3,6 @@ use borrow.Author.Needs.{needs}
 use Rattle.shape.proofs.exist.first_exist.Statement.{statement}
 use Rattle.shape.proofs.exist.first_exist.Tie as tie
 
-upto-requires : tie.Need-upto-requires
-upto-requires c κs = search needs
-
-upto-requires-2 : tie.Need-upto-requires-2
-upto-requires-2 c κs = search needs
-
-most-requires : tie.Need-most-requires
-most-requires c κs = search needs
-
-upto-requires-3 : tie.Need-upto-requires-3
-upto-requires-3 c κs = search needs
-
-upto-requires-4 : tie.Need-upto-requires-4
-upto-requires-4 c κs = search needs
-
-most-requires-2 : tie.Need-most-requires-2
-most-requires-2 c κs = search needs
-
-upto-requires-5 : tie.Need-upto-requires-5
-upto-requires-5 c κs = search needs
-
-most-requires-3 : tie.Need-most-requires-3
-most-requires-3 c κs = search needs
-
-most-requires-4 : tie.Need-most-requires-4
-most-requires-4 c κs = search needs
-
-wide-requires : tie.Need-wide-requires
-wide-requires c κs = search needs
-
 returns : tie.Need-returns
 returns c =
     let m4 = c .before in
@@ -60,16 +30,6 @@ returns c =
 
 pub first-exist-spec : {M : Type 1} → statement M
 first-exist-spec =
-    tie.close
-    (tie.spec
-    upto-requires
-    upto-requires-2
-    most-requires
-    upto-requires-3
-    upto-requires-4
-    most-requires-2
-    upto-requires-5
-    most-requires-3
-    most-requires-4
-    wide-requires
-    returns)
+    tie.close (tie.spec (λ c κs. search needs) (λ c κs. search needs) (λ c κs. search needs) (λ c κs. search needs)
+    (λ c κs. search needs) (λ c κs. search needs) (λ c κs. search needs) (λ c κs. search needs) (λ c κs. search needs)
+    (λ c κs. search needs) returns)

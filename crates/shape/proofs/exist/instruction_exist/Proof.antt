@@ -12,18 +12,6 @@ use borrow.Author.Needs.{needs}
 use Rattle.shape.proofs.exist.instruction_exist.Statement.{statement}
 use Rattle.shape.proofs.exist.instruction_exist.Tie as tie
 
-late-exist-requires : tie.Need-late-exist-requires
-late-exist-requires c κs = search needs
-
-returns : tie.Need-returns
-returns c = search needs
-
-leading-requires : tie.Need-leading-requires
-leading-requires c κs = search needs
-
-first-exist-requires : tie.Need-first-exist-requires
-first-exist-requires c κs = search needs
-
 first :
     (n : Counts) (r : Record) {x : Bool} {u : ℕ} →
     x ≡ below (n .registers) (take u (five r)) →
@@ -38,9 +26,6 @@ returns-2 c =
     let s = l .before .before in
     neither _ (first (s .args .n) (s .args .r) (f .first-exist .ensures) (l .leading .ensures)) (not-true _ (c .if2 .taken))
     ∙ named (s .args .n) (s .args .r) (s .args .r .kind) (l .before .if1 .left)
-
-list-exists-requires : tie.Need-list-exists-requires
-list-exists-requires c κs = search needs
 
 returns-3 : tie.Need-returns-3
 returns-3 c =
@@ -62,13 +47,5 @@ returns-4 c =
 
 pub instruction-exist-spec : {M : Type 1} → statement M
 instruction-exist-spec =
-    tie.close
-    (tie.spec
-    late-exist-requires
-    returns
-    leading-requires
-    first-exist-requires
-    returns-2
-    list-exists-requires
-    returns-3
-    returns-4)
+    tie.close (tie.spec (λ c κs. search needs) (λ c. search needs) (λ c κs. search needs) (λ c κs. search needs)
+    returns-2 (λ c κs. search needs) returns-3 returns-4)

@@ -7,27 +7,6 @@ use borrow.Author.Needs.{needs}
 use Rattle.shape.proofs.exist.late_exist.Statement.{statement}
 use Rattle.shape.proofs.exist.late_exist.Tie as tie
 
-three-requires : tie.Need-three-requires
-three-requires c κs = search needs
-
-list-exists-requires : tie.Need-list-exists-requires
-list-exists-requires c κs = search needs
-
-one-requires : tie.Need-one-requires
-one-requires c κs = search needs
-
-one-requires-2 : tie.Need-one-requires-2
-one-requires-2 c κs = search needs
-
-two-requires : tie.Need-two-requires
-two-requires c κs = search needs
-
-one-requires-3 : tie.Need-one-requires-3
-one-requires-3 c κs = search needs
-
-one-requires-4 : tie.Need-one-requires-4
-one-requires-4 c κs = search needs
-
 returns : tie.Need-returns
 returns c = exist-at (c .before .before .args .n) (c .before .before .args .r) (c .before .match .keys1) (c .three .ensures)
 
@@ -95,24 +74,6 @@ returns-12 c =
 
 pub late-exist-spec : {M : Type 1} → statement M
 late-exist-spec =
-    tie.close
-    (tie.spec
-    three-requires
-    list-exists-requires
-    one-requires
-    one-requires-2
-    two-requires
-    one-requires-3
-    one-requires-4
-    returns
-    returns-2
-    returns-3
-    returns-4
-    returns-5
-    returns-6
-    returns-7
-    returns-8
-    returns-9
-    returns-10
-    returns-11
-    returns-12)
+    tie.close (tie.spec (λ c κs. search needs) (λ c κs. search needs) (λ c κs. search needs) (λ c κs. search needs)
+    (λ c κs. search needs) (λ c κs. search needs) (λ c κs. search needs) returns returns-2 returns-3 returns-4 returns-5
+    returns-6 returns-7 returns-8 returns-9 returns-10 returns-11 returns-12)

@@ -3,18 +3,6 @@ use borrow.Author.Needs.{needs}
 use Rattle.shape.proofs.exist.names_exist.Statement.{statement}
 use Rattle.shape.proofs.exist.names_exist.Tie as tie
 
-one-requires : tie.Need-one-requires
-one-requires c κs = search needs
-
-instruction-exist-requires : tie.Need-instruction-exist-requires
-instruction-exist-requires c κs = search needs
-
-one-requires-2 : tie.Need-one-requires-2
-one-requires-2 c κs = search needs
-
-arm-exist-requires : tie.Need-arm-exist-requires
-arm-exist-requires c κs = search needs
-
 returns : tie.Need-returns
 returns c = names-as (c .before .before .args .n) (c .before .before .args .r) (c .before .match .keys1) (c .one .ensures)
 
@@ -32,14 +20,5 @@ returns-5 c = let n = c .match .rest in no-names (c .before .args .n) (c .before
 
 pub names-exist-spec : {M : Type 1} → statement M
 names-exist-spec =
-    tie.close
-    (tie.spec
-    one-requires
-    instruction-exist-requires
-    one-requires-2
-    arm-exist-requires
-    returns
-    returns-2
-    returns-3
-    returns-4
-    returns-5)
+    tie.close (tie.spec (λ c κs. search needs) (λ c κs. search needs) (λ c κs. search needs) (λ c κs. search needs)
+    returns returns-2 returns-3 returns-4 returns-5)

@@ -5,9 +5,6 @@ use Rattle.general.proofs.Booleans.{both, neither}
 use Rattle.shape.proofs.exist.three.Statement.{statement}
 use Rattle.shape.proofs.exist.three.Tie as tie
 
-two-requires : tie.Need-two-requires
-two-requires c κs = search needs
-
 returns : tie.Need-returns
 returns c = both refl (lt-ltb _ _ (c .before .if1 .taken)) (c .two .ensures)
 
@@ -15,4 +12,4 @@ returns-2 : tie.Need-returns-2
 returns-2 c = le-ltb _ _ (c .if1 .left) ∙ neither _ refl (le-ltb _ _ (c .if1 .left))
 
 pub three-spec : {M : Type 1} → statement M
-three-spec = tie.close (tie.spec two-requires returns returns-2)
+three-spec = tie.close (tie.spec (λ c κs. search needs) returns returns-2)

@@ -5,12 +5,6 @@ use borrow.Author.Needs.{needs}
 use Rattle.shape.proofs.exist.upto.Statement.{statement}
 use Rattle.shape.proofs.exist.upto.Tie as tie
 
-wide-requires : tie.Need-wide-requires
-wide-requires c κs = search needs
-
-add-result : tie.Need-add-result
-add-result c = search needs
-
 returns : tie.Need-returns
 returns c = rw (c .wide .ensures, lt-ltb _ _ (c .before .if1 .taken)) (omega arith)
 
@@ -18,4 +12,4 @@ returns-2 : tie.Need-returns-2
 returns-2 c = sym (rw (le-ltb _ _ (c .if1 .left)))
 
 pub upto-spec : {M : Type 1} → statement M
-upto-spec = tie.close (tie.spec wide-requires add-result returns returns-2)
+upto-spec = tie.close (tie.spec (λ c κs. search needs) (λ c. search needs) returns returns-2)

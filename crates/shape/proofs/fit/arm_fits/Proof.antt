@@ -7,15 +7,6 @@ use borrow.Author.Needs.{needs}
 use Rattle.shape.proofs.fit.arm_fits.Statement.{statement}
 use Rattle.shape.proofs.fit.arm_fits.Tie as tie
 
-all-zero-requires : tie.Need-all-zero-requires
-all-zero-requires c κs = search needs
-
-blank-requires : tie.Need-blank-requires
-blank-requires c κs = search needs
-
-returns : tie.Need-returns
-returns c = search needs
-
 returns-2 : tie.Need-returns-2
 returns-2 c = rw (c .before .match .keys2) (c .all-zero .ensures)
 
@@ -25,4 +16,5 @@ returns-3 c =
     ∙ ap (λ (l : List Place). allFit l (fields (c .before .before .args .r))) (at-rest armPlaces [] (past 2 _ (c .before .match .rest)))
 
 pub arm-fits-spec : {M : Type 1} → statement M
-arm-fits-spec = tie.close (tie.spec all-zero-requires blank-requires returns returns-2 returns-3)
+arm-fits-spec =
+    tie.close (tie.spec (λ c κs. search needs) (λ c κs. search needs) (λ c. search needs) returns-2 returns-3)

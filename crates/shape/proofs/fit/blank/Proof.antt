@@ -4,27 +4,6 @@ use borrow.Author.Needs.{needs}
 use Rattle.shape.proofs.fit.blank.Statement.{statement}
 use Rattle.shape.proofs.fit.blank.Tie as tie
 
-beyond-requires : tie.Need-beyond-requires
-beyond-requires c κs = search needs
-
-beyond-requires-2 : tie.Need-beyond-requires-2
-beyond-requires-2 c κs = search needs
-
-beyond-requires-3 : tie.Need-beyond-requires-3
-beyond-requires-3 c κs = search needs
-
-beyond-requires-4 : tie.Need-beyond-requires-4
-beyond-requires-4 c κs = search needs
-
-beyond-requires-5 : tie.Need-beyond-requires-5
-beyond-requires-5 c κs = search needs
-
-beyond-requires-6 : tie.Need-beyond-requires-6
-beyond-requires-6 c κs = search needs
-
-all-zero-requires : tie.Need-all-zero-requires
-all-zero-requires c κs = search needs
-
 returns : tie.Need-returns
 returns c =
     let c6 = c .before in
@@ -40,13 +19,5 @@ returns c =
 
 pub blank-spec : {M : Type 1} → statement M
 blank-spec =
-    tie.close
-    (tie.spec
-    beyond-requires
-    beyond-requires-2
-    beyond-requires-3
-    beyond-requires-4
-    beyond-requires-5
-    beyond-requires-6
-    all-zero-requires
-    returns)
+    tie.close (tie.spec (λ c κs. search needs) (λ c κs. search needs) (λ c κs. search needs) (λ c κs. search needs)
+    (λ c κs. search needs) (λ c κs. search needs) (λ c κs. search needs) returns)

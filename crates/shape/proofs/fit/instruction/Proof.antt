@@ -8,9 +8,6 @@ use Rattle.shape.proofs.fit.instruction.Tie as tie
 returns : tie.Need-returns
 returns c = kind-past (c .before .args .r) (c .before .pre) (c .if1 .taken)
 
-ops-requires : tie.Need-ops-requires
-ops-requires c κs = search needs
-
 returns-2 : tie.Need-returns-2
 returns-2 c =
     let o = c .before .before in
@@ -26,9 +23,6 @@ returns-3 c =
     let r = s .args .r in
     zero-set r (s .pre) (o .before .if1 .left) (subst (λ (n : ℕ). r .op < n) (o .ops .ensures) (i .if2 .left)) (c .if3 .taken)
 
-instruction-fits-requires : tie.Need-instruction-fits-requires
-instruction-fits-requires c κs = search needs
-
 returns-4 : tie.Need-returns-4
 returns-4 c =
     let j = c .before in
@@ -41,5 +35,4 @@ returns-4 c =
 
 pub instruction-spec : {M : Type 1} → statement M
 instruction-spec =
-    tie.close
-    (tie.spec returns ops-requires returns-2 returns-3 instruction-fits-requires returns-4)
+    tie.close (tie.spec returns (λ c κs. search needs) returns-2 returns-3 (λ c κs. search needs) returns-4)

@@ -6,11 +6,8 @@ use borrow.Author.Needs.{needs}
 use Rattle.shape.proofs.fit.listed.Statement.{statement}
 use Rattle.shape.proofs.fit.listed.Tie as tie
 
-digit-requires : tie.Need-digit-requires
-digit-requires c κs = search needs
-
 returns : tie.Need-returns
 returns c = c .digit .ensures ∙ agree (digitOf _ _) (λ k. getD listedPlaces k 0) 24 (c .before .args .kind) (c .before .pre) refl
 
 pub listed-spec : {M : Type 1} → statement M
-listed-spec = tie.close (tie.spec digit-requires returns)
+listed-spec = tie.close (tie.spec (λ c κs. search needs) returns)

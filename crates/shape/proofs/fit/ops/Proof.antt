@@ -6,11 +6,8 @@ use borrow.Author.Needs.{needs}
 use Rattle.shape.proofs.fit.ops.Statement.{statement}
 use Rattle.shape.proofs.fit.ops.Tie as tie
 
-digit-requires : tie.Need-digit-requires
-digit-requires c κs = search needs
-
 returns : tie.Need-returns
 returns c = c .digit .ensures ∙ agree (digitOf _ _) instructionOps 24 (c .before .args .kind) (c .before .pre) refl
 
 pub ops-spec : {M : Type 1} → statement M
-ops-spec = tie.close (tie.spec digit-requires returns)
+ops-spec = tie.close (tie.spec (λ c κs. search needs) returns)

@@ -6,11 +6,8 @@ use Rattle.shape.proofs.fit.plain.Tie as tie
 returns : tie.Need-returns
 returns c = plain-past (c .before .before .args .r) _ (c .if1 .taken)
 
-all-zero-requires : tie.Need-all-zero-requires
-all-zero-requires c κs = search needs
-
 returns-2 : tie.Need-returns-2
 returns-2 c = plain-kind (c .before .before .before .args .r) _ (c .before .if1 .left) (c .all-zero .ensures)
 
 pub plain-spec : {M : Type 1} → statement M
-plain-spec = tie.close (tie.spec returns all-zero-requires returns-2)
+plain-spec = tie.close (tie.spec returns (λ c κs. search needs) returns-2)

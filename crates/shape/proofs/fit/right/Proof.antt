@@ -3,39 +3,6 @@ use borrow.Author.Needs.{needs}
 use Rattle.shape.proofs.fit.right.Statement.{statement}
 use Rattle.shape.proofs.fit.right.Tie as tie
 
-plain-requires : tie.Need-plain-requires
-plain-requires c κs = search needs
-
-blank-requires : tie.Need-blank-requires
-blank-requires c κs = search needs
-
-plain-requires-2 : tie.Need-plain-requires-2
-plain-requires-2 c κs = search needs
-
-blank-requires-2 : tie.Need-blank-requires-2
-blank-requires-2 c κs = search needs
-
-plain-requires-3 : tie.Need-plain-requires-3
-plain-requires-3 c κs = search needs
-
-blank-requires-3 : tie.Need-blank-requires-3
-blank-requires-3 c κs = search needs
-
-instruction-requires : tie.Need-instruction-requires
-instruction-requires c κs = search needs
-
-plain-requires-4 : tie.Need-plain-requires-4
-plain-requires-4 c κs = search needs
-
-blank-requires-4 : tie.Need-blank-requires-4
-blank-requires-4 c κs = search needs
-
-plain-requires-5 : tie.Need-plain-requires-5
-plain-requires-5 c κs = search needs
-
-arm-fits-requires : tie.Need-arm-fits-requires
-arm-fits-requires c κs = search needs
-
 returns : tie.Need-returns
 returns c =
     plain-fits (c .before .before .before .before .args .r) registers (c .before .before .before .match .keys1) (c .before .before .plain .ensures)
@@ -60,9 +27,6 @@ returns-5 c =
 returns-6 : tie.Need-returns-6
 returns-6 c = plain-wrong (c .before .before .before .args .r) bodies (c .before .before .match .keys3) (c .before .plain3 .ensures) (c .if3 .left)
 
-returns-7 : tie.Need-returns-7
-returns-7 c = search needs
-
 returns-8 : tie.Need-returns-8
 returns-8 c =
     plain-fits (c .before .before .before .before .args .r) operands (c .before .before .before .match .keys5) (c .before .before .plain4 .ensures)
@@ -84,28 +48,7 @@ returns-12 c = let n = c .match .rest in no-class (c .before .args .r) (n .0 .0 
 
 pub right-spec : {M : Type 1} → statement M
 right-spec =
-    tie.close
-    (tie.spec
-    plain-requires
-    blank-requires
-    plain-requires-2
-    blank-requires-2
-    plain-requires-3
-    blank-requires-3
-    instruction-requires
-    plain-requires-4
-    blank-requires-4
-    plain-requires-5
-    arm-fits-requires
-    returns
-    returns-2
-    returns-3
-    returns-4
-    returns-5
-    returns-6
-    returns-7
-    returns-8
-    returns-9
-    returns-10
-    returns-11
-    returns-12)
+    tie.close (tie.spec (λ c κs. search needs) (λ c κs. search needs) (λ c κs. search needs) (λ c κs. search needs)
+    (λ c κs. search needs) (λ c κs. search needs) (λ c κs. search needs) (λ c κs. search needs) (λ c κs. search needs)
+    (λ c κs. search needs) (λ c κs. search needs) returns returns-2 returns-3 returns-4 returns-5 returns-6
+    (λ c. search needs) returns-8 returns-9 returns-10 returns-11 returns-12)

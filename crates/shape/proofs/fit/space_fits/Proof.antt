@@ -16,14 +16,8 @@ returns-2 c = rw (c .match .keys2)
 returns-3 : tie.Need-returns-3
 returns-3 c = rw (c .match .keys3)
 
-returns-4 : tie.Need-returns-4
-returns-4 c = search needs
-
-returns-5 : tie.Need-returns-5
-returns-5 c = search needs
-
 returns-6 : tie.Need-returns-6
 returns-6 c = ap (λ (x : Place). fit x (c .before .args .number)) (at-rest (unused ∷ small ∷ unused ∷ number ∷ number ∷ []) unused (past 5 _ (c .match .rest)))
 
 pub space-fits-spec : {M : Type 1} → statement M
-space-fits-spec = tie.close (tie.spec returns returns-2 returns-3 returns-4 returns-5 returns-6)
+space-fits-spec = tie.close (tie.spec returns returns-2 returns-3 (λ c. search needs) (λ c. search needs) returns-6)

@@ -9,30 +9,6 @@ use borrow.Author.Needs.{needs}
 use Rattle.shape.proofs.fit.special_fits.Statement.{statement}
 use Rattle.shape.proofs.fit.special_fits.Tie as tie
 
-space-fits-requires : tie.Need-space-fits-requires
-space-fits-requires c κs = search needs
-
-blank-requires : tie.Need-blank-requires
-blank-requires c κs = search needs
-
-blank-requires-2 : tie.Need-blank-requires-2
-blank-requires-2 c κs = search needs
-
-blank-requires-3 : tie.Need-blank-requires-3
-blank-requires-3 c κs = search needs
-
-blank-requires-4 : tie.Need-blank-requires-4
-blank-requires-4 c κs = search needs
-
-blank-requires-5 : tie.Need-blank-requires-5
-blank-requires-5 c κs = search needs
-
-blank-requires-6 : tie.Need-blank-requires-6
-blank-requires-6 c κs = search needs
-
-blank-requires-7 : tie.Need-blank-requires-7
-blank-requires-7 c κs = search needs
-
 returns : tie.Need-returns
 returns c =
     row-at (c .before .before .before .before .args .r) (c .before .before .before .match .keys1)
@@ -78,22 +54,6 @@ returns-9 c = let r = c .before .before .args .r in
 
 pub special-fits-spec : {M : Type 1} → statement M
 special-fits-spec =
-    tie.close
-    (tie.spec
-    space-fits-requires
-    blank-requires
-    blank-requires-2
-    blank-requires-3
-    blank-requires-4
-    blank-requires-5
-    blank-requires-6
-    blank-requires-7
-    returns
-    returns-2
-    returns-3
-    returns-4
-    returns-5
-    returns-6
-    returns-7
-    returns-8
-    returns-9)
+    tie.close (tie.spec (λ c κs. search needs) (λ c κs. search needs) (λ c κs. search needs) (λ c κs. search needs)
+    (λ c κs. search needs) (λ c κs. search needs) (λ c κs. search needs) (λ c κs. search needs) returns returns-2
+    returns-3 returns-4 returns-5 returns-6 returns-7 returns-8 returns-9)

@@ -10,23 +10,11 @@ use Rattle.tidy.proofs.Search.{unmarked-set}
 use Rattle.tidy.proofs.lead.enter.Statement.{statement}
 use Rattle.tidy.proofs.lead.enter.Tie as tie
 
-cast-a : tie.Need-cast-a
-cast-a c = search needs
-
 returns : tie.Need-returns
 returns c = inl (λ h. absurd (omega (arith, c .if1 .taken, h)), refl, refl, refl)
 
-element-copy-out-if2 : tie.Need-element-copy-out-if2
-element-copy-out-if2 c = search needs
-
 returns-2 : tie.Need-returns-2
 returns-2 c = inl (λ h. c .if2 .taken, refl, refl, refl)
-
-element-write-marks : tie.Need-element-write-marks
-element-write-marks c = search needs
-
-mul-list : tie.Need-mul-list
-mul-list c = search needs
 
 element-write-list : tie.Need-element-write-list
 element-write-list c =
@@ -36,9 +24,6 @@ element-write-list c =
     let low = c .before .before .if1 .left in
     let u = unmarked-set (now (a .marks)) (a .to .0) (omega (arith, z .marks)) (c .if2 .left) in
     omega (arith, z .room)
-
-add-result : tie.Need-add-result
-add-result c = search needs
 
 returns-3 : tie.Need-returns-3
 returns-3 c =
@@ -52,14 +37,5 @@ returns-3 c =
 
 pub enter-spec : {M : Type 1} → statement M
 enter-spec =
-    tie.close
-    (tie.spec
-    cast-a
-    returns
-    element-copy-out-if2
-    returns-2
-    element-write-marks
-    mul-list
-    element-write-list
-    add-result
-    returns-3)
+    tie.close (tie.spec (λ c. search needs) returns (λ c. search needs) returns-2 (λ c. search needs)
+    (λ c. search needs) element-write-list (λ c. search needs) returns-3)

@@ -17,15 +17,6 @@ Inv-loop targets marks₀ list₀ a n₀ marks list n = Held targets a marks lis
 abbrev μ-loop : tie.MeasureT-loop
 μ-loop targets marks₀ list₀ a n₀ marks list n = n + 2 * unmarked marks
 
-cast-a : tie.Need-cast-a Inv-loop μ-loop
-cast-a c = search needs
-
-element-write-marks : tie.Need-element-write-marks Inv-loop μ-loop
-element-write-marks c = search needs
-
-array-write-list : tie.Need-array-write-list Inv-loop μ-loop
-array-write-list c = search needs
-
 loop-holds : tie.Need-loop-holds Inv-loop μ-loop
 loop-holds c =
     let s = c .before in
@@ -165,28 +156,6 @@ returns c =
 
 pub reach-spec : {M : Type 1} → statement M
 reach-spec =
-    tie.close
-    (tie.spec
-    Inv-loop
-    μ-loop
-    cast-a
-    element-write-marks
-    array-write-list
-    loop-holds
-    sub-b
-    mul-b
-    array-read-b
-    cast-b
-    sub-enter
-    mul-t14
-    mul-t20
-    element-copy-out-t17
-    enter-requires
-    mul-t13
-    add-t14
-    mul-t20-2
-    element-copy-out-t17-2
-    enter-requires-2
-    loop-less
-    loop-again
-    returns)
+    tie.close (tie.spec Inv-loop μ-loop (λ c. search needs) (λ c. search needs) (λ c. search needs) loop-holds sub-b
+    mul-b array-read-b cast-b sub-enter mul-t14 mul-t20 element-copy-out-t17 enter-requires mul-t13 add-t14 mul-t20-2
+    element-copy-out-t17-2 enter-requires-2 loop-less loop-again returns)

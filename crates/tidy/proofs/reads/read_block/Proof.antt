@@ -85,15 +85,5 @@ returns c =
 
 pub read-block-spec : {M : Type 1} → statement M
 read-block-spec =
-    tie.close
-    (tie.spec
-    Inv-loop
-    μ-loop
-    loop-holds
-    add-read-inst
-    cast-read-inst
-    read-inst-requires
-    add-k
-    loop-less
-    loop-again
-    returns)
+    tie.close (tie.spec Inv-loop μ-loop loop-holds add-read-inst cast-read-inst read-inst-requires add-k loop-less
+    loop-again returns)

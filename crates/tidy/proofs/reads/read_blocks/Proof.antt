@@ -41,15 +41,6 @@ add-record-at c =
     let q = length-records (now (s .args .b)) in
     omega arith
 
-record-at-requires : tie.Need-record-at-requires Inv-loop μ-loop
-record-at-requires c κs = search needs
-
-cast-start : tie.Need-cast-start Inv-loop μ-loop
-cast-start c = search needs
-
-cast-len : tie.Need-cast-len Inv-loop μ-loop
-cast-len c = search needs
-
 sub-len : tie.Need-sub-len Inv-loop μ-loop
 sub-len c =
     let s = c .before .before .before .before .before .before .before .before .before in
@@ -117,21 +108,5 @@ returns c =
 
 pub read-blocks-spec : {M : Type 1} → statement M
 read-blocks-spec =
-    tie.close
-    (tie.spec
-    Inv-loop
-    μ-loop
-    sub-count
-    loop-holds
-    add-record-at
-    record-at-requires
-    cast-start
-    cast-len
-    sub-len
-    add-read-block
-    cast-t14
-    read-block-requires
-    add-k
-    loop-less
-    loop-again
-    returns)
+    tie.close (tie.spec Inv-loop μ-loop sub-count loop-holds add-record-at (λ c κs. search needs) (λ c. search needs)
+    (λ c. search needs) sub-len add-read-block cast-t14 read-block-requires add-k loop-less loop-again returns)

@@ -13,12 +13,6 @@ use Rattle.tidy.proofs.Verdicts.{stepped-fields}
 use Rattle.tidy.proofs.reads.read_inst.Statement.{statement}
 use Rattle.tidy.proofs.reads.read_inst.Tie as tie
 
-inst-at-requires : tie.Need-inst-at-requires
-inst-at-requires c κs = search needs
-
-roles-of-requires : tie.Need-roles-of-requires
-roles-of-requires c κs = search needs
-
 read-roles-requires : tie.Need-read-roles-requires
 read-roles-requires c κs = let p = c .before .before .before .before .before .pre in
     (p .0, five-of (c .before .before .inst-at .result) (c .roles-of .ensures), p .1, p .2)
@@ -37,10 +31,4 @@ returns c =
     (e .0, e .1 ∙ ap all rs ∙ stepped-fields es (a .l .blocks) (now (a .ws)) x (a .s) (readsOf ops (x .inst)))
 
 pub read-inst-spec : {M : Type 1} → statement M
-read-inst-spec =
-    tie.close
-    (tie.spec
-    inst-at-requires
-    roles-of-requires
-    read-roles-requires
-    returns)
+read-inst-spec = tie.close (tie.spec (λ c κs. search needs) (λ c κs. search needs) read-roles-requires returns)

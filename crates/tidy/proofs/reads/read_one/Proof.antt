@@ -8,21 +8,12 @@ use Rattle.tidy.proofs.Verdicts.{step-past, step-right, step-wrong}
 use Rattle.tidy.proofs.reads.read_one.Statement.{statement}
 use Rattle.tidy.proofs.reads.read_one.Tie as tie
 
-cast-k : tie.Need-cast-k
-cast-k c = search needs
-
 returns : tie.Need-returns
 returns c =
     let s = c .before .before .before in
     let a = s .args in
     let es = edgesIn (now (a .targets)) in
     (s .pre .1, step-past es (a .registers) (now (a .ws)) (a .block .0) (a .place) (a .s) (a .r .0) (c .if1 .taken))
-
-mul-wrong : tie.Need-mul-wrong
-mul-wrong c = search needs
-
-shared-slice-read-wrong : tie.Need-shared-slice-read-wrong
-shared-slice-read-wrong c = search needs
 
 wrong-requires : tie.Need-wrong-requires
 wrong-requires c κs = c .before .before .before .before .before .pre .1
@@ -35,9 +26,6 @@ returns-2 c =
     let w = c .before .wrong .ensures in
     (w .0, step-right es (a .registers) (now (a .ws)) (a .block .0) (a .place) (a .s) (a .r .0) (omega arith) (sym (w .1) ∙ not-true _ (c .if2 .taken)))
 
-lower-requires : tie.Need-lower-requires
-lower-requires c κs = search needs
-
 returns-3 : tie.Need-returns-3
 returns-3 c =
     let s = c .before .before .before .before .before .before .before .before in
@@ -49,13 +37,5 @@ returns-3 c =
 
 pub read-one-spec : {M : Type 1} → statement M
 read-one-spec =
-    tie.close
-    (tie.spec
-    cast-k
-    returns
-    mul-wrong
-    shared-slice-read-wrong
-    wrong-requires
-    returns-2
-    lower-requires
-    returns-3)
+    tie.close (tie.spec (λ c. search needs) returns (λ c. search needs) (λ c. search needs) wrong-requires returns-2
+    (λ c κs. search needs) returns-3)

@@ -78,16 +78,5 @@ returns c =
 
 pub read-roles-spec : {M : Type 1} → statement M
 read-roles-spec =
-    tie.close
-    (tie.spec
-    Inv-loop
-    μ-loop
-    sub-read-count
-    read-count-requires
-    loop-holds
-    read-reg-requires
-    read-one-requires
-    add-j
-    loop-less
-    loop-again
-    returns)
+    tie.close (tie.spec Inv-loop μ-loop sub-read-count read-count-requires loop-holds read-reg-requires
+    read-one-requires add-j loop-less loop-again returns)

@@ -62,13 +62,4 @@ returns-6 c =
     )
 
 pub wrong-spec : {M : Type 1} → statement M
-wrong-spec =
-    tie.close
-    (tie.spec
-    returns
-    returns-2
-    returns-3
-    returns-4
-    returns-5
-    leads-requires
-    returns-6)
+wrong-spec = tie.close (tie.spec returns returns-2 returns-3 returns-4 returns-5 leads-requires returns-6)

@@ -22,9 +22,6 @@ Inv-loop b l targets₀ count k₀ targets k = (k ≤ count) × (length targets 
 abbrev μ-loop : tie.MeasureT-loop
 μ-loop b l targets₀ count k₀ targets k = count - k
 
-sub-count : tie.Need-sub-count Inv-loop μ-loop
-sub-count c = search needs
-
 loop-holds : tie.Need-loop-holds Inv-loop μ-loop
 loop-holds c =
     let s = c .before .before in
@@ -36,12 +33,6 @@ add-record-at c =
     let f = s .pre .0 in
     let q = length-records (now (s .args .b)) in
     omega arith
-
-record-at-requires : tie.Need-record-at-requires Inv-loop μ-loop
-record-at-requires c κs = search needs
-
-cast-inst-at : tie.Need-cast-inst-at Inv-loop μ-loop
-cast-inst-at c = search needs
 
 add-inst-at : tie.Need-add-inst-at Inv-loop μ-loop
 add-inst-at c =
@@ -58,15 +49,6 @@ sub-inst-at c =
     let q = length-records (now (s .args .b)) in
     let i = block-in f (c .before .before .before .before .before .loop .k) (omega arith) (c .before .before .record-at .ensures) in
     omega arith
-
-inst-at-requires : tie.Need-inst-at-requires Inv-loop μ-loop
-inst-at-requires c κs = search needs
-
-view-of-requires : tie.Need-view-of-requires Inv-loop μ-loop
-view-of-requires c κs = search needs
-
-targets-of-requires : tie.Need-targets-of-requires Inv-loop μ-loop
-targets-of-requires c κs = search needs
 
 mul-targets : tie.Need-mul-targets Inv-loop μ-loop
 mul-targets c =
@@ -155,28 +137,7 @@ returns c =
 
 pub note-targets-spec : {M : Type 1} → statement M
 note-targets-spec =
-    tie.close
-    (tie.spec
-    Inv-loop
-    μ-loop
-    sub-count
-    loop-holds
-    add-record-at
-    record-at-requires
-    cast-inst-at
-    add-inst-at
-    sub-inst-at
-    inst-at-requires
-    view-of-requires
-    targets-of-requires
-    mul-targets
-    mul-targets-2
-    element-write-targets
-    mul-targets-3
-    add-targets
-    mul-targets-4
-    element-write-targets-2
-    add-k
-    loop-less
-    loop-again
-    returns)
+    tie.close (tie.spec Inv-loop μ-loop (λ c. search needs) loop-holds add-record-at (λ c κs. search needs)
+    (λ c. search needs) add-inst-at sub-inst-at (λ c κs. search needs) (λ c κs. search needs) (λ c κs. search needs)
+    mul-targets mul-targets-2 element-write-targets mul-targets-3 add-targets mul-targets-4 element-write-targets-2
+    add-k loop-less loop-again returns)

@@ -6,18 +6,6 @@ use Rattle.tidy.specs.Work.Marks.{Pair}
 use Rattle.tidy.proofs.targets.targets_of.Statement.{statement}
 use Rattle.tidy.proofs.targets.targets_of.Tie as tie
 
-enum-known-e : tie.Need-enum-known-e
-enum-known-e c = search needs
-
-enum-known-e-2 : tie.Need-enum-known-e-2
-enum-known-e-2 c = search needs
-
-enum-known-e-3 : tie.Need-enum-known-e-3
-enum-known-e-3 c = search needs
-
-enum-told : tie.Need-enum-told
-enum-told c = search needs
-
 returns : tie.Need-returns
 returns c = subst (λ (x : End). Pair (targets x) (c .before .e .given .0 .0 .0) 160) (sym (c .before .e .given .1)) (refl, refl)
 
@@ -33,13 +21,5 @@ returns-4 c = subst (λ (x : End). Pair (targets x) 160 160) (sym (c .enum-told 
 
 pub targets-of-spec : {M : Type 1} → statement M
 targets-of-spec =
-    tie.close
-    (tie.spec
-    enum-known-e
-    enum-known-e-2
-    enum-known-e-3
-    enum-told
-    returns
-    returns-2
-    returns-3
-    returns-4)
+    tie.close (tie.spec (λ c. search needs) (λ c. search needs) (λ c. search needs) (λ c. search needs) returns
+    returns-2 returns-3 returns-4)

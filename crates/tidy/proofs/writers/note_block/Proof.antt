@@ -32,18 +32,6 @@ loop-holds c = (omega arith, refl, refl)
 add-note-inst : tie.Need-add-note-inst Inv-loop μ-loop
 add-note-inst c = omega (arith, length-records (now (c .before .before .before .before .args .b)))
 
-cast-note-inst : tie.Need-cast-note-inst Inv-loop μ-loop
-cast-note-inst c = search needs
-
-note-inst-requires : tie.Need-note-inst-requires Inv-loop μ-loop
-note-inst-requires c κs = search needs
-
-add-k : tie.Need-add-k Inv-loop μ-loop
-add-k c = search needs
-
-loop-less : tie.Need-loop-less Inv-loop μ-loop
-loop-less c = search needs
-
 loop-again : tie.Need-loop-again Inv-loop μ-loop
 loop-again c =
     let l = c .before .before .before .before .before .loop in
@@ -66,16 +54,5 @@ returns c =
 
 pub note-block-spec : {M : Type 1} → statement M
 note-block-spec =
-    tie.close
-    (tie.spec
-    Inv-loop
-    μ-loop
-    loop-holds
-    add-note-inst
-    cast-note-inst
-    note-inst-requires
-    add-k
-    loop-less
-    loop-again
-    same-length
-    returns)
+    tie.close (tie.spec Inv-loop μ-loop loop-holds add-note-inst (λ c. search needs) (λ c κs. search needs)
+    (λ c. search needs) (λ c. search needs) loop-again same-length returns)

@@ -25,9 +25,6 @@ Inv-loop b l ws₀ count k₀ ws k =
 abbrev μ-loop : tie.MeasureT-loop
 μ-loop b l ws₀ count k₀ ws k = count - k
 
-sub-count : tie.Need-sub-count Inv-loop μ-loop
-sub-count c = search needs
-
 loop-holds : tie.Need-loop-holds Inv-loop μ-loop
 loop-holds c = (omega arith, refl, refl)
 
@@ -38,12 +35,6 @@ add-record-at c =
     let q = length-records (now (s .args .b)) in
     omega arith
 
-record-at-requires : tie.Need-record-at-requires Inv-loop μ-loop
-record-at-requires c κs = search needs
-
-cast-start : tie.Need-cast-start Inv-loop μ-loop
-cast-start c = search needs
-
 add-note-block : tie.Need-add-note-block Inv-loop μ-loop
 add-note-block c =
     let s = c .before .before .before .before .before .before .before .before .before in
@@ -51,9 +42,6 @@ add-note-block c =
     let q = length-records (now (s .args .b)) in
     let i = block-in f (c .before .before .before .before .before .loop .k) (omega arith) (c .before .before .record-at .ensures) in
     omega arith
-
-cast-note-block : tie.Need-cast-note-block Inv-loop μ-loop
-cast-note-block c = search needs
 
 sub-note-block : tie.Need-sub-note-block Inv-loop μ-loop
 sub-note-block c =
@@ -112,22 +100,6 @@ returns c =
 
 pub note-blocks-spec : {M : Type 1} → statement M
 note-blocks-spec =
-    tie.close
-    (tie.spec
-    Inv-loop
-    μ-loop
-    sub-count
-    loop-holds
-    add-record-at
-    record-at-requires
-    cast-start
-    add-note-block
-    cast-note-block
-    sub-note-block
-    cast-t13
-    note-block-requires
-    add-k
-    loop-less
-    loop-again
-    same-length
-    returns)
+    tie.close (tie.spec Inv-loop μ-loop (λ c. search needs) loop-holds add-record-at (λ c κs. search needs)
+    (λ c. search needs) add-note-block (λ c. search needs) sub-note-block cast-t13 note-block-requires add-k loop-less
+    loop-again same-length returns)

@@ -8,35 +8,14 @@ use Rattle.tidy.proofs.Fields.{kind-most, five-of, inst-noted}
 use Rattle.tidy.proofs.writers.note_inst.Statement.{statement}
 use Rattle.tidy.proofs.writers.note_inst.Tie as tie
 
-inst-at-requires : tie.Need-inst-at-requires
-inst-at-requires c κs = search needs
-
-kind-requires : tie.Need-kind-requires
-kind-requires c κs = search needs
-
-mul-v : tie.Need-mul-v
-mul-v c = search needs
-
-add-v : tie.Need-add-v
-add-v c = search needs
-
-mul-v-2 : tie.Need-mul-v-2
-mul-v-2 c = search needs
-
 add-v-2 : tie.Need-add-v-2
 add-v-2 c = let k = kind-most (c .before .before .inst-at .result) in let e = c .before .kind .ensures in omega arith
 
 add-v-3 : tie.Need-add-v-3
 add-v-3 c = let k = kind-most (c .before .before .inst-at .result) in let e = c .before .kind .ensures in omega arith
 
-roles-of-requires : tie.Need-roles-of-requires
-roles-of-requires c κs = search needs
-
 note-defs-requires : tie.Need-note-defs-requires
 note-defs-requires c κs = let f = five-of (c .before .before .before .before .inst-at .result) (c .roles-of .ensures) in (omega arith, f .size)
-
-same-length : tie.Need-same-length
-same-length c = search needs
 
 returns : tie.Need-returns
 returns c =
@@ -49,16 +28,5 @@ returns c =
 
 pub note-inst-spec : {M : Type 1} → statement M
 note-inst-spec =
-    tie.close
-    (tie.spec
-    inst-at-requires
-    kind-requires
-    mul-v
-    add-v
-    mul-v-2
-    add-v-2
-    add-v-3
-    roles-of-requires
-    note-defs-requires
-    same-length
-    returns)
+    tie.close (tie.spec (λ c κs. search needs) (λ c κs. search needs) (λ c. search needs) (λ c. search needs)
+    (λ c. search needs) add-v-2 add-v-3 (λ c κs. search needs) note-defs-requires (λ c. search needs) returns)
