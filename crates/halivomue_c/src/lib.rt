@@ -1,6 +1,13 @@
+// The C interface of include/halivomue.h. Each member of an answer is the definition's, and nothing stands in between.
 ghost use mathlib.Core.Path.{_≡_};
-ghost use Rattle.steps.specs.Shorten.{shorten};
-ghost use Rattle.halivomue_c.specs.Answer.{readAnswer, tidyAnswer, shortenAnswer};
+ghost use mathlib.Core.List.{_++_};
+ghost use Prim.Native.Nat.{_+_, _/_, _≤_};
+ghost use lib.ListN.{length, take, drop};
+ghost use Rattle.read.specs.Reading.{reading, answer};
+ghost use Rattle.tidy.specs.Tidy.{tidiness, Tidy};
+ghost use Rattle.steps.specs.Shorten.{shorten, instructions};
+ghost use Rattle.machine.specs.Demand.{Demand3};
+ghost use Rattle.promise.specs.Promise.{held};
 
 // struct halivomue_reading of include/halivomue.h: `place` is its member `record`.
 #[repr(C)]
@@ -11,7 +18,8 @@ pub struct HalivomueReading {
 
 #[no_mangle]
 pub extern "C" fn halivomue_read(bytes: &[u8]) -> HalivomueReading
-    ensures { λ r. ⌜ r ≡ readAnswer (now (bytes .entry)) ⌝ }
+    ensures number { λ r. ⌜ r .number ≡ reading (now (bytes .entry)) .number ⌝ }
+    ensures place { λ r. ⌜ r .place ≡ reading (now (bytes .entry)) .place ⌝ }
 {
     let r = read::read(bytes);
     HalivomueReading {
@@ -31,7 +39,10 @@ pub struct HalivomueTidiness {
 
 #[no_mangle]
 pub extern "C" fn halivomue_tidy(bytes: &[u8]) -> HalivomueTidiness
-    ensures { λ r. ⌜ r ≡ tidyAnswer (now (bytes .entry)) ⌝ }
+    ensures number { λ r. ⌜ r .number ≡ tidiness (now (bytes .entry)) .number ⌝ }
+    ensures place { λ r. ⌜ r .place ≡ tidiness (now (bytes .entry)) .place ⌝ }
+    ensures tidy { λ r. ⌜ r .tidy ≡ tidiness (now (bytes .entry)) .tidy ⌝ }
+    ensures reg { λ r. ⌜ r .reg ≡ tidiness (now (bytes .entry)) .reg ⌝ }
 {
     let t = tidy::tidy(bytes);
     HalivomueTidiness {
@@ -56,8 +67,22 @@ pub struct HalivomueShortening {
 
 #[no_mangle]
 pub extern "C" fn halivomue_shorten(bytes: &[u8], out: &mut [u8]) -> HalivomueShortening
-    ensures answer { λ r. ⌜ r ≡ shortenAnswer (shorten (now (bytes .entry)) (now (out .entry)) .answer) ⌝ }
+    ensures number { λ r. ⌜ r .number ≡ shorten (now (bytes .entry)) (now (out .entry)) .answer .number ⌝ }
+    ensures place { λ r. ⌜ r .place ≡ shorten (now (bytes .entry)) (now (out .entry)) .answer .place ⌝ }
+    ensures length { λ r. ⌜ r .length ≡ shorten (now (bytes .entry)) (now (out .entry)) .answer .length ⌝ }
+    ensures moved { λ r. ⌜ r .moved ≡ shorten (now (bytes .entry)) (now (out .entry)) .answer .moved ⌝ }
+    ensures grown { λ r. ⌜ r .grown ≡ shorten (now (bytes .entry)) (now (out .entry)) .answer .grown ⌝ }
+    ensures fresh { λ r. ⌜ r .fresh ≡ shorten (now (bytes .entry)) (now (out .entry)) .answer .fresh ⌝ }
+    ensures rescued { λ r. ⌜ r .rescued ≡ shorten (now (bytes .entry)) (now (out .entry)) .answer .rescued ⌝ }
     ensures output { λ r. ⌜ now (out .exit) ≡ shorten (now (bytes .entry)) (now (out .entry)) .output ⌝ }
+    ensures accepted { λ r. ⌜ (r .number ≡ 0 → reading (take (r .length) (now (out .exit))) ≡ answer 0 0) ⌝ }
+    ensures room { λ r. ⌜ (61728 ≤ length (now (out .entry)) → r .number ≡ 9 → ⊥) ⌝ }
+    ensures unmoved { λ r. ⌜ (r .number ≡ 0 → r .moved ≡ 0
+        → now (out .exit) ≡ now (bytes .entry) ++ drop (length (now (bytes .entry))) (now (out .entry))) ⌝ }
+    ensures bound { λ r. ⌜ (r .number ≡ 0 → instructions (take (r .length) (now (out .exit)))
+        ≤ instructions (now (bytes .entry)) + instructions (now (bytes .entry)) / 2 + 36) ⌝ }
+    ensures demand3 { λ r. ⌜ (r .number ≡ 0 → Tidy (held (now (bytes .entry)))
+        → Demand3 (held (now (bytes .entry))) (held (take (r .length) (now (out .exit)))) (r .rescued)) ⌝ }
 {
     let s = shorten::shorten(bytes, out);
     HalivomueShortening {

@@ -51,3 +51,10 @@ module _ (p : Procedure) (w : WellFormed p) where
   -- and read back as the procedure
   pub read-back : procedureOf (recordsOf (bytesOf (recordsFor p))) ≡ p
   read-back = ap procedureOf written-records ∙ To.procedure-same p w
+
+  -- with as many instruction records as it has instructions
+  pub written-code : length (ofClass 4 (recordsOf (bytesOf (recordsFor p)))) ≡ length (joined (p .blocks))
+  written-code =
+      ap (λ rs. length (ofClass 4 rs)) written-records
+      ∙ sym (From.n-code (recordsFor p) (To.records-accepted p w) (To.records-fit p w))
+      ∙ ap (λ (q : Procedure). length (joined (q .blocks))) (To.procedure-same p w)

@@ -20,9 +20,9 @@ use Rattle.procedure.specs.Procedure.{procedureOf}
 use Rattle.tidy.specs.Tidy.{Tidy}
 use Rattle.steps.specs.declared.Answer.{Answer}
 use Rattle.steps.specs.Run.{run}
-use Rattle.steps.specs.Shorten.{Outcome, refusal, shortened, above, runUnless, acceptIf, shortenWithin, shorten}
+use Rattle.steps.specs.Shorten.{Outcome, refusal, shortened, above, runUnless, acceptIf, shortenWithin, shorten, instructions}
 use Rattle.machine.specs.Demand.{Demand3}
-use Rattle.sized.proofs.Shorten.{Within, shortened-accepted, room-enough, unmoved-same}
+use Rattle.sized.proofs.Shorten.{Within, shortened-accepted, room-enough, unmoved-same, few-instructions}
 use Rattle.promise.specs.Promise.{held}
 use Rattle.promise.proofs.Promised.{promise}
 use Rattle.classes.specs.Parts.{startsIn}
@@ -106,6 +106,10 @@ module _ (b out : List ℕ) (h : Bytes b) (a : Answer) (out′ : List ℕ) (e : 
   result-unmoved z m =
       ap (λ (o : Outcome). o .output) e ∙ unmoved-same b out h (sym number ∙ z) (sym (ap (λ (o : Outcome). o .answer .moved) e) ∙ m)
 
+  result-few : a .number ≡ 0 → instructions (take (a .length) out′) ≤ instructions b + instructions b / 2 + 36
+  result-few z =
+      subst (λ (c : List ℕ). instructions c ≤ instructions b + instructions b / 2 + 36) (sym part) (few-instructions b out h (sym number ∙ z))
+
   result-promised : a .number ≡ 0 → Tidy (held b) → Demand3 (held b) (held (take (a .length) out′)) (a .rescued)
   result-promised z t =
       subst (λ (o : Outcome). Demand3 (held b) (held (take (o .answer .length) (o .output))) (o .answer .rescued)) (sym e)
@@ -116,5 +120,6 @@ module _ (b out : List ℕ) (h : Bytes b) (a : Answer) (out′ : List ℕ) (e : 
       × ((a .number ≡ 0 → reading (take (a .length) out′) ≡ answer 0 0)
       × ((61728 ≤ length out → a .number ≡ 9 → ⊥)
       × ((a .number ≡ 0 → a .moved ≡ 0 → out′ ≡ b ++ drop (length b) out)
-      × (a .number ≡ 0 → Tidy (held b) → Demand3 (held b) (held (take (a .length) out′)) (a .rescued)))))
-  clauses = (e, (result-accepted, (never-nine, (result-unmoved, result-promised))))
+      × ((a .number ≡ 0 → instructions (take (a .length) out′) ≤ instructions b + instructions b / 2 + 36)
+      × (a .number ≡ 0 → Tidy (held b) → Demand3 (held b) (held (take (a .length) out′)) (a .rescued))))))
+  clauses = (e, (result-accepted, (never-nine, (result-unmoved, (result-few, result-promised)))))

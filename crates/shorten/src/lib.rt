@@ -2,7 +2,7 @@
 ghost use mathlib.Core.Path.{_≡_};
 ghost use mathlib.Core.Bool.{true};
 ghost use mathlib.Core.List.{List, _++_};
-ghost use Prim.Native.Nat.{ℕ, _≤_};
+ghost use Prim.Native.Nat.{ℕ, _+_, _/_, _≤_};
 ghost use lib.ListN.{length, take, drop};
 ghost use Rattle.read.specs.Reading.{reading, answer};
 ghost use Rattle.tidy.specs.Tidy.{Tidy};
@@ -182,6 +182,8 @@ pub fn shorten(bytes: &[u8], out: &mut [u8]) -> Answer
     ensures room { λ r. ⌜ (61728 ≤ length (now (out .entry)) → r .number ≡ 9 → ⊥) ⌝ }
     ensures unmoved { λ r. ⌜ (r .number ≡ 0 → r .moved ≡ 0
         → now (out .exit) ≡ now (bytes .entry) ++ drop (length (now (bytes .entry))) (now (out .entry))) ⌝ }
+    ensures bound { λ r. ⌜ (r .number ≡ 0 → spec.instructions (take (r .length) (now (out .exit)))
+        ≤ spec.instructions (now (bytes .entry)) + spec.instructions (now (bytes .entry)) / 2 + 36) ⌝ }
     ensures demand3 { λ r. ⌜ (r .number ≡ 0 → Tidy (held (now (bytes .entry)))
         → Demand3 (held (now (bytes .entry))) (held (take (r .length) (now (out .exit)))) (r .rescued)) ⌝ }
 {

@@ -1,5 +1,6 @@
--- What a successful Shorten writes: Read accepts it, 61,728 bytes hold it, and where moved is 0 it is the input.
-use Prim.Native.Nat.{ℕ, _+_, _≤_, _<_}
+-- What a successful Shorten writes: Read accepts it, 61,728 bytes hold it, it has at most n + n/2 + 36 instructions, and where moved
+-- is 0 it is the input.
+use Prim.Native.Nat.{ℕ, _+_, _/_, _≤_, _<_}
 use native.Mathlib.Omega.{arith}
 use mathlib.Core.Path.{_≡_, refl, sym, ap, _∙_}
 use mathlib.Core.Bool.{Bool, true, false, cond}
@@ -18,11 +19,11 @@ use Rattle.procedure.specs.Procedure.{procedureOf}
 use Rattle.word.specs.Word.{bit}
 use Rattle.steps.specs.Run.{Shortened, run}
 use Rattle.steps.specs.Write.{recordsFor, bytesOf}
-use Rattle.steps.specs.Shorten.{refusal, success, fitIf, above, runUnless, acceptIf, shortenWithin, shorten}
+use Rattle.steps.specs.Shorten.{refusal, success, fitIf, above, runUnless, acceptIf, shortenWithin, shorten, instructions}
 use Rattle.round.specs.WellFormed.{WellFormed}
 use Rattle.round.proofs.Accepted.{or-first, or-second}
-use Rattle.round.proofs.Laws.{read-well-formed, read-registers, read-code, write-back, written-few, written-accepted}
-use Rattle.sized.proofs.Laws.{run-same, run-well-formed}
+use Rattle.round.proofs.Laws.{read-well-formed, read-registers, read-code, write-back, written-few, written-accepted, written-code}
+use Rattle.sized.proofs.Laws.{run-same, run-sized, run-well-formed}
 
 -- no reading has the number 9
 few-numbers : (number first k n : ℕ) (o : Reading) → number ≤ 7 → o .number ≤ 7 → unless number first k n o .number ≤ 7
@@ -147,3 +148,18 @@ module _ (b out : List ℕ) where
       by (done w i q) =
           let same = same-bytes h w (still (s .moved) (sym (ap (λ o. o .answer .moved) q) ∙ m)) in
           ap (λ o. o .output) q ∙ ap (λ c. c ++ drop (length c) out) same
+
+  -- "Output has at most n + n/2 + 36 instructions."
+  pub few-instructions : Bytes b → shorten b out .answer .number ≡ 0
+      → instructions (take (shorten b out .answer .length) (shorten b out .output)) ≤ instructions b + instructions b / 2 + 36
+  few-instructions h e = by fate
+    where
+      by : Fate b out → instructions (take (shorten b out .answer .length) (shorten b out .output)) ≤ instructions b + instructions b / 2 + 36
+      by (unread n q) = absurd (n (sym (ap (λ o. o .answer .number) q) ∙ e))
+      by (over q) = absurd (let z = ap (λ o. o .answer .number) q in omega arith)
+      by (short w i q) = absurd (let z = ap (λ o. o .answer .number) q in omega arith)
+      by (done w i q) =
+          let n = ap instructions (taken q) ∙ written-code (s .procedure) (after h w) in
+          let few = run-sized (procedureOf rs) (before h w) .code in
+          let c = read-code b h (w .accepted) in
+          omega arith

@@ -76,3 +76,7 @@ shortenWithin registers code b out = accept (reading b) registers code b out
 -- "Shortening: 480 registers, 480 instructions."
 abbrev pub shorten : List ℕ → List ℕ → Outcome
 shorten b out = shortenWithin 480 480 b out
+
+-- "Output has at most n + n/2 + 36 instructions.": how many a file has
+abbrev pub instructions : List ℕ → ℕ
+instructions b = length (ofClass 4 (recordsOf b))
