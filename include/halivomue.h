@@ -146,7 +146,9 @@ struct halivomue_shortening {
  *
  * What is promised, and proved, for every file and every room: the answer and all
  * bytes of the buffer are those that the definition of Shorten gives
- * (docs/FORMAT.md has it in words), and halivomue_read accepts what is written.
+ * (docs/FORMAT.md has it in words), halivomue_read accepts what is written, and a
+ * file of n instructions becomes one of at most n + n/2 + 36. Where moved is 0 the
+ * bytes written are those given.
  * For every file that halivomue_tidy calls tidy, besides: the shortened form's
  * whole run does the original's acts, in order, with their values and statements,
  * within the original's instruction count plus the rescued constants for each
