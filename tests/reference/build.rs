@@ -50,9 +50,10 @@ fn substituted(mut text: String) -> String {
     for change in lines.chunks(3) {
         let reason = field(change[0], "reason:");
         let (find, insert) = (field(change[1], "find:"), field(change[2], "insert:"));
+        let space = if change[2].starts_with("insert:  ") { " " } else { "" };
         let times = text.matches(&find).count();
         assert!(times == 1, "substitution ({reason}): its text stands {times} times in cfg.rs, not once");
-        text = text.replace(&find, &format!("{find}{insert}"));
+        text = text.replace(&find, &format!("{find}{space}{insert}"));
     }
     text
 }

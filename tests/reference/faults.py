@@ -31,10 +31,10 @@ class Fault:
 
 
 def function(text, name):
-    """Start and end of a function; of `run`, what stands before its inserted return."""
+    """Start and end of a function; of `run`, what comes before the first call that is turned off."""
     m = re.search(rf"^( *)(pub(\([a-z]+\))? )?fn {name}\b", text, re.M)
     end = text.index(f"\n{m[1]}}}\n", m.start())
-    stop = text.find("\n    return moved;", m.start(), end)
+    stop = text.find("\n    if looped && crate::level::", m.start(), end)
     return m.start(), end if stop < 0 else stop
 
 

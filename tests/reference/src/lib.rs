@@ -9,6 +9,7 @@ pub mod cases;
 pub mod cores;
 pub mod draft;
 pub mod generate;
+pub mod level;
 pub mod library;
 pub mod limits;
 pub mod listing;

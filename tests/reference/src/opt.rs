@@ -1,5 +1,4 @@
-//! The parent of the published cfg.rs. What only the passes left out by document 01 call is
-//! declared and never runs.
+//! The parent of the published cfg.rs, with stand-ins for what it takes from there.
 
 #![allow(unused)]
 
@@ -13,46 +12,83 @@ pub fn run(prog: &Program, f: &mut Func) -> bool {
     cfg::run(prog, f)
 }
 
-const POSTORDER_ROUND: usize = 0;
+// The stand-ins that document 02 names for what the later calls take from the rest of the crate.
 
-fn left_out() -> ! {
-    unreachable!("run stops after thread")
+fn retargetable(i: &Inst) -> bool {
+    use Inst::*;
+    matches!(
+        i,
+        Const { .. }
+            | ConstF { .. }
+            | Move { .. }
+            | AddrOf { .. }
+            | Select { .. }
+            | Cmp { .. }
+            | Bool { .. }
+            | Bin { .. }
+            | Load { .. }
+    )
 }
 
-fn retargetable(_: &Inst) -> bool {
-    left_out()
-}
-
-fn is_dead(_: &Inst) -> bool {
-    left_out()
-}
-
+/// The dead mark: a Move of register 0 to itself.
 fn dead() -> Inst {
-    left_out()
+    Inst::Move { dst: Reg(0), src: Reg(0) }
 }
 
-fn removable_dst(_: &Inst) -> Option<Reg> {
-    left_out()
+fn is_dead(i: &Inst) -> bool {
+    matches!(i, Inst::Move { dst: Reg(0), src: Reg(0) })
 }
 
-fn for_defs(_: &Inst, _: impl FnMut(Reg)) {
-    left_out()
+fn removable_dst(i: &Inst) -> Option<Reg> {
+    match *i {
+        Inst::Move { dst, .. } | Inst::Select { dst, .. } | Inst::Cmp { dst, .. } | Inst::Bool { dst, .. } => Some(dst),
+        _ => None,
+    }
 }
 
-fn for_defs_fast(_: &Inst, _: impl FnMut(Reg)) {
-    left_out()
+/// All written registers, in role order.
+fn for_defs(i: &Inst, mut each: impl FnMut(Reg)) {
+    i.visit(&mut |r, role, _| {
+        if role == Role::Def {
+            each(r);
+        }
+    });
 }
+
+fn for_defs_fast(i: &Inst, each: impl FnMut(Reg)) {
+    for_defs(i, each);
+}
+
+// The order in which rounds go over the blocks can't show in a least solution: here the last block comes first.
+
+const POSTORDER_ROUND: usize = usize::MAX;
 
 fn postorder(_: usize, _: impl Fn(usize, usize) -> Option<usize>) -> Vec<usize> {
-    left_out()
+    unreachable!("no round asks for it")
 }
 
-fn back_nth(_: &[usize], _: usize, _: usize) -> usize {
-    left_out()
+fn back_nth(_: &[usize], blocks: usize, j: usize) -> usize {
+    blocks - 1 - j
 }
 
 mod memo {
-    pub(super) fn successors(_: &crate::Program, _: &crate::Func) -> Vec<Vec<usize>> {
-        super::left_out()
+    use crate::inst::Inst;
+
+    /// The targets of each block's last instruction.
+    pub(super) fn successors(prog: &crate::Program, f: &crate::Func) -> Vec<Vec<usize>> {
+        let last = |b: &crate::Block| f.code[b.end as usize - 1];
+        f.blocks.values().iter().map(|b| targets(prog, &last(b))).collect()
+    }
+
+    fn targets(prog: &crate::Program, i: &Inst) -> Vec<usize> {
+        match *i {
+            Inst::Br { to } => vec![to.0 as usize],
+            Inst::CondBr { t, f, .. } => vec![t.0 as usize, f.0 as usize],
+            Inst::Case { table, .. } => {
+                let table = prog.cases.get(table).expect("a table that exists");
+                table.arms.iter().map(|a| a.2.0 as usize).chain([table.default.0 as usize]).collect()
+            }
+            _ => Vec::new(),
+        }
     }
 }

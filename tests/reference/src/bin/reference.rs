@@ -5,7 +5,7 @@ use halivomue_reference::generate::{self, FAMILIES};
 use halivomue_reference::listing::listing;
 use halivomue_reference::procedure::Procedure;
 use halivomue_reference::stream::{Request, read_request, write_reply, write_request};
-use halivomue_reference::{Answer, Shorten, cases, machine, read, reference, self_test, tidy};
+use halivomue_reference::{Answer, Shorten, cases, level, machine, read, reference, self_test, tidy};
 use std::io::{self, BufReader, BufWriter, Read, Write, stdin, stdout};
 use std::panic::{AssertUnwindSafe, catch_unwind};
 use std::process::exit;
@@ -15,6 +15,7 @@ use std::{env, fs};
 const ROOM: usize = 65_536;
 
 const USAGE: &str = "reference list [FILE]             the listing of a file, or of standard input
+reference form CALLS FILE         the same with these calls of `run`, as thread,slice_tests,dead_defs,coalesce
 reference stream                  requests on standard input, replies on standard output
 reference generate FAMILY FROM N  N requests of a family, from seed FROM
 reference self-test [DOCUMENT]    document 01's examples; DOCUMENT holds the printed listing
@@ -30,6 +31,7 @@ fn main() -> io::Result<()> {
     match args[..] {
         ["list"] => list(stdin()),
         ["list", path] => list(fs::File::open(path)?),
+        ["form", calls, path] => form(calls, fs::File::open(path)?),
         ["stream"] => stream(),
         ["generate", family, from, n] => generated(family, number(from), number(n)),
         ["self-test"] => self_tested(None),
@@ -61,6 +63,15 @@ fn list(mut from: impl Read) -> io::Result<()> {
     from.read_to_end(&mut bytes)?;
     print!("{}", listing(&shorten()(&bytes, ROOM)));
     Ok(())
+}
+
+fn form(calls: &str, from: impl Read) -> io::Result<()> {
+    let calls: Vec<&str> = calls.split(',').collect();
+    if calls.iter().any(|c| !level::ALL.contains(c)) {
+        fail(USAGE);
+    }
+    level::set(&calls);
+    list(from)
 }
 
 fn stream() -> io::Result<()> {
