@@ -55,14 +55,19 @@ def roots(tree):
     return found
 
 
-def start(tree, functions, theorem):
-    """What the contracts and the theorem's statement cite."""
+def contracts(tree, functions):
+    """What the contracts of some functions cite."""
     for crate, code, function in functions:
         name = f"{crate}::{function.name}"
         if not any(clause.kind == "ensures" for clause in function.clauses):
             raise Fault(f"{code.path}:{function.line}: `{name}` is public and ensures nothing")
         for target in tree.contract(crate, code, function):
             yield target, f"the contract of {name}", name
+
+
+def start(tree, functions, theorem):
+    """What the contracts and the theorem's statement cite."""
+    yield from contracts(tree, functions)
     for target in tree.cited(theorem, statement=True):
         yield target, f"the statement of {theorem.name}", theorem.name
 
@@ -71,9 +76,11 @@ def read_all(tree):
     """Reads each crate's definitions and contracts; what isn't known or leads nowhere."""
     faults = []
     for crate in tree.crates:
-        for file in sorted(glob.glob(os.path.join(ROOT, "crates", crate, "specs", "**", "*.antt"), recursive=True)):
+        for path in sorted(glob.glob(os.path.join(ROOT, "crates", crate, "specs", "**", "*.antt"), recursive=True)):
             try:
-                for declaration in tree.scope(file := os.path.relpath(file, ROOT)) and tree.antt(file).declarations:
+                file = os.path.relpath(path, ROOT)
+                tree.scope(file)
+                for declaration in tree.antt(file).declarations:
                     tree.cited(declaration)
             except Fault as fault:
                 faults.append(str(fault))
@@ -248,28 +255,36 @@ def told(page, computed):
             print(f"  {file}: {' '.join(names)}")
 
 
+def judged(tree, page, faults, write):
+    """All faults: those found before, then those of the page, and where there are none what the checker says."""
+    theorem, functions = tree.item(THEOREM, "the theorem"), roots(tree)
+    found = tree.reached(start(tree, functions, theorem))
+    computed = Computed(tree, found)
+    faults += page.faults + [*not_believed(page, computed), *not_reached(page, computed), *listed(page)]
+    faults += counts(page, computed, write)
+    told(page, computed)
+    if not faults:
+        with tempfile.TemporaryDirectory() as folder:
+            said = check(Slice(tree, found, functions, theorem).written(folder))
+        faults += [f"the checker, over what was reached and nothing else: {line}" for line in said]
+
+
 def main(words):
     tree = Tree(ROOT)
     faults = read_all(tree)
-    with open(MAP) as text:
-        page = Page(text.read())
     try:
-        theorem, functions = tree.item(THEOREM, "the theorem"), roots(tree)
-        found = tree.reached(start(tree, functions, theorem))
+        with open(MAP) as text:
+            page = Page(text.read())
+        judged(tree, page, faults, "--write" in words)
+        if "--write" in words:
+            with open(MAP, "w") as out:
+                out.write(page.text)
     except Fault as fault:
-        print(*dict.fromkeys([*faults, str(fault)]), sep="\n")
-        return 1
-    computed = Computed(tree, found)
-    faults += page.faults + [*not_believed(page, computed), *not_reached(page, computed), *listed(page)]
-    faults += counts(page, computed, "--write" in words)
-    if "--write" in words:
-        with open(MAP, "w") as out:
-            out.write(page.text)
-    told(page, computed)
-    with tempfile.TemporaryDirectory() as folder:
-        said = check(Slice(tree, found, functions, theorem).written(folder))
-    faults += [f"the checker, over what was reached and nothing else: {line}" for line in said]
-    print(*[f"fault: {fault}" for fault in faults], sep="\n") if faults else print("the checker finds every name in these alone")
+        faults.append(str(fault))
+    for fault in dict.fromkeys(faults):
+        print("fault:", fault)
+    if not faults:
+        print("the checker finds every name in what was reached, with nothing else there")
     return 1 if faults else 0
 
 

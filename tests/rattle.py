@@ -62,6 +62,8 @@ def read_code(text, path):
         at += len(text[at:]) - len(text[at:].lstrip())
         line = text.count("\n", 0, at) + 1
         found = ITEM.match(text, at)
+        if re.match(r'(?:pub\s+)?extern\s+"C"\s*\{', text[at:at + 40]):
+            raise Fault(f"{path}:{line}: C functions are declared, and nothing proves what they are said to do")
         if not found:
             raise Fault(f"{path}:{line}: an item of a shape that isn't known: {text[at:at + 40].split(chr(10))[0]}")
         at = read_item(code, text, at, found, line)
