@@ -29,7 +29,7 @@ from collections import defaultdict
 from antt import Declaration, Fault
 from rattle import Declared
 from sliced import Slice, check
-from tree import Scope, Tool, Tree
+from tree import Made, Scope, Tree
 
 ROOT = os.path.dirname(os.path.dirname(os.path.abspath(__file__)))
 MAP = os.path.join(ROOT, "docs", "MAP.md")
@@ -135,16 +135,16 @@ class Computed:
     """What was reached, by files."""
 
     def __init__(self, tree, found):
-        self.found, self.definitions, self.types, self.tools = found, defaultdict(list), defaultdict(list), set()
-        self.every = {}
+        self.tree, self.definitions, self.types, self.tools, self.made = tree, defaultdict(list), defaultdict(list), set(), []
         for target, by, root in found:
             if isinstance(target, Declaration):
                 self.definitions[target.file[len("crates/"):]].append((target, by, root))
             elif isinstance(target, Declared):
                 self.types[target.file[len("crates/"):]].append(target.name)
+            elif isinstance(target, Made):
+                self.made.append((target.name, root))
             else:
                 self.tools.add(target.name)
-        self.tree = tree
 
     def declared(self, file):
         return self.tree.antt("crates/" + file).declarations
@@ -164,6 +164,8 @@ class Computed:
 
 def not_believed(page, computed):
     """What is reached in files that aren't listed as believed."""
+    for name, root in computed.made:
+        yield f"{name}, which is made of a function's code, is reached from {root}"
     for file in sorted(set(computed.definitions) - set(page.believed)):
         for d, by, root in computed.definitions[file]:
             if by.startswith("the "):

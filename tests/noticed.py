@@ -14,6 +14,7 @@ import time
 import believed
 from antt import Declaration
 from sliced import Slice, check
+from theorem import proved
 from tree import Tree
 
 ROOT = os.path.dirname(os.path.dirname(os.path.abspath(__file__)))
@@ -42,6 +43,8 @@ SHAPES = [
     ("ghost use Rattle.read.specs as s;", "s.Other.other", {}),
     ("ghost use Rattle.read.specs.{Reading.{answer as told}, Other.{other}};", "other", {}),
     ("ghost use Rattle.read.specs.{\n    Reading.beyondLimit,\n    Other.other as hidden,\n};", "hidden", {}),
+    ("ghost use Rattle.read.specs.declared.Reading.{Reading};\nghost use Rattle.read.specs.Other as Reading;",
+     "Reading.other", {}),
     ("", "Rattle.read.specs.Other.other", {}),
     ("", "package.Rattle.read.specs.Other.other", {}),
     ("ghost use Rattle.read.specs.Passed.{other};", "other",
@@ -61,6 +64,9 @@ PAGE = [
      "`blank` of format/specs/Record.antt has a row as reached from nothing public, and is reached"),
     ("crates/format/specs/Kinds.antt", "abbrev pub zeros ", "abbrev pub spare : ℕ\nspare = 0\n\nabbrev pub zeros ",
      "`spare` of format/specs/Kinds.antt is reached from nothing public, and no row says why it stands there"),
+    ("crates/read/src/lib.rt", READING, f"{READING}\nghost use Rattle.layout.proofs.layout_of.Statement.{{statement}};", None),
+    ("crates/read/src/lib.rt", CONTRACT, "λ r. ⌜ (r ≡ reading (now (b .entry))) × statement ⌝",
+     "Rattle.layout.proofs.layout_of.Statement.statement, which is made of a function's code, is reached from"),
     ("docs/MAP.md", "| `terminatorOf` |", "| `terminates` |",
      "`terminates` of ends/specs/Ends.antt has a row as reached from nothing public, and isn't there"),
     ("docs/MAP.md", "| `shape/specs/Exist.antt` | 28 |", "| `shape/specs/Exist.antt` | 29 |",
@@ -200,6 +206,7 @@ def dropped(name):
 
 def main():
     began, tried = time.time(), len(SHAPES) + 1
+    proved("promise")
     missed = [f"not told: a contract through an unlisted definition, by {shape}" for shape in shapes()]
     if not dropped("terminatorKind"):
         missed.append("the checker didn't notice that a definition is missing")

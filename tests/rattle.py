@@ -17,7 +17,7 @@ LITERAL = r"b?'(?:\\.|[^'\\\n])'|b?\"(?:\\.|[^\"\\])*\""
 NOTE = re.compile(rf"({LITERAL})|//[^\n]*|/\*.*?\*/", re.S)
 ITEM = re.compile(
     r"(?:#\[[^\]\n]*\]\s*)*"
-    r"(?:(?P<ghost>ghost use)\b|(?:pub\s+)?(?:(?P<use>use)|(?P<mod>mod)|(?P<type>struct|enum)|(?P<skip>const|type)"
+    r"(?:(?P<ghost>ghost use)\b|(?:pub\s+)?(?:(?P<use>use)|(?P<mod>mod)|(?P<type>struct|enum)|(?P<const>const)|(?P<alias>type)"
     r"|(?P<impl>impl)|(?:(?P<extern>extern \"C\")\s+)?(?P<fn>fn))\b)"
 )
 BRACKET = re.compile(rf"{LITERAL}|[(\[{{}}\])]")
@@ -34,6 +34,7 @@ class Code:
     uses: dict = field(default_factory=dict)  # name to path
     mods: list = field(default_factory=list)
     constants: set = field(default_factory=set)
+    aliases: set = field(default_factory=set)
     types: dict = field(default_factory=dict)
     functions: dict = field(default_factory=dict)
 
@@ -78,7 +79,10 @@ def read_item(code, text, at, found, line):
     if kind == "type":
         return read_type(code, text, found)
     if kind == "impl":
-        return closing(text, text.index("{", at), where)
+        end = closing(text, text.index("{", at), where)
+        if "extern" in text[at:end]:
+            raise Fault(f"{where}: an exported method: a shape that isn't known")
+        return end
     end = text.index(";", at)
     inner = text[found.end():end].strip()
     if kind == "ghost":
@@ -87,8 +91,8 @@ def read_item(code, text, at, found, line):
         read_use(code, inner, where)
     elif kind == "mod" and re.fullmatch(r"\w+", inner):
         code.mods.append(inner)
-    elif kind == "skip":
-        code.constants.add(re.match(r"\w+", inner).group())
+    elif kind in ("const", "alias"):
+        (code.constants if kind == "const" else code.aliases).add(re.match(r"\w+", inner).group())
     else:
         raise Fault(f"{where}: an item of a shape that isn't known")
     return end + 1

@@ -46,7 +46,9 @@ class Slice:
     def has(self, target):
         if isinstance(target, Declaration):
             return target in self.definitions.get(target.file, ())
-        return isinstance(target, Tool) or target.name in {t.name for t in self.types.get(target.file, ())}
+        if isinstance(target, Declared):
+            return target.name in {t.name for t in self.types.get(target.file, ())}
+        return isinstance(target, Tool)
 
     # What a file brings in.
 

@@ -1,8 +1,8 @@
 """What a name leads to, in the repository's crates and in the toolchain's library.
 
 The name of a definition leads to a Declaration of antt.py, that of a type of the code to a Declared of
-rattle.py, and one of the toolchain's library, or of what the prover makes of a function, to a Tool.
-Anything else, and an import that leads nowhere, is a Fault.
+rattle.py, one of the toolchain's library to a Tool, and one of what the prover makes of a function to a
+Made. Anything else, and an import that leads nowhere, is a Fault.
 
 Where the text can't tell, more is taken as cited: of an operator's part all operators in scope that have it.
 """
@@ -19,6 +19,7 @@ from antt import Citing, Declaration, Fault, grouped, lex, pieces, read_file
 from rattle import Declared, read_code, types_in
 
 Tool = namedtuple("Tool", "name")
+Made = namedtuple("Made", "name")  # by the prover, of a function's code
 LIBRARY = re.compile(r"Rattle·([a-z0-9_]+)(?:·(specs|proofs))?$")
 
 # What antt's prelude has of what is used here; its text isn't part of the toolchain's kit.
@@ -88,36 +89,34 @@ class Scope:
 
     def targets(self, parts, line=0):
         """What a name that is written here leads to."""
-        found = self.single(parts[0])
-        if len(parts) == 1:
-            if not found:
-                raise Fault(f"{self.where}:{line}: the name `{parts[0]}` leads nowhere")
-            return found
-        path = self.absolute(parts)
-        if found and not (path != parts and isinstance(found[0], Declaration) and parts[1] not in found[0].members):
-            return found  # a member of a type, or a field
-        if path[0] == "Prim" or path != parts or parts[0] == "package" or self.tree.is_library(path[0]):
-            return [self.tree.item(path, f"{self.where}:{line}")]
-        raise Fault(f"{self.where}:{line}: the name `{'.'.join(parts)}` leads nowhere")
+        where, found, path = f"{self.where}:{line}", self.single(parts[0]), self.absolute(parts)
+        if len(parts) == 1 and not found:
+            raise Fault(f"{where}: the name `{parts[0]}` leads nowhere (if it is the prelude's: PRELUDE in tests/tree.py)")
+        if len(parts) == 1 or found and (path == parts or parts[1] in members(found[0])):
+            return found  # with a dot: a member of a type, or a field
+        if path != parts or parts[0] == "package" or self.tree.is_library(path[0]):
+            return [self.tree.item(path, where)]
+        raise Fault(f"{where}: the name `{'.'.join(parts)}` leads nowhere")
 
     def is_constructor(self, name):
         """Whether a name in a pattern is a constructor's; of one of the toolchain's it is taken to be."""
         for target in self.single(name):
             if isinstance(target, Declaration):
                 return name not in target.names and target.kind in ("data", "mutual")
-            return isinstance(target, Tool) and not target.name.startswith("Prim.") or name in target_variants(target)
+            return isinstance(target, Tool) and not target.name.startswith("Prim.") or name in members(target)
         return False
 
 
-def target_variants(target):
-    return target.variants if isinstance(target, Declared) else ()
+def members(target):
+    """The names that a type's name may stand before, with a dot."""
+    return target.members if isinstance(target, Declaration) else target.variants if isinstance(target, Declared) else ()
 
 
 class Tree:
     def __init__(self, root):
         self.root, self.home = root, kit()
         with open(os.path.join(root, "crates.txt")) as lines:
-            self.crates = [line.split(":")[0] for line in lines if re.match(r"\w+:", line)]
+            self.crates = [found.group(1) for line in lines if (found := re.match(r"\s*(\w+)\s*:", line))]
         with open(os.path.join(self.home, "logic", "antt-project.json")) as text:
             rows = json.load(text)["libraries"]
         self.libraries = {row["name"]: os.path.normpath(os.path.join(self.home, "logic", row["src"])) for row in rows}
@@ -225,7 +224,7 @@ class Tree:
                 return kind
             raise nowhere
         if self.is_made(path[:-1]) and not self.file_of(path[:-1]):
-            return Tool(".".join(path))
+            return (Made if LIBRARY.match(path[0]).group(1) in self.crates else Tool)(".".join(path))
         file = next((file for k in range(len(path) - 1, 0, -1) if (file := self.file_of(path[:k]))), "")
         return self.tool(path, nowhere) if os.path.isabs(file) else self.defined(path, where, nowhere)
 
@@ -293,6 +292,8 @@ class Tree:
             return code.types[path[0]]
         elif len(path) == 1 and path[0] in code.constants:
             return None
+        elif path[0] in code.aliases:
+            raise Fault(f"{code.path}: `{path[0]}` is another name for a type: a shape that isn't known")
         if path[0] == "crate":
             crate, path, modules = crate, path[1:], ()
         elif path[0] in self.crates and path[0] not in code.mods:
@@ -342,7 +343,7 @@ class Tree:
                 continue
             met.add(key)
             found.append((target, by, root))
-            if isinstance(target, Tool):
+            if isinstance(target, (Tool, Made)):
                 continue
             onward = self.cited(target) if isinstance(target, Declaration) else self.types_of(target)
             queue += [(t, target.name, root) for t in onward]
