@@ -184,6 +184,10 @@ class Declaration:
     def name(self):
         return self.names[0]
 
+    @property
+    def constructors(self):
+        return [name for d in self.parts or [self] if d.kind == "data" for name in d.members]
+
 
 @dataclass
 class File:
@@ -196,14 +200,14 @@ class File:
     fixities: list = field(default_factory=list)  # names and line
 
 
-def rows_at(tokens, col):
+def rows_at(tokens, col, where):
     """The tokens cut where a line starts at that column, outside brackets."""
     rows, depth = [], 0
     for token in tokens:
         if token.first and token.col == col and not depth:
             rows.append([])
         if not rows or token.first and token.col < col:
-            raise Fault(f"{token.line}: a line left of its block")
+            raise Fault(f"{where}:{token.line}: a line left of its block")
         rows[-1].append(token)
         depth += is_word(token, "(", "{", "[") - is_word(token, ")", "}", "]")
     return rows
@@ -211,19 +215,15 @@ def rows_at(tokens, col):
 
 def read_file(text, path):
     """The file of a text."""
-    tokens = lex(text, path)
     file = File(path)
-    try:
-        read_block(file, tokens, 0, [], ())
-    except Fault as fault:
-        raise fault if str(fault).startswith(path) else Fault(f"{path}:{fault}") from None
+    read_block(file, lex(text, path), 0, [], ())
     return file
 
 
 def read_block(file, tokens, col, telescopes, block):
     """Declarations of a file, a `module _` or a `mutual` block: those of one block are told."""
     last = None
-    for row in rows_at(tokens, col):
+    for row in rows_at(tokens, col, file.path):
         marks = set()
         while row and is_word(row[0], *MARKS) and row[0].text not in marks:
             marks.add(row[0].text)
@@ -252,7 +252,7 @@ def read_row(file, row, marks, telescopes, block, last):
         read_named(file, row, head, telescopes, block, "pub" in marks)
     elif head == "unfolding":
         if not last:
-            raise Fault(f"{row[0].line}: an `unfolding` line that stands alone")
+            raise Fault(f"{file.path}:{row[0].line}: an `unfolding` line that stands alone")
         last.unfolding += row[1:]
         last.spans.append(span(row))
         return last
@@ -278,30 +278,25 @@ def under(row, where):
 def read_module(file, row, telescopes, block):
     head, body, col = under(row, file.path)
     if body is None or len(head) < 2 or not is_word(head[1], "_"):
-        raise Fault(f"{row[0].line}: a `module` of a shape that isn't known")
+        raise Fault(f"{file.path}:{row[0].line}: a `module` of a shape that isn't known")
     read_block(file, body, col, telescopes + [grouped(head[2:], file.path)], block + (span(head),))
 
 
 def read_mutual(file, row, telescopes, block):
     """A `mutual` block counts as one declaration: who cites one of it cites all."""
     if len(row) < 2 or not row[1].first:
-        raise Fault(f"{row[0].line}: a `mutual` of a shape that isn't known")
-    inner = File(file.path)
-    body = row[1:]
-    opened = []
+        raise Fault(f"{file.path}:{row[0].line}: a `mutual` of a shape that isn't known")
+    inner, body, opened = File(file.path), row[1:], []
     if is_word(body[0], "unfolding"):
-        first, *others = rows_at(body, body[0].col)
+        first, *others = rows_at(body, body[0].col, file.path)
         opened, body = first[1:], [token for other in others for token in other]
     read_block(inner, body, body[0].col, telescopes, block)
+    first, *others = inner.declarations
     every = [name for d in inner.declarations for name in d.names + d.members]
-    for d in inner.declarations:
-        d.members = [name for name in every if name not in d.names]
-        d.unfolding += opened
-        d.spans = [span(row)]
-        d.kind = "mutual"
+    merged = Declaration("mutual", first.names, file.path, block=block, public=first.public, unfolding=opened)
+    merged.members = [name for name in every if name not in first.names]
+    merged.parts, merged.spans = inner.declarations, [span(row)]
     file.fixities += inner.fixities
-    merged = inner.declarations[0]
-    merged.parts = inner.declarations
     file.declarations.append(merged)
 
 
@@ -318,11 +313,11 @@ def read_named(file, row, kind, telescopes, block, public):
         return file.declarations.append(d)
     at = place(nodes, ":")
     if body is None or at is None or not is_name(nodes[0]):
-        raise Fault(f"{row[0].line}: a `{kind}` of a shape that isn't known")
+        raise Fault(f"{file.path}:{row[0].line}: a `{kind}` of a shape that isn't known")
     d.names, d.signature = [nodes[0].parts[-1]], nodes[at + 1:]
     d.levels = [n for n in nodes[1:at] if isinstance(n, Group) and n.open == "{" and place(n.nodes, ":") is None]
     d.telescopes = telescopes + [[n for n in nodes[1:at] if n not in d.levels]]
-    for line in rows_at(body, col) if body else []:
+    for line in rows_at(body, col, file.path) if body else []:
         read_member(d, line, file.path)
     file.declarations.append(d)
 
@@ -353,7 +348,7 @@ def read_open(file, d, nodes):
     """open R t using (x, y as z): each name cites R and t."""
     at = place(nodes, "using")
     if at is None or at + 2 != len(nodes) or not isinstance(nodes[-1], Group):
-        raise Fault(f"{d.spans[0][0]}: an `open` of a shape that isn't known")
+        raise Fault(f"{file.path}:{d.spans[0][0]}: an `open` of a shape that isn't known")
     for row in split(nodes[-1].nodes, ","):
         d.names.append(row[-1].parts[-1])
     d.clauses = [([], [n for n in nodes[:at]], [])]
@@ -368,7 +363,7 @@ def read_definition(file, row, marks, telescopes, block, last):
     if at is not None and is_word(nodes[at], ":"):
         names = [n for n in nodes[:at] if isinstance(n, Token)]
         if body is not None or not names or not all(is_name(n) and len(n.parts) == 1 for n in names):
-            raise Fault(f"{row[0].line}: a signature of a shape that isn't known")
+            raise Fault(f"{file.path}:{row[0].line}: a signature of a shape that isn't known")
         d = Declaration("axiom" if "axiom" in marks else "definition", [n.parts[0] for n in names], file.path)
         d.telescopes, d.block, d.public = telescopes, block, "pub" in marks
         d.levels = [n for n in nodes[:at] if isinstance(n, Group)]
@@ -376,7 +371,7 @@ def read_definition(file, row, marks, telescopes, block, last):
         file.declarations.append(d)
         return d
     if last is None or at is None or not heads(nodes[:at], last.names):
-        raise Fault(f"{row[0].line}: neither a declaration nor a clause of one")
+        raise Fault(f"{file.path}:{row[0].line}: neither a declaration nor a clause of one")
     last.clauses.append((nodes[:at], nodes[at + 1:], body or []))
     last.spans.append(span(row))
     return last
@@ -543,7 +538,7 @@ class Citing:
     def declaration(self, d, bound=()):
         for part in d.parts or [d]:
             inner = self.statement(part, bound)
-            for token in part.unfolding:
+            for token in d.unfolding + part.unfolding:
                 self.cite(token.parts, token.line, set(bound))
             for names, nodes in part.rows:
                 self.walk(nodes, inner)

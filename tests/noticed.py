@@ -12,7 +12,7 @@ import tempfile
 import time
 
 import believed
-from antt import Declaration
+from antt import Citing, Declaration, read_file
 from sliced import Slice, check
 from theorem import proved
 from tree import Tree
@@ -111,10 +111,80 @@ SCANNED = [
      "the clause `ensures more` isn't stated here"),
 ]
 
+# A hypothesis more.
 NEVER = [
     ("crates/promise/proofs/Promised.antt", "(h : Bytes b) where", "(h : Bytes b) (never : ⊥) where",
      "the checker doesn't find promise to be of the type stated here"),
 ]
+
+
+# What each definition of a text cites: a, b, c, d, _⊕_, the type T and its constructor mk come from elsewhere.
+TEXT = """\
+-- a b c d in a comment, and {- a block -} of one
+module _ (x : T) (a : T) where
+  parameter : T → T
+  parameter y = a ⊕ y
+
+  infixl 60 _⊗_
+  _⊗_ : T → T → T
+  unfolding b
+  _⊗_ y z = (_⊕ c) y
+
+bound : (a : T) → T
+bound b = λ c (d : T). let e = b in c ⊕ d ⊕ e
+
+free : T
+free = let b = a in λ d. c
+
+matched : T → T
+matched (mk a) = elim a [ mk (b → c) ↦ b ⊕ c ]
+
+helped : T
+helped = a ⊕ helper b
+  where
+    helper : T → T
+    helper a = d
+
+pub record Pair (a : T) : Type 0 where
+  pub b : T
+  pub c : Equal b a
+
+labels : Pair c
+labels = record {
+  b = b;
+  c = d .c;
+}
+
+pub data Kind : Type 0 where
+  a-kind another : T → Kind
+  deriving Discrete as kinds
+
+kind : Kind → Kind
+kind (a-kind a) = another a
+kind (another b) = a-kind {n = b} c
+
+mutual
+  even : T → T
+  even (mk n) = odd n ⊕ a
+
+  odd : T → T
+  odd (mk n) = even n ⊕ b
+"""
+CITED = {
+    "parameter": "T ⊕", "_⊗_": "T b _⊕ c", "bound": "T ⊕", "free": "T a c", "matched": "T mk ⊕", "helped": "T a ⊕ b d",
+    "Pair": "T Equal", "labels": "Pair c b d", "Kind": "T Kind Discrete", "kind": "Kind a-kind another c",
+    "even": "T mk ⊕ odd a even b",
+}
+
+
+def misread():
+    """The definitions of the text whose citations are read wrongly."""
+    for d in read_file(TEXT, "the text").declarations:
+        citing = Citing("the text", {"mk", "a-kind", "another"}.__contains__)
+        citing.declaration(d)
+        found = {".".join(parts) for parts in citing.found}
+        if found != set(CITED.get(d.name, "").split()):
+            yield f"read wrongly: {d.name} cites {' '.join(sorted(found))}"
 
 
 def scratch_copy(folder):
@@ -205,18 +275,19 @@ def dropped(name):
 
 
 def main():
-    began, tried = time.time(), len(SHAPES) + 1
+    began, tried = time.time(), len(SHAPES) + len(CITED) + 1
     proved("promise")
-    missed = [f"not told: a contract through an unlisted definition, by {shape}" for shape in shapes()]
+    missed = list(misread())
+    missed += [f"not told: a contract through an unlisted definition, by {shape}" for shape in shapes()]
     if not dropped("terminatorKind"):
         missed.append("the checker didn't notice that a definition is missing")
-    for script, tricks in (("believed.py", PAGE), ("believed.py", IMPORTS), ("theorem.py", SCANNED), ("theorem.py", NEVER)):
+    for script, tricks in (("believed.py", PAGE), ("believed.py", IMPORTS), ("theorem.py", SCANNED + NEVER)):
         due, lost = tricked(script, tricks)
         tried, missed = tried + due, missed + lost
     for line in missed:
         print(line)
-    all_of = "not all" if missed else "all"
-    print(f"tests/noticed.py: {tried} tricks tried, {all_of} of them noticed; {time.time() - began:.0f} s")
+    wrong = f"{len(missed)} faults" if missed else "all told"
+    print(f"tests/noticed.py: {tried} tricks and readings tried, {wrong}; {time.time() - began:.0f} s")
     return 1 if missed else 0
 
 

@@ -40,7 +40,7 @@ class Scope:
 
     def __init__(self, tree, where, uses, module=(), declarations=(), mods=(), lent=frozenset()):
         self.tree, self.where, self.module, self.mods, self.lent = tree, where, module, mods, lent | PRELUDE
-        self.names, self.aliases, self.globs, self.parts = {}, {}, [], {}
+        self.names, self.aliases, self.parts = {}, {}, {}
         for use in uses:
             if use.kind == "module":
                 self.aliases[use.name] = use.path
@@ -50,7 +50,7 @@ class Scope:
         for use in uses:
             path = self.absolute(use.path, use)
             if use.kind == "item":
-                self.bring(use.name, tree.item(path, f"{where}:{use.line}"))
+                self.bring(use.name, tree.item(path, f"{where}:{use.line}"), path[-1])
             elif use.kind == "module" and not tree.is_module(path):
                 raise Fault(f"{where}:{use.line}: `use {'.'.join(use.path)}` leads nowhere")
             elif use.kind == "glob":
@@ -58,10 +58,11 @@ class Scope:
                     if name not in self.names:
                         self.bring(name, tree.item(path + (name,), where))
 
-    def bring(self, name, target):
-        self.names[name] = target
+    def bring(self, name, target, own=None):
+        """A name here, what it leads to, and what it is called there."""
+        self.names[name] = target, own or name
         for piece in pieces(name):
-            self.parts.setdefault(piece, []).append(target)
+            self.parts.setdefault(piece, []).append((target, own or name))
 
     def absolute(self, path, use=None):
         """A path from its library on: it may begin with a child of the module, or a name that a `use` line brings."""
@@ -73,15 +74,16 @@ class Scope:
             return self.absolute(self.aliases[path[0]], use) + path[1:]
         return path
 
-    def single(self, name):
-        """What one word leads to: a list, since an operator's part may be that of several."""
+    def brought(self, name):
+        """What the file declares or brings in by a name, an operator's part or a section."""
         if name in self.names:
             return [self.names[name]]
-        if name in self.parts:
-            return self.parts[name]
-        found = [target for piece in pieces(name) for target in self.parts.get(piece, [])]
-        if found:
-            return found
+        return self.parts.get(name) or [row for piece in pieces(name) for row in self.parts.get(piece, [])]
+
+    def single(self, name):
+        """What one word leads to: a list, since an operator's part may be that of several."""
+        if self.brought(name):
+            return [target for target, _ in self.brought(name)]
         lent = {name} | pieces(name)
         if any(lent & ({word} | pieces(word)) for word in self.lent):
             return [Tool("Prim." + name)]
@@ -100,10 +102,10 @@ class Scope:
 
     def is_constructor(self, name):
         """Whether a name in a pattern is a constructor's; of one of the toolchain's it is taken to be."""
-        for target in self.single(name):
+        for target, own in self.brought(name):
             if isinstance(target, Declaration):
-                return name not in target.names and target.kind in ("data", "mutual")
-            return isinstance(target, Tool) and not target.name.startswith("Prim.") or name in members(target)
+                return own in target.constructors
+            return isinstance(target, Tool) or own in members(target)
         return False
 
 
