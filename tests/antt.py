@@ -1,8 +1,8 @@
 """Reads antt text: its `use` lines, its declarations, and the names that each of them cites.
 
 It follows the toolchain's guide (primer-language.md, sections 4.1 to 4.8). A shape that it doesn't
-know is a Fault, so that nothing is passed over. A name counts as cited where it is written and isn't
-bound there: by a λ, a `let`, a pattern, a binder `(x : A)`, a `where` block or a parameter. A field
+know is a Fault, so that nothing is passed over. A name counts as cited where it is written and
+isn't bound: by a λ, a `let`, a pattern, a binder `(x : A)`, a `where` block or a parameter. A field
 (`r .x`) or the label of one (`record { x = .. }`) is no name.
 """
 
@@ -173,7 +173,7 @@ class Declaration:
     signature: list = field(default_factory=list)
     unfolding: list = field(default_factory=list)
     clauses: list = field(default_factory=list)
-    rows: list = field(default_factory=list)  # a data's constructors or a record's fields: names and type
+    rows: list = field(default_factory=list)  # constructors or fields: names and type
     members: list = field(default_factory=list)  # names that lead to this declaration
     spans: list = field(default_factory=list)  # lines, first and last
     block: tuple = ()  # the lines of the `module _` headers around it
@@ -405,7 +405,7 @@ class Citing:
         return {word for name in names for word in (name, *pieces(name))}
 
     def bind(self, nodes, bound, binders=False):
-        """A pattern, or binders: names that it binds are added to `bound`. A binder may be called as a constructor is."""
+        """A pattern, or binders, which may have a constructor's name: adds what it binds to `bound`."""
         for at, node in enumerate(nodes):
             if isinstance(node, Group):
                 self.bind_group(node, bound, at > 0 and is_word(nodes[at - 1], "record"))
@@ -473,7 +473,7 @@ class Citing:
         return end
 
     def record(self, nodes, at, bound):
-        """record { x = e; .. }, a value, or record { x : A; .. }, a type whose later fields see the earlier."""
+        """record { x = e; .. }, a value, or record { x : A; .. }, a type: later fields see the earlier."""
         inner = set(bound)
         for row in split(nodes[at].nodes, ";"):
             mark = place(row, ":", "=")
@@ -527,7 +527,7 @@ class Citing:
             self.declaration(d, bound)
 
     def statement(self, d, bound=()):
-        """What stands around a declaration, and its signature; what is bound after the telescopes."""
+        """The telescopes around a declaration and its signature; what is bound after the telescopes."""
         inner = set(bound)
         for nodes in d.telescopes:
             self.bind(nodes, inner, True)

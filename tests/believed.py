@@ -3,15 +3,15 @@
 
     tests/believed.py [--write]    --write mends the counts and the table of types in docs/MAP.md
 
-It starts from the contract of each exported function (`pub extern "C" fn` of the crate halivomue_c), of
-each public operation, and from the theorem's statement, and goes from definition to definition over
-what each cites, down to the toolchain's library; types that the code declares among them. Then the
-checker itself is given what was reached, and nothing else, as one crate (sliced.py): it must find every
-name. So nothing is missing; should something be too much, antt.py and tree.py say where that can be.
+It starts from the contract of each exported function (`pub extern "C" fn` of the crate halivomue_c),
+of each public operation, and from the theorem's statement, and goes from definition to definition
+over what each cites, down to the toolchain's library; types that the code declares among them. Then
+the checker itself is given what was reached, and nothing else, as one crate (sliced.py): it must find
+every name. So nothing is missing; where more may be taken as cited, antt.py and tree.py say.
 
 It fails where
 - something is reached in a file that docs/MAP.md doesn't list as believed;
-- a definition of a believed file is reached from nothing public, and no row says why it stands there;
+- a definition of a believed file is reached from nothing public, and no row says why it is there;
 - such a row names what is reached, or what isn't there;
 - a believed file has nothing that is reached, a file of crates/*/specs stands in neither list, or a
   count or the table of types is wrong;
@@ -49,8 +49,8 @@ def roots(tree):
         raise Fault(f"crates/{EXPORTING} exports no function")
     for crate, name in OPERATIONS:
         code = tree.code(crate, ())
-        if name not in code.functions:
-            raise Fault(f"{code.path} has no function `{name}`")
+        if not code or name not in code.functions:
+            raise Fault(f"the crate {crate} has no function `{name}`")
         found.append((crate, code, code.functions[name]))
     return found
 
@@ -61,7 +61,7 @@ def contracts(tree, functions):
         name = f"{crate}::{function.name}"
         if not any(clause.kind == "ensures" for clause in function.clauses):
             raise Fault(f"{code.path}:{function.line}: `{name}` is public and ensures nothing")
-        for target in tree.contract(crate, code, function):
+        for target in tree.contract(code, function):
             yield target, f"the contract of {name}", name
 
 
@@ -135,7 +135,8 @@ class Computed:
     """What was reached, by files."""
 
     def __init__(self, tree, found):
-        self.tree, self.definitions, self.types, self.tools, self.made = tree, defaultdict(list), defaultdict(list), set(), []
+        self.tree, self.tools, self.made = tree, set(), []
+        self.definitions, self.types = defaultdict(list), defaultdict(list)
         for target, by, root in found:
             if isinstance(target, Declaration):
                 self.definitions[target.file[len("crates/"):]].append((target, by, root))
@@ -159,7 +160,8 @@ class Computed:
 
     def table(self):
         """The rows of types: a file of code, and those that it declares."""
-        return [f"| `{file}` | {', '.join(f'`{n}`' for n in sorted(names))} |" for file, names in sorted(self.types.items())]
+        rows = [(file, ", ".join(f"`{name}`" for name in sorted(names))) for file, names in self.types.items()]
+        return [f"| `{file}` | {names} |" for file, names in sorted(rows)]
 
 
 def not_believed(page, computed):
@@ -214,9 +216,9 @@ def counts(page, computed, write):
     for file in there:
         heading = BELIEVED if file in page.believed else STORAGE
         told, of = (page.believed | page.storage)[file]
-        row = rf"^(\| `{re.escape(file)}` \| )"
-        if told != lines_of(file):
-            faults.append((f"{file} has {lines_of(file)} lines, not {told}", heading, row + r"(\d+)( \|)", str(lines_of(file))))
+        row, now = rf"^(\| `{re.escape(file)}` \| )", lines_of(file)
+        if told != now:
+            faults.append((f"{file} has {now} lines, not {told}", heading, row + r"(\d+)( \|)", str(now)))
         if file in page.believed and of != computed.count(file):
             fault = f"of {file} {computed.count(file)} definitions are reached, not {of}"
             faults.append((fault, heading, row[:-1] + r"\d+ \| )([^|]*)( \|)", computed.count(file)))
@@ -225,8 +227,8 @@ def counts(page, computed, write):
         faults.append((f"the row of all is not {total}", BELIEVED, r"^(\| all \| )([^|]*\|[^|]*)( \|)", total))
     at, end = part(page.text, TYPES)
     if re.findall(r"^\| `.*", page.text[at:end], re.M) != computed.table():
-        rows = "\n".join(computed.table())
-        faults.append(("the table of types isn't\n" + rows, TYPES, r"(\| --- \| --- \|\n)((?:\|.*\n?)*)(.*)", rows + "\n"))
+        rows = "\n".join(computed.table()) + "\n"
+        faults.append(("the table of types isn't\n" + rows, TYPES, r"(\| --- \| --- \|\n)((?:\|.*\n?)*)(.*)", rows))
     if not write:
         return [fault[0] for fault in faults]
     for _, heading, pattern, value in faults:
@@ -258,7 +260,7 @@ def told(page, computed):
 
 
 def judged(tree, page, faults, write):
-    """All faults: those found before, then those of the page, and where there are none what the checker says."""
+    """Adds the faults of the page to those found before; where there are none, the checker's."""
     theorem, functions = tree.item(THEOREM, "the theorem"), roots(tree)
     found = tree.reached(start(tree, functions, theorem))
     computed = Computed(tree, found)

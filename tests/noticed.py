@@ -1,5 +1,5 @@
 #!/usr/bin/env python3
-"""Tries tests/believed.py and tests/theorem.py: each trick below is made in a scratch copy, and has to be told.
+"""Tries tests/believed.py and tests/theorem.py: each trick is made in a scratch copy and has to be told.
 
     tests/noticed.py
 """
@@ -34,7 +34,7 @@ ADDED = {"crates/read/specs/Other.antt": OTHER}
 TOLD = "read/specs/Other.antt isn't listed as believed, and the contract of read::read names its `other`"
 
 # A contract stated through a definition of an unlisted file, brought in by each shape of `use` line:
-# the shape, how the definition is then written, and lines of definitions before it.
+# the line, how the definition is then written, and files that pass it on.
 SHAPES = [
     ("ghost use Rattle.read.specs.Other.{other};", "other", {}),
     ("ghost use Rattle.read.specs.Other.{other as hidden};", "hidden", {}),
@@ -43,20 +43,21 @@ SHAPES = [
     ("ghost use Rattle.read.specs as s;", "s.Other.other", {}),
     ("ghost use Rattle.read.specs.{Reading.{answer as told}, Other.{other}};", "other", {}),
     ("ghost use Rattle.read.specs.{\n    Reading.beyondLimit,\n    Other.other as hidden,\n};", "hidden", {}),
-    ("ghost use Rattle.read.specs.declared.Reading.{Reading};\nghost use Rattle.read.specs.Other as Reading;",
-     "Reading.other", {}),
+    ("ghost use Rattle.read.specs.declared.Reading.{Reading};\n"
+     "ghost use Rattle.read.specs.Other as Reading;", "Reading.other", {}),
     ("", "Rattle.read.specs.Other.other", {}),
     ("", "package.Rattle.read.specs.Other.other", {}),
     ("ghost use Rattle.read.specs.Passed.{other};", "other",
      {"crates/read/specs/Passed.antt": "pub use Rattle.read.specs.Other.{other}\n"}),
     ("ghost use Rattle.read.specs.{other};", "other",
-     {"crates/read/specs/Lib.antt": "pub mod Structure\npub mod Reading\npub mod Work\npub mod Other\npub use Other.*\n"}),
+     {"crates/read/specs/Lib.antt": "pub mod Structure\npub mod Reading\npub mod Other\npub use Other.*\n"}),
 ]
 
 # The same through a believed definition, and what else the page is held to.
 PAGE = [
     ("crates/tidy/specs/Tidy.antt", "= lowest (min r s) rs", "= lowest (lesser r s) rs", None),
-    ("crates/tidy/specs/Tidy.antt", "use Rattle.paths.", "use Rattle.tidy.specs.Least.{lesser}\nuse Rattle.paths.", None),
+    ("crates/tidy/specs/Tidy.antt", "use Rattle.paths.",
+     "use Rattle.tidy.specs.Least.{lesser}\nuse Rattle.paths.", None),
     ("crates/tidy/specs/Least.antt", None,
      "use Prim.Native.Nat.{ℕ}\n\nabbrev pub lesser : ℕ → ℕ → ℕ\nlesser r s = r\n",
      "tidy/specs/Least.antt isn't listed as believed, and `lesser` in it is reached from"),
@@ -64,7 +65,8 @@ PAGE = [
      "`blank` of format/specs/Record.antt has a row as reached from nothing public, and is reached"),
     ("crates/format/specs/Kinds.antt", "abbrev pub zeros ", "abbrev pub spare : ℕ\nspare = 0\n\nabbrev pub zeros ",
      "`spare` of format/specs/Kinds.antt is reached from nothing public, and no row says why it stands there"),
-    ("crates/read/src/lib.rt", READING, f"{READING}\nghost use Rattle.layout.proofs.layout_of.Statement.{{statement}};", None),
+    ("crates/read/src/lib.rt", READING,
+     f"{READING}\nghost use Rattle.layout.proofs.layout_of.Statement.{{statement}};", None),
     ("crates/read/src/lib.rt", CONTRACT, "λ r. ⌜ (r ≡ reading (now (b .entry))) × statement ⌝",
      "Rattle.layout.proofs.layout_of.Statement.statement, which is made of a function's code, is reached from"),
     ("docs/MAP.md", "| `terminatorOf` |", "| `terminates` |",
@@ -82,8 +84,8 @@ IMPORTS = [
      "crates/machine/specs/Act.antt:4: `Rattle.inst.specs.Nowhere.kindOf` leads nowhere"),
     ("crates/blocks/specs/Blocks.antt", "use Rattle.format.specs.Record.{", "use Rattle.format.specs.Record.{absent, ",
      "`Rattle.format.specs.Record.absent` leads nowhere"),
-    ("crates/word/specs/Word.antt", "use mathlib.Core.Bool.{", "use mathlib.Core.Bool hiding (true)\nuse mathlib.Core.Bool.{",
-     "a `use` line of a shape that isn't known"),
+    ("crates/word/specs/Word.antt", "use mathlib.Core.Bool.{",
+     "use mathlib.Core.Bool hiding (true)\nuse mathlib.Core.Bool.{", "a `use` line of a shape that isn't known"),
     ("crates/small/src/lib.rt", "ghost use mathlib.Core.Path.{_≡_};", "ghost use mathlib.Core.Nowhere.{_≡_};",
      "`mathlib.Core.Nowhere._≡_` leads nowhere"),
     ("crates/real/specs/Real.antt", "(Nan b) (Number", "(Unknown b) (Number",
@@ -93,7 +95,8 @@ IMPORTS = [
 # What takes something without proof, in files that the theorem doesn't import.
 SCANNED = [
     ("crates/note/proofs/Lib.antt", "pub mod ", "pub mod Axioms\npub mod ", None),
-    ("crates/note/proofs/Axioms.antt", None, "axiom pub never : ⊥\n", "crates/note/proofs/Axioms.antt:1: an axiom is declared"),
+    ("crates/note/proofs/Axioms.antt", None, "axiom pub never : ⊥\n",
+     "crates/note/proofs/Axioms.antt:1: an axiom is declared"),
     ("crates/fill/proofs/Laws.antt", "use mathlib.Core.List.{", "use Prim.{\n  Axiom.{lem}\n}\nuse mathlib.Core.List.{",
      "an axiom is named: Axiom"),
     ("crates/gate/proofs/Lib.antt", "pub mod ", "pub mod Open\npub mod ", None),
@@ -118,7 +121,7 @@ NEVER = [
 ]
 
 
-# What each definition of a text cites: a, b, c, d, _⊕_, the type T and its constructor mk come from elsewhere.
+# What each definition of a text cites; mk is a constructor.
 TEXT = """\
 -- a b c d in a comment, and {- a block -} of one
 module _ (x : T) (a : T) where
@@ -243,7 +246,7 @@ def tricked(script, tricks):
 
 
 def through(folder, shape, name, more):
-    """Whether a contract stated through a definition of an unlisted file, brought in so, is told."""
+    """Whether it is told that a contract goes through a definition of an unlisted file."""
     own(folder, "crates/read", anew=True)
     for path, text in {**ADDED, **more}.items():
         edit(folder, path, None, text)

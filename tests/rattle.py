@@ -17,9 +17,10 @@ LITERAL = r"b?'(?:\\.|[^'\\\n])'|b?\"(?:\\.|[^\"\\])*\""
 NOTE = re.compile(rf"({LITERAL})|//[^\n]*|/\*.*?\*/", re.S)
 ITEM = re.compile(
     r"(?:#\[[^\]\n]*\]\s*)*"
-    r"(?:(?P<ghost>ghost use)\b|(?:pub\s+)?(?:(?P<use>use)|(?P<mod>mod)|(?P<type>struct|enum)|(?P<const>const)|(?P<alias>type)"
-    r"|(?P<impl>impl)|(?:(?P<extern>extern \"C\")\s+)?(?P<fn>fn))\b)"
+    r"(?:(?P<ghost>ghost use)\b|(?:pub\s+)?(?:(?P<use>use)|(?P<mod>mod)|(?P<type>struct|enum)"
+    r"|(?P<const>const)|(?P<alias>type)|(?P<impl>impl)|(?:(?P<extern>extern \"C\")\s+)?(?P<fn>fn))\b)"
 )
+RESULT = re.compile(r"\s*(?:->\s*(?P<type>[^{]+?)\s*(?=\{|\brequires\b|\bensures\b|\bghost\b))?", re.S)
 BRACKET = re.compile(rf"{LITERAL}|[(\[{{}}\])]")
 BUILT_IN = set("u8 u16 u32 u64 usize i8 i16 i32 i64 isize f32 f64 bool mut static".split())
 PATH = re.compile(r"'\w+|\d\w*|[A-Za-z_]\w*(?:::[A-Za-z_]\w*)*")
@@ -158,7 +159,8 @@ def read_type(code, text, found):
             rest = part[len(name):].strip()
             types += fields_in(rest, where) if rest[:1] in ("(", "{") and rest else []
     lines = line, text.count("\n", 0, end) + 1
-    code.types[head.group(1)] = Declared(kind, head.group(1), code.path, lines, variants, types, text[found.start():end])
+    name, whole = head.group(1), text[found.start():end]
+    code.types[name] = Declared(kind, name, code.path, lines, variants, types, whole)
     return end
 
 
@@ -172,7 +174,7 @@ def read_function(code, text, found, line):
     for part in parts_of(text[head.end() + 1:end - 1], where):
         name, _, kind = part.partition(":")
         parameters[re.sub(r"^mut\s+", "", name.strip())] = kind.strip()
-    word = re.compile(r"\s*(?:->\s*(?P<type>[^{]+?)\s*(?=\{|\brequires\b|\bensures\b|\bghost\b))?", re.S).match(text, end)
+    word = RESULT.match(text, end)
     result, at, clauses = word.group("type") or "", word.end(), []
     while True:
         clause = re.compile(r"\s*(requires|ensures|ghost)\b\s*(\w+)?\s*(?=\{)").match(text, at)

@@ -1,7 +1,7 @@
-"""Writes what was reached, and nothing else of the repository, as one crate, and has the checker read it.
+"""Writes what was reached, and nothing else of the repository, as one crate for the checker to read.
 
 The crate `slice` holds the reached definitions and types, word for word, each in a module of its
-file's name; the contracts that it was all reached from, on functions that only call themselves; and the
+file's name; the contracts that all was reached from, on functions that only call themselves; and the
 theorem's statement. Where the checker finds every name in it, nothing that a contract rests on is
 missing from what was reached.
 """
@@ -54,10 +54,11 @@ class Slice:
 
     def path_of(self, target, name):
         """The module and the name of a target in the slice."""
+        if isinstance(target, Tool):
+            return target.name[:-len(name) - 1], name
         if isinstance(target, Declaration):
             return ".".join((SPECS, *module_of(target.file))), name
-        crate, modules = place_of(target.file)
-        module = ".".join((SPECS, "declared", crate, *modules, target.name))
+        module = ".".join((SPECS, "declared", *parts_of(target.file), target.name))
         return (module, name) if name == target.name else (module + ".the-variants", name)
 
     def brought(self, scope, uses):
@@ -67,7 +68,7 @@ class Slice:
             if use.kind == "item":
                 target = self.tree.item(path, scope.where)
                 if self.has(target):
-                    module, name = (".".join(path[:-1]), path[-1]) if isinstance(target, Tool) else self.path_of(target, path[-1])
+                    module, name = self.path_of(target, path[-1])
                     yield f"use {module}.{{{name}{'' if name == use.name else ' as ' + use.name}}}"
             elif use.kind == "module" and self.keeps(path):
                 yield f"use {moved('.'.join(path) + '.').rstrip('.')} as {use.name}"
@@ -78,7 +79,7 @@ class Slice:
                         yield f"use {self.path_of(target, name)[0]}.{{{name}}}"
 
     def keeps(self, path):
-        """Whether a module of the repository has something in the slice; those of the toolchain stay."""
+        """Whether a module has something in the slice; those of the toolchain stay."""
         declared = self.tree.declared(path)
         file = self.tree.file_of(path)
         return self.has(declared[0]) if declared else file in self.definitions or os.path.isabs(file or "/")
@@ -113,13 +114,11 @@ class Slice:
         ]
 
     def code_of(self, file):
-        """A file of Rattle code with the types that were reached, and the functions whose contracts it was reached from."""
-        crate, modules = place_of(file)
-        code = self.tree.code(crate, modules)
-        lines = []
+        """A file of Rattle code with the types that were reached, and the functions to start from."""
+        code, lines = self.tree.code(*place_of(file)), []
         for name, path in code.uses.items():
-            if re.fullmatch("[A-Z].*", path[-1]) and self.has(kind := self.tree.type_of(code, crate, (name,))):
-                lines.append("use " + "::".join(("crate", *sum(map_place(kind.file), ()), kind.name)) + ";")
+            if re.fullmatch("[A-Z].*", path[-1]) and self.has(kind := self.tree.type_of(code, (name,))):
+                lines.append("use " + "::".join(("crate", *parts_of(kind.file), kind.name)) + ";")
         if self.roots.get(file):
             scope = Scope(self.tree, file, code.ghost)
             lines += [f"ghost {line};" for line in self.brought(scope, code.ghost)]
@@ -135,17 +134,17 @@ class Slice:
             antt[module_of(file)] = self.text_of(file)
         antt[("Stated",)] = self.statement()
         for file in {*self.types, *self.roots}:
-            code[sum(map_place(file), ())] = self.code_of(file)
+            code[parts_of(file)] = self.code_of(file)
         crate = os.path.join(folder, "slice")
         write_modules(os.path.join(crate, "specs"), antt, "Lib", ".antt", "pub mod {}")
         write_modules(os.path.join(crate, "src"), code, "lib", ".rt", "pub mod {};")
         return crate
 
 
-def map_place(file):
-    """The crate and modules of a file of code, as parts of a path."""
+def parts_of(file):
+    """The crate and modules of a file of code, as one path."""
     crate, modules = place_of(file)
-    return (crate,), modules
+    return crate, *modules
 
 
 def write_modules(folder, texts, root, end, line):

@@ -1,10 +1,11 @@
 """What a name leads to, in the repository's crates and in the toolchain's library.
 
-The name of a definition leads to a Declaration of antt.py, that of a type of the code to a Declared of
-rattle.py, one of the toolchain's library to a Tool, and one of what the prover makes of a function to a
-Made. Anything else, and an import that leads nowhere, is a Fault.
+The name of a definition leads to a Declaration of antt.py, that of a type of the code to a Declared
+of rattle.py, one of the toolchain's library to a Tool, and one of what the prover makes of a function
+to a Made. Anything else, and an import that leads nowhere, is a Fault.
 
-Where the text can't tell, more is taken as cited: of an operator's part all operators in scope that have it.
+Where the text can't tell, more is taken as cited: by an operator's part, all operators in scope that
+have it.
 """
 
 import functools
@@ -36,7 +37,7 @@ def kit():
 
 
 class Scope:
-    """What the names of a file mean: its declarations, then what it brings in, then what it is lent."""
+    """What a file's names mean: its declarations, then what it brings in, then what it is lent."""
 
     def __init__(self, tree, where, uses, module=(), declarations=(), mods=(), lent=frozenset()):
         self.tree, self.where, self.module, self.mods, self.lent = tree, where, module, mods, lent | PRELUDE
@@ -65,7 +66,7 @@ class Scope:
             self.parts.setdefault(piece, []).append((target, own or name))
 
     def absolute(self, path, use=None):
-        """A path from its library on: it may begin with a child of the module, or a name that a `use` line brings."""
+        """A path from its library on: it may begin with a child or with a name that a `use` line brings."""
         if path[0] == "package":
             return path[1:]
         if path[0] in self.mods:
@@ -93,7 +94,7 @@ class Scope:
         """What a name that is written here leads to."""
         where, found, path = f"{self.where}:{line}", self.single(parts[0]), self.absolute(parts)
         if len(parts) == 1 and not found:
-            raise Fault(f"{where}: the name `{parts[0]}` leads nowhere (if it is the prelude's: PRELUDE in tests/tree.py)")
+            raise Fault(f"{where}: the name `{parts[0]}` leads nowhere (the prelude's stand in tests/tree.py)")
         if len(parts) == 1 or found and (path == parts or parts[1] in members(found[0])):
             return found  # with a dot: a member of a type, or a field
         if path != parts or parts[0] == "package" or self.tree.is_library(path[0]):
@@ -101,7 +102,7 @@ class Scope:
         raise Fault(f"{where}: the name `{'.'.join(parts)}` leads nowhere")
 
     def is_constructor(self, name):
-        """Whether a name in a pattern is a constructor's; of one of the toolchain's it is taken to be."""
+        """Whether a name in a pattern is a constructor's; a name of the toolchain's is taken to be."""
         for target, own in self.brought(name):
             if isinstance(target, Declaration):
                 return own in target.constructors
@@ -111,7 +112,9 @@ class Scope:
 
 def members(target):
     """The names that a type's name may stand before, with a dot."""
-    return target.members if isinstance(target, Declaration) else target.variants if isinstance(target, Declared) else ()
+    if isinstance(target, Declared):
+        return target.variants
+    return target.members if isinstance(target, Declaration) else ()
 
 
 class Tree:
@@ -149,7 +152,7 @@ class Tree:
         return file if os.path.isfile(os.path.join(self.root, file)) else None
 
     def is_made(self, path):
-        """Whether a module is one that the prover makes of a function, of a cycle of them, or of a type's laws."""
+        """Whether the prover makes the module, of a function, of a cycle of them or of a type."""
         found = LIBRARY.match(path[0])
         if not found or path[1:2] != ("proofs",) or len(path) < 3:
             return False
@@ -249,7 +252,7 @@ class Tree:
         raise nowhere
 
     def tool(self, path, nowhere):
-        """A name of the toolchain's library, which must have it. A file that isn't read has every word of it."""
+        """A name of the toolchain's library, which must have it: any word of a file that can't be read."""
         for k in range(len(path) - 1, 0, -1):
             file = self.file_of(path[:k])
             if file:
@@ -284,10 +287,9 @@ class Tree:
         (citing.statement if statement else citing.declaration)(declaration)
         return [target for parts, line in citing.found.items() for target in scope.targets(parts, line)]
 
-    def type_of(self, code, crate, path):
+    def type_of(self, code, path):
         """The type that a name of Rattle code means."""
-        modules = tuple(code.path[:-len(".rt")].split("/")[3:])
-        modules = () if modules in (("lib",), ("main",)) else modules
+        crate, modules = place_of(code.path)
         if path[0] in code.uses:
             path = code.uses[path[0]] + path[1:]
         elif len(path) == 1 and path[0] in code.types:
@@ -297,7 +299,7 @@ class Tree:
         elif path[0] in code.aliases:
             raise Fault(f"{code.path}: `{path[0]}` is another name for a type: a shape that isn't known")
         if path[0] == "crate":
-            crate, path, modules = crate, path[1:], ()
+            path, modules = path[1:], ()
         elif path[0] in self.crates and path[0] not in code.mods:
             crate, path, modules = path[0], path[1:], ()
         elif path[0] == "super":
@@ -309,23 +311,22 @@ class Tree:
 
     def types_of(self, declared):
         """The types of a declared type's fields."""
-        crate, modules = place_of(declared.file)
-        code = self.code(crate, modules)
-        return [found for path in declared.types if (found := self.type_of(code, crate, path))]
+        code = self.code(*place_of(declared.file))
+        return [found for path in declared.types if (found := self.type_of(code, path))]
 
-    def contract(self, crate, code, function):
+    def contract(self, code, function):
         """What a function's contract and its types lead to."""
         scope = Scope(self, code.path, code.ghost, lent=frozenset(LENT))
         found = []
         for clause in function.clauses:
             where = f"{code.path}:{clause.line}"
             citing = Citing(where, scope.is_constructor)
-            bound = {word for name in function.parameters for word in (name, f"«{name}»")}
+            bound = {name if "_" not in name else f"«{name}»" for name in function.parameters}
             citing.walk(grouped(lex(clause.text, code.path, clause.line), where), bound)
             for parts, line in citing.found.items():
                 found += scope.targets(parts, line)
         for text in [*function.parameters.values(), function.result]:
-            found += [kind for path in types_in(text) if (kind := self.type_of(code, crate, path))]
+            found += [kind for path in types_in(text) if (kind := self.type_of(code, path))]
         return found
 
     def sources(self, crate):
@@ -336,7 +337,7 @@ class Tree:
             yield self.code(crate, modules)
 
     def reached(self, start):
-        """All that is led to from some targets, each with who cites it and what it was reached from."""
+        """All that some targets lead to, each with who cites it and what it was reached from."""
         met, found, queue = set(), [], deque(start)
         while queue:
             target, by, root = queue.popleft()
