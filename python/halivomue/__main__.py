@@ -1,4 +1,4 @@
-"""The commands: provision, audit and page."""
+"""The commands: provision, audit and page; show, explain and diff."""
 
 from __future__ import annotations
 
@@ -9,7 +9,7 @@ import signal
 import sys
 from typing import List, Optional
 
-from . import __version__, audit, filing, page, provision, report, work
+from . import __version__, audit, filing, look, page, provision, report, work
 from ._library import LibraryError
 from .filing import Failed
 
@@ -45,6 +45,13 @@ examples:
 
 ends with 0, or 2 where the page could not be made"""
 
+_LOOK = {
+    "show": ("a procedure by names, as sent or as shortened", "  python3 -m halivomue show --short lift-7.call"),
+    "explain": ("why a file is refused or untidy, and where", "  python3 -m halivomue explain lift-7.call"),
+    "diff": ("both forms side by side, with what was done", "  python3 -m halivomue diff lift-7.call"),
+}
+_LOOK_ENDS = "in colour on a terminal, unless NO_COLOR is set\nends with 0; 1 where a file is refused or can't be read; 2 where the command failed"
+
 
 def _jobs(text: str) -> int:
     number = int(text)
@@ -77,6 +84,13 @@ def parser() -> argparse.ArgumentParser:
     show.add_argument("--out", required=True, metavar="FILE", help="the page")
     show.add_argument("--draw", action="append", metavar="P", help="names to be drawn (default: all)")
     show.add_argument("--most", type=int, default=300, metavar="N", help="files to be drawn at most (default: %(default)s)")
+    for name, (what, example) in _LOOK.items():
+        look_at = commands.add_parser(name, help=what, epilog=f"example:\n{example}\n\n{_LOOK_ENDS}", formatter_class=raw)
+        look_at.add_argument("files", nargs="+", metavar="FILE", help="a procedure's file; - is standard input")
+        if name == "show":
+            look_at.add_argument("--short", action="store_true", help="the shortened form")
+        if name == "diff":
+            look_at.add_argument("--all", action="store_true", help="blocks that are unchanged too")
     return top
 
 
@@ -131,6 +145,11 @@ def _page(arguments: argparse.Namespace) -> int:
     return 0
 
 
+def _look(arguments: argparse.Namespace) -> int:
+    wanted = look.Wanted(arguments.command, getattr(arguments, "short", False), getattr(arguments, "all", False))
+    return look.main(wanted, arguments.files)
+
+
 class _Stopped(Exception):
     pass
 
@@ -146,7 +165,7 @@ def main(words: Optional[List[str]] = None) -> int:
             stream.reconfigure(encoding="utf-8", errors="backslashreplace")
     signal.signal(signal.SIGTERM, _stop)
     try:
-        return {"provision": _provision, "audit": _audit, "page": _page}[arguments.command](arguments)
+        return {"provision": _provision, "audit": _audit, "page": _page}.get(arguments.command, _look)(arguments)
     except (Failed, LibraryError) as error:
         why = str(error)
     except (KeyboardInterrupt, _Stopped):

@@ -1,0 +1,67 @@
+"""show, explain and diff: a text about each file."""
+
+from __future__ import annotations
+
+import os
+import shutil
+import sys
+from typing import List, NamedTuple, Sequence, Tuple
+
+from . import _library, causes, diff, explain, filing, names, show, styled
+from .answers import LONGEST, Refused
+from .procedure import Procedure
+
+#: Columns where the output is no terminal.
+_COLUMNS = 100
+
+
+class Wanted(NamedTuple):
+    """What is to be told: show, explain or diff, of the shortened form, with everything."""
+
+    command: str
+    short: bool = False
+    everything: bool = False
+
+
+def _read(name: str) -> bytes:
+    """A file's bytes, at most one more than the longest file has."""
+    if name == "-":
+        return sys.stdin.buffer.read(LONGEST + 1)
+    with open(name, "rb") as file:
+        return file.read(LONGEST + 1)
+
+
+def told(wanted: Wanted, data: bytes, name: str, width: int) -> Tuple[List[styled.Line], int]:
+    """The text about a file, and the number of its refusal, 0 where it isn't refused."""
+    if wanted.command == "explain":
+        return explain.lines(data, name, width)
+    try:
+        if wanted.command == "show":
+            return show.lines(data, name, wanted.short, width), 0
+        short = _library.shorten(data)
+        counts = short.moved, short.grown, short.fresh, short.rescued
+        compared = diff.compare(Procedure.parse(data), Procedure.parse(short.data), counts)
+        return diff.lines(compared, f"{name}: {short.counts}", width, wanted.everything), 0
+    except Refused as refused:
+        why = causes.reason(data, refused.number, refused.record)
+        return [[("title", f"{name}: "), ("bad", f"refused {refused.number} {refused.record}"), ("", f" ({why})")]], refused.number
+
+
+def main(wanted: Wanted, files: Sequence[str]) -> int:
+    """Prints the text about each file; 1 where one is refused or can't be read."""
+    _library.functions()
+    colour = styled.wants_colour(sys.stdout)
+    width = shutil.get_terminal_size((_COLUMNS, 24)).columns if sys.stdout.isatty() else _COLUMNS
+    status = 0
+    for number, file in enumerate(files):
+        name = names.quote(os.fsencode(file))
+        try:
+            lines, refused = told(wanted, _read(file), name, max(width, 60))
+        except OSError as error:
+            lines, refused = [[("title", f"{name}: "), ("bad", f"cannot be read: {filing.why(error)}")]], 1
+        out = sys.stderr if refused and len(lines) == 1 else sys.stdout
+        text = (styled.coloured if colour and out is sys.stdout else styled.plain)(lines)
+        print(("\n" if number and out is sys.stdout else "") + text, end="", file=out)
+        status = 1 if refused else status
+    sys.stdout.flush()
+    return status
