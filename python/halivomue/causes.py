@@ -131,7 +131,7 @@ class Cause(NamedTuple):
 _WORDS = {
     1: {
         "long": "the file is longer than 65536 bytes",
-        "odd": "the file has {length} bytes, which is 32 times {records}, and {over} more",
+        "odd": "the file has {length} bytes, {over} more than {records} times 32",
     },
     2: {
         "class": "record {at}: its class is {found}, and the classes are 1 to 6",
