@@ -2,6 +2,7 @@
 
 from __future__ import annotations
 
+from difflib import SequenceMatcher
 from itertools import zip_longest
 from typing import Dict, Iterator, List, NamedTuple, Optional, Sequence, Tuple
 
@@ -132,14 +133,15 @@ def _traced(sent: Procedure, trace: steps.Trace) -> Iterator[Block]:
 
 
 def _untraced(before: Sequence[Instruction], after: Sequence[Instruction]) -> Block:
-    """Two blocks by their lines alone: what they begin and end with alike is the same, the rest changed."""
-    most = min(len(before), len(after))
-    head = next((n for n in range(most) if before[n] != after[n]), most)
-    tail = next((n for n in range(most - head) if before[-1 - n] != after[-1 - n]), most - head)
-    gone, new = before[head : len(before) - tail], after[head : len(after) - tail]
-    same = [Row(a, b) for a, b in zip(before[:head], after[:head])]
-    rest = [Row(a, b) for a, b in zip(before[len(before) - tail :], after[len(after) - tail :])]
-    return Block((*same, *(Row(i, None, "gone") for i in gone), *(Row(None, i, "changed") for i in new), *rest))
+    """Two blocks by their lines alone: what is in both, in order, and the rest, which is changed."""
+    rows: List[Row] = []
+    matcher = SequenceMatcher(None, [i.record() for i in before], [i.record() for i in after], autojunk=False)
+    for what, a, a_end, b, b_end in matcher.get_opcodes():
+        if what == "equal":
+            rows += [Row(*pair) for pair in zip(before[a:a_end], after[b:b_end])]
+        else:
+            rows += [Row(i, None, "gone") for i in before[a:a_end]] + [Row(None, i, "changed") for i in after[b:b_end]]
+    return Block(tuple(rows))
 
 
 def compare(sent: Procedure, short: Procedure, counts: Optional[Tuple[int, int, int, int]] = None) -> Comparison:
