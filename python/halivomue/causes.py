@@ -253,6 +253,8 @@ def _of_tiling(records: Records, block: Record) -> Iterator[Cause]:
 
 def _of_terminator(records: Records, block: Record) -> Iterator[Cause]:
     code = records.of(INSTRUCTION)[block.p[0] : block.p[1]]
+    if not code:
+        return
     ends = [record for record in code if KINDS[record.kind].ends]
     told = {"at": block.at, "number": records.index(block), "last": code[-1].at}
     if not ends:
@@ -306,6 +308,8 @@ def causes(data: bytes, number: int, record: int) -> List[Cause]:
     told = records.all[record]
     if number == 2:
         return list(_of_record(told, records.all[record - 1].of if record else 1))
+    if told.of != {4: BLOCK, 5: BLOCK, 6: ARM}.get(number, told.of):
+        return []
     asked = {4: _of_tiling, 5: _of_terminator, 6: _of_arm, 7: _of_names}.get(number)
     return list(asked(records, told)) if asked else []
 

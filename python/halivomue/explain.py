@@ -36,9 +36,18 @@ def _place(place: causes.Place) -> str:
     return ": ".join(filter(None, (name, sort)))
 
 
+def _wanted(found: List[Cause]) -> Dict[str, str]:
+    """What the rule wants in each field that is wrong."""
+    wanted: Dict[str, List[str]] = {}
+    for cause in found:
+        for field in cause.fields:
+            wanted.setdefault(field, []).append(cause.wanted)
+    return {field: ", ".join(texts) for field, texts in wanted.items()}
+
+
 def _decoded(record: Record, found: List[Cause]) -> Iterator[Line]:
     """A record field by field, the wrong ones with what is wanted."""
-    wanted: Dict[str, str] = {field: cause.wanted for cause in reversed(found) for field in cause.fields}
+    wanted = _wanted(found)
     rows = list(_meanings(record))
     while rows[-1][1] == 0 and rows[-1][2] in ("", "not used") and rows[-1][0] not in wanted:
         rows.pop()
@@ -51,7 +60,7 @@ def _decoded(record: Record, found: List[Cause]) -> Iterator[Line]:
 
 def _counts(records: Records, found: List[Cause]) -> Iterator[Line]:
     """How many records there are of each class."""
-    wanted = {field: cause.wanted for cause in found for field in cause.fields}
+    wanted = _wanted(found)
     for of, name in CLASSES.items():
         style = "bad" if name in wanted else ""
         mark = f"  <- wanted: {wanted[name]}" if name in wanted else ""
@@ -61,7 +70,7 @@ def _counts(records: Records, found: List[Cause]) -> Iterator[Line]:
 def _ends(records: Records, block: Record, found: List[Cause]) -> Iterator[Line]:
     """The instruction of a block that is wrong, and the last one."""
     code = records.of(INSTRUCTION)[block.p[0] : block.p[1]]
-    wanted = {field: cause.wanted for cause in found for field in cause.fields}
+    wanted = _wanted(found)
     for record in code:
         field = f"record {record.at}"
         if field in wanted:
