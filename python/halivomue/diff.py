@@ -203,7 +203,7 @@ def lines(c: Comparison, head: str, width: int = 100, everything: bool = False) 
     if c.note:
         out += [[("" if c.traced else "bad", text)] for text in wrapped(c.note, width)]
     if shown:
-        out.append([("faint", f"  {'as sent':<{columns.left}}    shortened        {KEY}")])
+        out += [[("faint", "  " + KEY)], [("faint", f"  {'as sent':<{columns.left}}    shortened")]]
     at = 0
     while at < len(c.blocks):
         same = 0 if everything else _unchanged(c.blocks, at)

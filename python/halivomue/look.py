@@ -47,21 +47,31 @@ def told(wanted: Wanted, data: bytes, name: str, width: int) -> Tuple[List[style
         return [[("title", f"{name}: "), ("bad", f"refused {refused.number} {refused.record}"), ("", f" ({why})")]], refused.number
 
 
+def _print(lines: List[styled.Line], apart: bool) -> None:
+    """Prints a text, after an empty line if it is to be apart."""
+    text = (styled.coloured if styled.wants_colour(sys.stdout) else styled.plain)(lines)
+    try:
+        print(("\n" if apart else "") + text, end="", flush=True)
+    except BrokenPipeError:
+        # Who reads has seen enough.
+        os.dup2(os.open(os.devnull, os.O_WRONLY), 1)
+
+
 def main(wanted: Wanted, files: Sequence[str]) -> int:
     """Prints the text about each file; 1 where one is refused or can't be read."""
     _library.functions()
-    colour = styled.wants_colour(sys.stdout)
     width = shutil.get_terminal_size((_COLUMNS, 24)).columns if sys.stdout.isatty() else _COLUMNS
-    status = 0
-    for number, file in enumerate(files):
+    status, printed = 0, False
+    for file in files:
         name = names.quote(os.fsencode(file))
         try:
             lines, refused = told(wanted, _read(file), name, max(width, 60))
         except OSError as error:
-            lines, refused = [[("title", f"{name}: "), ("bad", f"cannot be read: {filing.why(error)}")]], 1
-        out = sys.stderr if refused and len(lines) == 1 else sys.stdout
-        text = (styled.coloured if colour and out is sys.stdout else styled.plain)(lines)
-        print(("\n" if number and out is sys.stdout else "") + text, end="", file=out)
+            lines, refused = [[("", f"{name}: cannot be read: {filing.why(error)}")]], 1
+        if refused and len(lines) == 1:
+            print(styled.plain(lines), end="", file=sys.stderr)
+        else:
+            _print(lines, printed)
+            printed = True
         status = 1 if refused else status
-    sys.stdout.flush()
     return status

@@ -5,7 +5,7 @@ from __future__ import annotations
 import html
 import os
 import textwrap
-from typing import IO, Iterable, List, Tuple
+from typing import IO, Callable, Iterable, List, Tuple
 
 #: A piece of a line: its style, or nothing, and its text.
 Span = Tuple[str, str]
@@ -17,15 +17,26 @@ STYLES = {
 }  # fmt: skip
 
 
+def _written(lines: Iterable[Line], span: Callable[[str, str], str]) -> str:
+    """The lines without spaces at their ends, each piece of a style written by `span`."""
+    out: List[str] = []
+    for line in lines:
+        pieces = list(line)
+        while pieces and not pieces[-1][1].strip():
+            pieces.pop()
+        if pieces:
+            pieces[-1] = pieces[-1][0], pieces[-1][1].rstrip()
+        out += [span(style, text) for style, text in pieces]
+        out.append("\n")
+    return "".join(out)
+
+
 def plain(lines: Iterable[Line]) -> str:
-    return "".join("".join(text for _, text in line).rstrip() + "\n" for line in lines)
+    return _written(lines, lambda _, text: text)
 
 
 def coloured(lines: Iterable[Line]) -> str:
-    def span(style: str, text: str) -> str:
-        return f"\x1b[{STYLES[style]}m{text}\x1b[0m" if style and text.strip() else text
-
-    return "".join("".join(span(*one) for one in line).rstrip() + "\n" for line in lines)
+    return _written(lines, lambda style, text: f"\x1b[{STYLES[style]}m{text}\x1b[0m" if style and text.strip() else text)
 
 
 def marked_up(lines: Iterable[Line]) -> str:
@@ -34,7 +45,7 @@ def marked_up(lines: Iterable[Line]) -> str:
     def span(style: str, text: str) -> str:
         return f'<span class="{style}">{html.escape(text)}</span>' if style and text.strip() else html.escape(text)
 
-    return "".join("".join(span(*one) for one in line).rstrip() + "\n" for line in lines)
+    return _written(lines, span)
 
 
 def wants_colour(out: IO[str]) -> bool:
