@@ -271,10 +271,11 @@ class Made(Case):
                 name = b.run(f"data.rows.findIndex(row => row[0] === '{long}')")
                 self.assertLessEqual(b.run("document.documentElement.scrollWidth"), width)
                 shown = b.run(f"[...document.querySelector('tr[data-file=\"{name}\"]').children].filter(td => td.textContent && td.textContent !== '0')"
-                              ".map(td => [td.getBoundingClientRect().left, td.getBoundingClientRect().right, td.offsetHeight])")
+                              ".map(td => [td.getBoundingClientRect().left, td.getBoundingClientRect().right, td.offsetHeight,"
+                              " td.scrollWidth - td.clientWidth])")
                 self.assertGreater(len(shown), 8)
-                for left, right, height in shown:
-                    self.assertTrue(0 <= left < right <= width and height > 0, (width, left, right, height))
+                for left, right, height, over in shown:
+                    self.assertTrue(0 <= left < right <= width and height > 0 and over <= 1, (width, left, right, height, over))
                 self.assertTrue(b.run("getComputedStyle(document.querySelector('.more')).display") == "none")
                 if width == 420:
                     b.run(f"open({b.run('data.rows.findIndex(row => row[0] === String.raw`printed.call`)')})")
