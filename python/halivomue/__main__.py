@@ -1,4 +1,4 @@
-"""The commands: provision, audit and page."""
+"""The commands: provision, audit and page; show, explain and diff."""
 
 from __future__ import annotations
 
@@ -7,9 +7,9 @@ import io
 import os
 import signal
 import sys
-from typing import List, Optional
+from typing import Callable, List, Optional
 
-from . import __version__, audit, filing, page, provision, report, work
+from . import __version__, audit, filing, look, page, provision, report, work
 from ._library import LibraryError
 from .filing import Failed
 
@@ -37,7 +37,9 @@ ends with 0; 1 where something was named; 2 where the audit itself failed"""
 
 _PAGE = """\
 Writes a page to look at: the totals, a table of the files, and for a file its control flow as sent and as
-shortened, drawn by graphviz's dot. It is one file and opens without a network.
+shortened, drawn by graphviz's dot, and what diff says of it. It is one file and opens without a network; its
+links lead to the files as long as the page stands where it was written. A file whose drawing would take too
+long, or that comes after --seconds are used up, has the text alone, and says why.
 
 examples:
   python3 -m halivomue page filed --out page.html
@@ -45,12 +47,23 @@ examples:
 
 ends with 0, or 2 where the page could not be made"""
 
+_LOOK = {
+    "show": ("a procedure by names, as sent or as shortened", "  python3 -m halivomue show --short lift-7.call"),
+    "explain": ("why a file is refused or untidy, and where", "  python3 -m halivomue explain lift-7.call"),
+    "diff": ("both forms side by side, with what was done", "  python3 -m halivomue diff lift-7.call"),
+}
+_LOOK_ENDS = "in colour on a terminal, unless NO_COLOR is set\nends with 0; 1 where a file is refused or can't be read; 2 where the command failed"
 
-def _jobs(text: str) -> int:
-    number = int(text)
-    if not 1 <= number <= 256:
-        raise argparse.ArgumentTypeError("from 1 to 256")
-    return number
+
+def _number(least: int, most: int) -> Callable[[str], int]:
+    """A whole number within bounds."""
+
+    def parsed(text: str) -> int:
+        if not text.isascii() or not text.isdigit() or not least <= int(text[:9]) <= most or len(text) > 9:
+            raise argparse.ArgumentTypeError(f"a number from {least} to {most} expected, not {text!r}")
+        return int(text)
+
+    return parsed
 
 
 def parser() -> argparse.ArgumentParser:
@@ -70,13 +83,21 @@ def parser() -> argparse.ArgumentParser:
     check.add_argument("filed", metavar="FILED")
     for command in (run, check):
         command.add_argument(
-            "--jobs", type=_jobs, default=work.default_jobs(), metavar="N", help="processes (default: %(default)s, the processors)"
+            "--jobs", type=_number(1, 256), default=work.default_jobs(), metavar="N", help="processes (default: %(default)s, the processors)"
         )
     show = commands.add_parser("page", help="make a page of what is filed", epilog=_PAGE, formatter_class=raw)
     show.add_argument("filed", metavar="FILED")
     show.add_argument("--out", required=True, metavar="FILE", help="the page")
     show.add_argument("--draw", action="append", metavar="P", help="names to be drawn (default: all)")
-    show.add_argument("--most", type=int, default=300, metavar="N", help="files to be drawn at most (default: %(default)s)")
+    show.add_argument("--most", type=_number(0, 1_000_000), default=300, metavar="N", help="files to be drawn at most (default: %(default)s)")
+    show.add_argument("--seconds", type=_number(0, 86_400), default=60, metavar="N", help="time for all drawings (default: %(default)s)")
+    for name, (what, example) in _LOOK.items():
+        look_at = commands.add_parser(name, help=what, epilog=f"example:\n{example}\n\n{_LOOK_ENDS}", formatter_class=raw)
+        look_at.add_argument("files", nargs="+", metavar="FILE", help="a procedure's file; - is standard input")
+        if name == "show":
+            look_at.add_argument("--short", action="store_true", help="the shortened form")
+        if name == "diff":
+            look_at.add_argument("--all", action="store_true", help="blocks that are unchanged too")
     return top
 
 
@@ -126,9 +147,14 @@ def _audit(arguments: argparse.Namespace) -> int:
 
 
 def _page(arguments: argparse.Namespace) -> int:
-    told = page.write(os.fsencode(arguments.filed).rstrip(b"/") or b"/", arguments.out, arguments.draw or ["*"], arguments.most)
-    print(told)
+    options = page.Options(arguments.draw or ["*"], arguments.most, arguments.seconds)
+    print(page.write(os.fsencode(arguments.filed).rstrip(b"/") or b"/", arguments.out, options))
     return 0
+
+
+def _look(arguments: argparse.Namespace) -> int:
+    wanted = look.Wanted(arguments.command, getattr(arguments, "short", False), getattr(arguments, "all", False))
+    return look.main(wanted, arguments.files)
 
 
 class _Stopped(Exception):
@@ -146,7 +172,7 @@ def main(words: Optional[List[str]] = None) -> int:
             stream.reconfigure(encoding="utf-8", errors="backslashreplace")
     signal.signal(signal.SIGTERM, _stop)
     try:
-        return {"provision": _provision, "audit": _audit, "page": _page}[arguments.command](arguments)
+        return {"provision": _provision, "audit": _audit, "page": _page}.get(arguments.command, _look)(arguments)
     except (Failed, LibraryError) as error:
         why = str(error)
     except (KeyboardInterrupt, _Stopped):

@@ -6,8 +6,7 @@ import os
 import sys
 from typing import Callable, Iterator, List, NamedTuple, Optional
 
-from . import _library, filing, names, report, work
-from .answers import reason
+from . import _library, causes, filing, names, report, work
 from .filing import Failed, Unreadable
 from .progress import Progress
 from .provision import Lock, State, described
@@ -70,7 +69,7 @@ def findings(filed: bytes, row: Row) -> List[str]:
         return found
     shortening, due = _library.shortened(sent)
     if shortening.number:
-        why = reason(shortening.number, shortening.record)
+        why = causes.reason(sent, shortening.number, shortening.record)
         return [*found, f"altered: the sent form is refused {shortening.number} {shortening.record} ({why})"]
     if short is None:
         return found
@@ -101,16 +100,9 @@ def _wrong_row(row: Row) -> Optional[str]:
         return f"there is no answer {row.answer!r}"
     if row.filed not in ("yes", "no", "earlier", "spoiled") or (row.answer == "accepted") != (row.filed == "yes"):
         return f"{row.answer} and filed {row.filed!r} don't go together"
-    if row.answer == "refused" and row.number is not None and row.reason != _reason(row):
+    if row.answer == "refused" and row.number is not None and not causes.fits(row.number, row.record or 0, row.reason):
         return "number, record and reason of the refusal don't go together"
     return None
-
-
-def _reason(row: Row) -> str:
-    try:
-        return reason(row.number or 0, row.record or 0)
-    except KeyError:
-        return ""
 
 
 def _own(name: bytes) -> bool:

@@ -3,7 +3,7 @@
 from __future__ import annotations
 
 from itertools import groupby
-from typing import TYPE_CHECKING, Any, Iterator, List
+from typing import TYPE_CHECKING, Any, List
 
 if TYPE_CHECKING:
     from .procedure import Instruction, Procedure, Table
@@ -82,11 +82,18 @@ def text(p: "Procedure", i: "Instruction") -> str:
     return form.format(op=i.op, sign=_SIGNS.get(i.op, ""), **fields)
 
 
-def _registers(p: "Procedure") -> Iterator[str]:
-    """Types of registers, rows of one type taken together."""
-    for name, numbers in groupby(range(len(p.registers)), key=p.registers.__getitem__):
+def brief(p: "Procedure", i: "Instruction") -> str:
+    """An instruction as `text` has it, a Case without the arms of its table."""
+    return text(p, i).partition(":")[0] if i.kind == "Case" else text(p, i)
+
+
+def registers_text(p: "Procedure", start: int = 0) -> str:
+    """Types of registers from a number on, rows of one type taken together."""
+    rows = []
+    for name, numbers in groupby(range(start, len(p.registers)), key=p.registers.__getitem__):
         row = list(numbers)
-        yield f"r{row[0]}" + (f" to r{row[-1]}" if row[1:] else "") + f" {name}"
+        rows.append(f"r{row[0]}" + (f" to r{row[-1]}" if row[1:] else "") + f" {name}")
+    return ", ".join(rows) or "none"
 
 
 def block_title(p: "Procedure", number: int) -> str:
@@ -95,7 +102,7 @@ def block_title(p: "Procedure", number: int) -> str:
 
 def listing(p: "Procedure") -> str:
     """The whole procedure: registers, then block by block statement and instruction."""
-    lines: List[str] = ["registers: " + (", ".join(_registers(p)) or "none")]
+    lines: List[str] = ["registers: " + registers_text(p)]
     wide = max((len(str(i.statement)) for i in p.code), default=1)
     for number, block in enumerate(p.blocks):
         lines.append(block_title(p, number) + ":")

@@ -10,8 +10,8 @@ import re
 import sys
 from typing import IO, Any, Callable, Iterator, List, NamedTuple, Optional, Set, Tuple, Union
 
-from . import _library, filing, names, report, work
-from .answers import reason, untidy_reason
+from . import _library, causes, filing, names, report, work
+from .answers import untidy_reason
 from .filing import Failed, Folder, Unreadable
 from .progress import Progress
 from .report import Row
@@ -184,7 +184,7 @@ class Filer:
         shortening, short = _library.shortened(sent)
         if shortening.number:
             number, record = shortening.number, shortening.record
-            return self.unfiled(task.name, "refused", reason(number, record), number, record)
+            return self.unfiled(task.name, "refused", causes.reason(sent, number, record), number, record)
         tidiness = _library.tidied(sent)
         if self.strict and not tidiness.tidy:
             return self.unfiled(task.name, "refused", untidy_reason(tidiness.reg) + " (--strict)")
