@@ -10,13 +10,12 @@ allows one declaration; else that is a failure.
 """
 
 import os
-import re
-import subprocess
 import sys
 import tempfile
 import time
 
-ROOT = os.path.dirname(os.path.dirname(os.path.dirname(os.path.abspath(__file__))))
+from scratch import ROOT, bytes_of, crates_under, proved, refused, repository, unfolded
+
 REFERENCE = os.path.join(ROOT, "tests", "reference")
 sys.path.insert(0, REFERENCE)
 from answers import answers  # noqa: E402
@@ -54,72 +53,9 @@ bytesIn (suc n) v = v % 256 ∷ bytesIn n (v / 256)
 """
 
 
-def bytes_of(data):
-    return f"(bytesIn {len(data)} {int.from_bytes(data, 'little'):#x})"
-
-
-def crates_under(crate):
-    """The crate and all that it is built on, in the order of crates.txt."""
-    lines = [line.split(":") for line in listed_crates() if ":" in line]
-    on = {name: uses.split() for name, uses in lines}
-    found, asked = set(), [crate]
-    while asked:
-        name = asked.pop()
-        if name in on and name not in found:
-            found.add(name)
-            asked += on[name]
-    return [name for name, _ in lines if name in found]
-
-
-def listed_crates():
-    with open(os.path.join(ROOT, "crates.txt")) as lines:
-        return [line for line in lines if not line.startswith("#")]
-
-
-def unfoldable(crates):
-    """All definitions that computing an answer may have to unfold: module and name."""
-    for name in "ofBits ofFields toBits eq".split():
-        yield "lib.Ieee", name
-    for crate in crates:
-        specs = os.path.join(ROOT, "crates", crate, "specs")
-        for folder, _, files in sorted(os.walk(specs)):
-            for name in sorted(files):
-                path = os.path.join(folder, name)
-                module = os.path.relpath(path, specs)[:-len(".antt")].replace(os.sep, ".")
-                with open(path) as text:
-                    for found in re.findall(r"^ *unfoldable pub (\S+) :", text.read(), re.M):
-                        yield f"Rattle.{crate}.specs.{module}", found
-
-
-def copy_of_kind(source, target, crates):
-    """What a folder of target/ holds of those crates."""
-    os.makedirs(target)
-    for name in os.listdir(source):
-        if name.split(".")[0] in crates:
-            subprocess.run(["cp", "-r", os.path.join(source, name), target], check=True)
-
-
-def repository(scratch, crates):
-    """A repository with those crates, already proved, and one more, `tried`; its specs' folder."""
-    for kind in os.listdir(os.path.join(ROOT, "target")):
-        copy_of_kind(os.path.join(ROOT, "target", kind), os.path.join(scratch, "target", kind), crates)
-    os.makedirs(os.path.join(scratch, "crates", "tried", "src"))
-    os.makedirs(os.path.join(scratch, "crates", "tried", "specs"))
-    for crate in crates:
-        os.symlink(os.path.join(ROOT, "crates", crate), os.path.join(scratch, "crates", crate))
-    with open(os.path.join(scratch, "crates.txt"), "w") as out:
-        out.writelines(line for line in listed_crates() if line.split(":")[0] in crates)
-        out.write("tried: " + " ".join(crates) + "\n")
-    with open(os.path.join(scratch, "crates", "tried", "src", "lib.rt"), "w") as out:
-        out.write("// Stored answers, computed.\n")
-    return os.path.join(scratch, "crates", "tried", "specs")
-
-
 def write_claims(specs, chosen, crates):
     """The claims, some in each file; the answers' names by the claims' labels."""
-    all_names = list(enumerate(unfoldable(crates)))
-    uses = "".join(f"\nuse {module}.{{{name} as u{at}}}" for at, (module, name) in all_names)
-    unfolding = " ".join(f"u{at}" for at, _ in all_names)
+    uses, unfolding = unfolded(crates)
     labels, modules = {}, []
     for first in range(0, len(chosen), A_FILE):
         module = f"Part{first // A_FILE}"
@@ -138,15 +74,9 @@ def tried(chosen, scratch):
     """The names of the answers that differ and of those not computed, or what rt said instead."""
     crates = crates_under(CRATE)
     labels = write_claims(repository(scratch, crates), chosen, crates)
-    told = subprocess.run(
-        ["rt", "check", "tried"], cwd=scratch, capture_output=True, text=True, env=dict(os.environ, RT_CUT="0")
-    )
-    text = told.stdout + told.stderr
     wrong, late = [], []
-    for label, said in re.findall(r"error: `(a\d+)`: (.*)", text):
+    for label, said in refused(scratch, r"a\d+"):
         (late if "step limit" in said else wrong).append(labels[label])
-    if told.returncode and not wrong + late:
-        sys.exit(text[-3000:])
     return wrong, late
 
 
@@ -165,9 +95,7 @@ def main(words):
         chosen = [a for a in stored if every or len(a.input) <= 150 * 32]
 
     start = time.time()
-    made = subprocess.run(["rt", "check", CRATE], cwd=ROOT, capture_output=True, text=True)
-    if made.returncode:
-        sys.exit(made.stdout + made.stderr)
+    proved(CRATE)
     with tempfile.TemporaryDirectory() as scratch:
         wrong, late = tried(chosen, scratch)
     for name in wrong:

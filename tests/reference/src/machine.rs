@@ -21,22 +21,42 @@ pub enum End {
     Outside,
 }
 
-/// The outside: a seeded rule of the earlier acts and this one.
+/// What a run meets: the outside, a rule of the earlier acts and this one, and what AddrOf writes.
+pub trait Outside {
+    /// The values for the `written` registers, or the end. Of too few the rest are 0, of too many they aren't used.
+    fn answer(&mut self, earlier: &[Act], act: &Act, written: usize) -> Option<Vec<u64>>;
+    /// The fixed function of space and off; `number` is 0 where the space carries none.
+    fn address(&self, space: u8, number: u32, off: u32) -> u64;
+}
+
+/// A seeded rule.
 #[derive(Clone, Copy)]
-pub struct Outside {
+pub struct Seeded {
     pub seed: u64,
     /// Ends the run on one act in this many.
     pub patience: u64,
+    /// A digest of the acts so far.
+    history: u64,
 }
 
-impl Outside {
-    /// The words for `n` written registers, or the end.
-    fn answer(self, history: u64, n: usize) -> Option<Vec<u64>> {
-        let mut g = Rng::new(self.seed ^ history);
+impl Seeded {
+    pub fn new(seed: u64, patience: u64) -> Seeded {
+        Seeded { seed, patience, history: 0 }
+    }
+}
+
+impl Outside for Seeded {
+    fn answer(&mut self, _: &[Act], act: &Act, written: usize) -> Option<Vec<u64>> {
+        self.history = digest(self.history, act);
+        let mut g = Rng::new(self.seed ^ self.history);
         if g.draw().is_multiple_of(self.patience) {
             return None;
         }
-        Some((0..n).map(|_| word(&mut g)).collect())
+        Some((0..written).map(|_| word(&mut g)).collect())
+    }
+
+    fn address(&self, space: u8, number: u32, off: u32) -> u64 {
+        Rng::new(u64::from(space) << 40 ^ u64::from(off) << 32 ^ u64::from(number)).draw()
     }
 }
 
@@ -45,22 +65,25 @@ pub fn word(g: &mut Rng) -> u64 {
     if g.chance(80) { g.below(3) as u64 } else { g.pick(&[7, u64::MAX, 1 << 63, 1 << 32]) }
 }
 
-pub struct Run<'a> {
+pub struct Run<'a, O> {
     f: &'a Procedure,
-    outside: Outside,
+    outside: O,
     pub registers: Vec<u64>,
     block: usize,
     place: usize,
-    /// A digest of the acts so far.
-    history: u64,
     pub acts: Vec<Act>,
     pub entries: usize,
     pub end: Option<End>,
 }
 
-impl<'a> Run<'a> {
-    pub fn new(f: &'a Procedure, outside: Outside, registers: Vec<u64>) -> Run<'a> {
-        Run { f, outside, registers, block: 0, place: 0, history: 0, acts: Vec::new(), entries: 1, end: None }
+impl<'a, O: Outside> Run<'a, O> {
+    pub fn new(f: &'a Procedure, outside: O, registers: Vec<u64>) -> Run<'a, O> {
+        Run { f, outside, registers, block: 0, place: 0, acts: Vec::new(), entries: 1, end: None }
+    }
+
+    /// The instructions of its block that are left.
+    pub fn left(&self) -> &'a [Record] {
+        &self.f.block(self.block)[self.place..]
     }
 
     fn go(&mut self, to: u32) {
@@ -74,7 +97,7 @@ impl<'a> Run<'a> {
         if self.end.is_some() {
             return;
         }
-        let i = self.f.block(self.block)[self.place];
+        let i = self.left()[0];
         self.place += 1;
         let get = |k: usize| self.registers[i.p[k - 1] as usize];
         let truth = |k: usize| get(k) != 0;
@@ -84,7 +107,7 @@ impl<'a> Run<'a> {
             kind::CASE => return self.go(self.chosen(i.p[1], get(1) as i64)),
             kind::RET => return self.end = Some(End::Ret((i.op == 1).then(|| get(1)), i.statement)),
             kind::UNREACHABLE => return self.end = Some(End::Unreachable(i.p[0], i.statement)),
-            kind::CONST | kind::CONST_F | kind::ADDR_OF => fixed(&i),
+            kind::CONST | kind::CONST_F | kind::ADDR_OF => fixed(&self.outside, &i),
             kind::MOVE => get(2),
             kind::SELECT => get(if truth(2) { 3 } else { 4 }),
             kind::CMP => u64::from(compares(i.op, get(2) as i64, get(3) as i64)),
@@ -110,13 +133,15 @@ impl<'a> Run<'a> {
         let plain = (0..6).filter(|&k| matches!(all[k], Place::Plain | Place::Byte)).map(|k| i.p[k]).collect();
         let read = self.f.read(i).map(|r| self.registers[r as usize]).collect();
         let act = Act { kind: i.kind, op: i.op, plain, read, statement: i.statement };
-        self.history = digest(self.history, &act);
-        self.acts.push(act);
         let written: Vec<u32> = self.f.written(i).collect();
-        match self.outside.answer(self.history, written.len()) {
-            Some(words) => written.iter().zip(words).for_each(|(&r, w)| self.registers[r as usize] = w),
+        match self.outside.answer(&self.acts, &act, written.len()) {
+            Some(words) => {
+                let words = words.into_iter().chain(std::iter::repeat(0));
+                written.iter().zip(words).for_each(|(&r, w)| self.registers[r as usize] = w);
+            }
             None => self.end = Some(End::Outside),
         }
+        self.acts.push(act);
     }
 }
 
@@ -141,23 +166,28 @@ fn compares(op: u8, a: i64, b: i64) -> bool {
 }
 
 /// What Const, ConstF or AddrOf writes.
-fn fixed(i: &Record) -> u64 {
+fn fixed(outside: &impl Outside, i: &Record) -> u64 {
     match i.kind {
-        kind::ADDR_OF => Rng::new(u64::from(i.op) << 40 ^ i.wide(2)).draw(),
+        kind::ADDR_OF => outside.address(i.op, i.p[1], i.p[2]),
         _ => i.wide(2),
     }
 }
 
-/// Starting registers: any words, and the original's single constants loaded.
-pub fn start(original: &Procedure, g: &mut Rng) -> Vec<u64> {
-    let mut words: Vec<u64> = original.registers.iter().map(|_| word(g)).collect();
+/// The single constants: the value of each register that one field writes, that of a Const, ConstF or AddrOf.
+pub fn single(original: &Procedure, outside: &impl Outside) -> Vec<Option<u64>> {
+    let mut values = vec![None; original.registers.len()];
     let writes = original.writes();
     for i in &original.code {
         if matches!(i.kind, kind::CONST | kind::CONST_F | kind::ADDR_OF) && writes[i.p[0] as usize] == 1 {
-            words[i.p[0] as usize] = fixed(i);
+            values[i.p[0] as usize] = Some(fixed(outside, i));
         }
     }
-    words
+    values
+}
+
+/// Registers at the start: words, with the original's single constants loaded.
+pub fn loaded(original: &Procedure, outside: &impl Outside, words: Vec<u64>) -> Vec<u64> {
+    words.into_iter().zip(single(original, outside)).map(|(word, single)| single.unwrap_or(word)).collect()
 }
 
 /// What a pair of runs met.
@@ -175,8 +205,9 @@ pub struct Met {
 /// the same acts and ended alike; and it does nothing else.
 pub fn demand_3(original: &Procedure, shortened: &Procedure, rescued: u32, seed: u64, n: usize) -> Result<Met, String> {
     let mut g = Rng::new(seed);
-    let outside = Outside { seed: g.draw(), patience: g.pick(&[8, 40, 1000]) };
-    let words = start(original, &mut g);
+    let outside = Seeded::new(g.draw(), g.pick(&[8, 40, 1000]));
+    let words = original.registers.iter().map(|_| word(&mut g)).collect();
+    let words = loaded(original, &outside, words);
     let mut longer = words.clone();
     longer.resize_with(shortened.registers.len(), || word(&mut g));
     let mut sent = Run::new(original, outside, words);
@@ -203,7 +234,7 @@ pub fn demand_3(original: &Procedure, shortened: &Procedure, rescued: u32, seed:
         sent.step();
     }
     let met = Met { end: sent.end, acts: sent.acts.len(), entries: sent.entries, at_bound };
-    let behind = |sent: &Run| sent.acts.len() < short.acts.len() || short.end.is_some() && sent.end.is_none();
+    let behind = |sent: &Run<Seeded>| sent.acts.len() < short.acts.len() || short.end.is_some() && sent.end.is_none();
     for _ in 0..64 * n {
         if !behind(&sent) {
             break;
