@@ -6,6 +6,7 @@ use mathlib.Core.List.{List}
 use lib.ListN.{length, take}
 use lib.Seq.{length-take-le}
 use Rattle.procedure.specs.Procedure.{Procedure}
+use Rattle.opened.proofs.Laws.{registers-sent}
 use Rattle.opened.specs.Opened.{Parts, Opened}
 use Rattle.store.specs.Store.{Bytes}
 use Rattle.layout.specs.declared.Layout.{Layout}
@@ -36,9 +37,9 @@ module _ (b : List ℕ) (l : Layout) (most blocks : ℕ) (work table kinds facts
       let fh = fits .heads in
       let fr = fits .registers in
       let fc = fits .code in
-      let oh = o .heads-length in
-      let or = o .registers-length in
-      let oc = o .code-length in
+      let oh = o .parted .coded .heads-length in
+      let or = registers-sent (o .parted) in
+      let oc = o .parted .coded .code-length in
       let ts = length-take-le (32 * nb) table (let t = room .all-heads in omega arith) in
       let fs = length-take-le (5 * nr) facts (let t = room .all-facts in omega arith) in
       let enough : Enough x s =

@@ -18,6 +18,7 @@ use Rattle.procedure.specs.Lists.{joined}
 use Rattle.blocks.proofs.Parts.{records-part}
 use Rattle.steps.specs.Run.{Shortened, run, armsJoined}
 use Rattle.steps.specs.Shorten.{shortened}
+use Rattle.opened.proofs.Laws.{registers-sent}
 use Rattle.opened.specs.Opened.{Parts, Opened}
 use Rattle.run.specs.Ran.{Left, Stays}
 use Rattle.run.proofs.Lent as r
@@ -44,15 +45,15 @@ records-take b n = by (order (length b / 32) n)
 -- where no step does anything, the parts as they were sent are the result
 pub sent-run : (p : Procedure) (x : Parts) → Opened p x → StaysIn x → (out : List ℕ) → sentIn x out ≡ shortened (run p) out
 sent-run p x o s out =
-    let same = stays-run p x o (subst (λ (b : Option ℕ). Stays b (x .code) (x .heads)) (o .body) s) in
-    still-written p x o (p .blocks) (x .code) false out same (o .code-records) refl
+    let same = stays-run p x o (subst (λ (b : Option ℕ). Stays b (x .code) (x .heads)) (o .parted .body) s) in
+    still-written p x o (p .blocks) (x .code) false out same (o .parted .coded .code-records) refl
 
 module _ (p : Procedure) (x : Parts) (o : Opened p x) (s : Lent) (e : Enough x s) (bytes : Bytes (s .work)) where
   size : sizeOf x ≡ length (joined (p .blocks))
-  size = let c = o .code-length in omega arith
+  size = let c = o .parted .coded .code-length in omega arith
 
   code-fits : length (x .code) ≤ length (s .work)
-  code-fits = let c = o .code-length in let n = size in let w = e .work in omega arith
+  code-fits = let c = o .parted .coded .code-length in let n = size in let w = e .work in omega arith
 
   lent : r.Lent p x (firstOf (map (λ r. r .p1) (recordsOf (x .body)))) (s .known) (s .copy) (sizeOf x)
       (fronted (s .work) (x .code)) (fronted (s .table) (x .heads)) (s .kinds) (s .facts)
@@ -65,15 +66,15 @@ module _ (p : Procedure) (x : Parts) (o : Opened p x) (s : Lent) (e : Enough x s
       let v = e .word in
       let k = e .kinds in
       let f = e .facts in
-      let g = o .registers-length in
+      let g = registers-sent (o .parted) in
       let a = e .known in
       let c = e .copy in
       record {
         opened = o;
-        body-is = o .body;
+        body-is = o .parted .body;
         n-is = n;
         code = fronted-first (s .work) (x .code) code-fits;
-        bytes = fronted-bytes (s .work) (x .code) bytes (o .code-bytes);
+        bytes = fronted-bytes (s .work) (x .code) bytes (o .parted .coded .code-bytes);
         heads = sym (take-all (length (x .heads)) (fronted (s .table) (x .heads)) (omega arith)) ∙ fronted-first (s .table) (x .heads) (omega arith);
         space = omega arith;
         words = omega arith;
@@ -93,8 +94,8 @@ module _ (p : Procedure) (x : Parts) (o : Opened p x) (s : Lent) (e : Enough x s
         let long = z .long .table in
         let wide = fronted-length (s .table) (x .heads) (let t = e .table in omega arith) in
         let t = e .table in
-        let heads = o .heads-length in
-        let few = o .well-formed .blocks in
+        let heads = o .parted .coded .heads-length in
+        let few = o .parted .well-formed .blocks in
         let kinds = z .long .kinds in
         let fresh = z .long .fresh in
         emitted-written p x o (l .store) (l .facts) (length (joined (p .blocks)) / 2 + 32) (omega arith) (z .stored .canonical)

@@ -26,6 +26,7 @@ use Rattle.emit.specs.Emitted.{headsFrom}
 use Rattle.thread.specs.Storage.{Store}
 use Rattle.thread.proofs.Refined.{workOf}
 use Rattle.sized.proofs.Laws.{run-sized}
+use Rattle.opened.proofs.Laws.{kinds-sent}
 use Rattle.opened.specs.Opened.{Parts, Opened}
 use Rattle.output.specs.Filed.{filed, counts, sameRecords, short, kindRecords, keptIn, leftIn, emitRecords, emittedIn}
 use Rattle.shortening.proofs.Emitting.{kept-is, left-is, code-is, heads-is}
@@ -58,8 +59,8 @@ module _ (p : Procedure) (x : Parts) (o : Opened p x) where
 
   tail-is : recordsOf (x .operands) ++ recordsOf (x .arms) ≡ tail
   tail-is =
-      ap (λ (l : List Record). l ++ recordsOf (x .arms)) (o .operand-records)
-      ∙ ap (λ (l : List Record). map (λ r. operandRecord (regOf r)) (p .operands) ++ l) (o .arm-records)
+      ap (λ (l : List Record). l ++ recordsOf (x .arms)) (o .parted .operand-records)
+      ∙ ap (λ (l : List Record). map (λ r. operandRecord (regOf r)) (p .operands) ++ l) (o .parted .arm-records)
 
   -- blocks as long as those sent
   same-records : (code : List ℕ) (B : List (List Code)) → recordsOf code ≡ map recordOf (joined B) → blockRecords 0 B ≡ blockRecords 0 (p .blocks)
@@ -68,11 +69,11 @@ module _ (p : Procedure) (x : Parts) (o : Opened p x) where
   same-records code B c h =
       sym
       (ap (λ (l : List Record). l ++ (recordsOf (x .heads) ++ (recordsOf (x .body) ++ (recordsOf code ++ (recordsOf (x .operands) ++ recordsOf (x .arms))))))
-      (o .register-records)
+      (o .parted .register-records ∙ ap (map (λ k. registerRecord (regTyOf k))) (kinds-sent (o .parted)))
       ∙ ap (λ (l : List Record). registers ++ (l ++ (recordsOf (x .body) ++ (recordsOf code ++ (recordsOf (x .operands) ++ recordsOf (x .arms))))))
-      (o .head-records ∙ sym h)
+      (o .parted .coded .head-records ∙ sym h)
       ∙ ap (λ (l : List Record). registers ++ (blockRecords 0 B ++ (l ++ (recordsOf code ++ (recordsOf (x .operands) ++ recordsOf (x .arms))))))
-      (o .body-records)
+      (o .parted .body-records)
       ∙ ap (λ (l : List Record). registers ++ (blockRecords 0 B ++ (bodyRecords (p .body) ++ (l ++ (recordsOf (x .operands) ++ recordsOf (x .arms)))))) c
       ∙ ap (λ (l : List Record). registers ++ (blockRecords 0 B ++ (bodyRecords (p .body) ++ (map recordOf (joined B) ++ l)))) tail-is)
     where
@@ -100,16 +101,16 @@ module _ (p : Procedure) (x : Parts) (o : Opened p x) where
         → emitRecords (s .work) (s .table) (x .arms) facts (x .registers) kinds (x .body) (x .operands) ≡ recordsFor emitted
     unfolding recordsFor
     emitted-records small =
-        ap (λ (l : List Record). l ++ (kindRecords kinds ++ (heads ++ (recordsOf (x .body) ++ (k ++ (joined l′ ++ behind)))))) (o .register-records)
+        ap (λ (l : List Record). l ++ (kindRecords kinds ++ (heads ++ (recordsOf (x .body) ++ (k ++ (joined l′ ++ behind)))))) (o .parted .register-records ∙ ap (map (λ k. registerRecord (regTyOf k))) (kinds-sent (o .parted)))
         ∙ sym (append-assoc registers (kindRecords kinds) (heads ++ (recordsOf (x .body) ++ (k ++ (joined l′ ++ behind)))))
         ∙ ap (λ (l : List Record). l ++ (heads ++ (recordsOf (x .body) ++ (k ++ (joined l′ ++ behind)))))
         (sym (map-append (λ k. registerRecord (regTyOf k)) (p .registers) kinds))
         ∙ ap (λ (l : List Record). all ++ (l ++ (recordsOf (x .body) ++ (k ++ (joined l′ ++ behind)))))
-        (heads-is (s .work) (s .table) (x .arms) facts (p .body) budget few (o .numbered-arms) canonical small)
-        ∙ ap (λ (l : List Record). all ++ (blockRecords 0 (ontoFront kept rest) ++ (l ++ (k ++ (joined l′ ++ behind))))) (o .body-records)
+        (heads-is (s .work) (s .table) (x .arms) facts (p .body) budget few (o .parted .numbered-arms) canonical small)
+        ∙ ap (λ (l : List Record). all ++ (blockRecords 0 (ontoFront kept rest) ++ (l ++ (k ++ (joined l′ ++ behind))))) (o .parted .body-records)
         ∙ ap (λ (l : List Record). all ++ (blockRecords 0 (ontoFront kept rest) ++ (bodyRecords (p .body) ++ l)))
         (sym (append-assoc k (joined l′) behind)
-        ∙ ap (λ (l : List Record). l ++ behind) (code-is (s .work) (s .table) (x .arms) facts (p .body) budget few (o .numbered-arms) canonical)
+        ∙ ap (λ (l : List Record). l ++ behind) (code-is (s .work) (s .table) (x .arms) facts (p .body) budget few (o .parted .numbered-arms) canonical)
         ∙ ap (λ (l : List Record). map recordOf (joined (ontoFront kept rest)) ++ l) tail-is)
       where
         registers : List Record
@@ -134,7 +135,7 @@ module _ (p : Procedure) (x : Parts) (o : Opened p x) where
     emit-is : (B : List (List Code)) → emit (factsIn facts (p .body) budget) (withBlocks p B) (workOf s)
         ≡ record { procedure = emitted; moved = true; grown = s .at .grown; fresh = length kinds; rescued = length kept }
     unfolding emit
-    emit-is B = ap (λ t. emitMarked (factsIn facts (p .body) budget) (withBlocks p B) (workOf s) (reached t (blocksOf (s .work) (s .table)))) (sym (o .tables))
+    emit-is B = ap (λ t. emitMarked (factsIn facts (p .body) budget) (withBlocks p B) (workOf s) (reached t (blocksOf (s .work) (s .table)))) (sym (o .parted .tables))
 
     -- what is written of it
     pub emitted-written : (B : List (List Code)) (out : List ℕ) → run p ≡ emit (factsIn facts (p .body) budget) (withBlocks p B) (workOf s)
@@ -144,7 +145,7 @@ module _ (p : Procedure) (x : Parts) (o : Opened p x) where
         ≡ shortened (run p) out
     emitted-written B out e h =
         let is = e ∙ emit-is B in
-        let z = run-sized p (o .well-formed) in
+        let z = run-sized p (o .parted .well-formed) in
         let n = o .few-code in
         let code = ap (λ r. length (joined (r .procedure .blocks))) is in
         let c = z .code in
@@ -156,7 +157,7 @@ module _ (p : Procedure) (x : Parts) (o : Opened p x) where
         let rescued = ap (λ r. r .rescued) is in
         let small : length (joined (ontoFront kept rest)) ≤ 4294967295 = omega arith in
         let all : min (s .at .fresh) (length (s .kinds)) ≡ s .at .fresh = omega arith in
-        let m = ap length (kept-is (s .work) (s .table) (x .arms) facts (p .body) budget few (o .numbered-arms) canonical) ∙ length-map kept recordOf in
+        let m = ap length (kept-is (s .work) (s .table) (x .arms) facts (p .body) budget few (o .parted .numbered-arms) canonical) ∙ length-map kept recordOf in
         ap (λ (k : ℕ). emittedIn (s .work) (s .table) (x .arms) facts (x .registers) (take k (s .kinds)) (x .body)
         (x .operands) (short (s .at .grown)) out) all
         ∙ result (run p) (emitRecords (s .work) (s .table) (x .arms) facts (x .registers) kinds (x .body) (x .operands))
