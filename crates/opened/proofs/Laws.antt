@@ -1,7 +1,7 @@
 -- A file is opened into its parts, which hold its procedure; code and block table exchanged, the parts hold another.
 use Prim.Native.Nat.{ℕ, _*_, _-_, _/_}
 use native.Mathlib.Omega.{arith}
-use mathlib.Core.Path.{_≡_, sym, ap, _∙_}
+use mathlib.Core.Path.{_≡_, sym, ap, subst, _∙_}
 use mathlib.Core.Bool.{true}
 use mathlib.Core.List.{List, [], _++_, map, map-map, append-nil}
 use mathlib.Core.Option.{Option}
@@ -26,12 +26,13 @@ use Rattle.procedure.specs.Lists.{joined}
 use Rattle.blocks.specs.Blocks.{blocksOf, Canonical}
 use Rattle.blocks.specs.Rewrite.{Tiled}
 use Rattle.blocks.proofs.Canonical.{right-canonical}
-use Rattle.steps.specs.Write.{blockRecords, bodyRecords, tableRecords, recordsFor}
+use Rattle.steps.specs.Write.{blockRecords, bodyRecords, tableRecords, recordsFor, bytesOf}
 use Rattle.facts.specs.Storage.{kindsOf, operandsIn}
 use Rattle.round.specs.WellFormed.{All, armCount, WellFormed}
 use Rattle.round.proofs.Lists.{all-at, all-both}
 use Rattle.round.proofs.Accepted.{Accepted, read-accepted}
-use Rattle.round.proofs.Bytes.{records-fit}
+use Rattle.round.proofs.Blocks.{length-blocks}
+use Rattle.round.proofs.Bytes.{records-fit, bytes-length, records-back}
 use Rattle.round.proofs.Sections.{all-right, all-of, all-class}
 use Rattle.round.proofs.Tables.{length-arms}
 use Rattle.round.proofs.FromRecords.{n-registers, n-code, well-formed}
@@ -63,6 +64,35 @@ module _ (rs : List Record) (a : Accepted rs) (code heads : List ℕ) (c : recor
       let all : All (λ r. (right r ≡ true) × (r .class ≡ 4)) (recordsOf code) = rw c each in
       right-canonical code heads b (λ k i. all-at (λ r. (right r ≡ true) × (r .class ≡ 4)) (recordsOf code) blank all k (omega arith))
 
+-- the records of a well-formed procedure's code and block table
+module _ (q : Procedure) (w : WellFormed q) where
+  code-class : map recordOf (joined (q .blocks)) ≡ ofClass 4 (recordsFor q)
+  code-class =
+      sym (ap (λ (q : Procedure). map recordOf (joined (q .blocks))) (procedure-same q w))
+      ∙ Written.code-same (recordsFor q) (records-accepted q w) (fits-for q w)
+
+  head-class : blockRecords 0 (q .blocks) ≡ ofClass 2 (recordsFor q)
+  head-class =
+      sym (ap (λ (q : Procedure). blockRecords 0 (q .blocks)) (procedure-same q w))
+      ∙ Written.blocks-same (recordsFor q) (records-accepted q w) (fits-for q w)
+
+  -- in bytes as they are written
+  pub coded-by : (code heads : List ℕ) → Bytes code → Bytes heads
+      → code ≡ bytesOf (map recordOf (joined (q .blocks))) → heads ≡ bytesOf (blockRecords 0 (q .blocks)) → Coded (q .blocks) code heads
+  coded-by code heads bc bh c h =
+      let C = map recordOf (joined (q .blocks)) in
+      let B = blockRecords 0 (q .blocks) in
+      let fc : All Fits C = subst (All Fits) (sym code-class) (all-of Fits 4 (recordsFor q) (fits-for q w)) in
+      let fb : All Fits B = subst (All Fits) (sym head-class) (all-of Fits 2 (recordsFor q) (fits-for q w)) in
+      record {
+        code-bytes = bc;
+        heads-bytes = bh;
+        code-length = ap length c ∙ bytes-length C ∙ ap (λ (n : ℕ). 32 * n) (length-map (joined (q .blocks)) recordOf);
+        heads-length = ap length h ∙ bytes-length B ∙ ap (λ (n : ℕ). 32 * n) (length-blocks 0 (q .blocks));
+        code-records = ap recordsOf c ∙ records-back C fc;
+        head-records = ap recordsOf h ∙ records-back B fb;
+      }
+
 -- what a step that changes code, block table or new registers owes: the parts then hold the procedure that it leaves
 pub exchanged : {p : Procedure} {x : Parts} {kinds : List ℕ} → Holds p x kinds → (q : Procedure) {code heads kinds′ : List ℕ} → WellFormed q
     → kindsOf (x .registers) ++ kinds′ ≡ q .registers → p .body ≡ q .body → p .operands ≡ q .operands → p .tables ≡ q .tables
@@ -70,10 +100,8 @@ pub exchanged : {p : Procedure} {x : Parts} {kinds : List ℕ} → Holds p x kin
 exchanged {x = x} h q {code} {heads} w r b o t c =
     let rs = recordsFor q in
     let a = records-accepted q w in
-    let f = fits-for q w in
-    let same = procedure-same q w in
-    let cs = c .code-records ∙ sym (ap (λ (q : Procedure). map recordOf (joined (q .blocks))) same) ∙ Written.code-same rs a f in
-    let hs = c .head-records ∙ sym (ap (λ (q : Procedure). blockRecords 0 (q .blocks)) same) ∙ Written.blocks-same rs a f in
+    let cs = c .code-records ∙ code-class q w in
+    let hs = c .head-records ∙ head-class q w in
     record {
       well-formed = w;
       coded = c;
@@ -82,7 +110,7 @@ exchanged {x = x} h q {code} {heads} w r b o t c =
       operands-length = h .operands-length ∙ ap (λ (o : List ℕ). 32 * length o) o;
       arms-length = h .arms-length ∙ ap (λ (t : List Table). 32 * armCount t) t;
       registers = r;
-      blocks = blocks-are rs a code heads cs hs ∙ ap (λ (q : Procedure). q .blocks) same;
+      blocks = blocks-are rs a code heads cs hs ∙ ap (λ (q : Procedure). q .blocks) (procedure-same q w);
       tiled = tile rs a code heads cs hs;
       canonical = canonical-is rs a code heads cs hs (c .code-bytes);
       body = h .body ∙ b;

@@ -1,50 +1,47 @@
 -- Storage of some size is enough for a file that fits it.
 use Prim.Native.Nat.{ℕ, _*_, _/_, _≤_, min}
 use native.Mathlib.Omega.{arith}
-use mathlib.Core.Path.{_≡_, ap, _∙_}
+use mathlib.Core.Path.{_≡_, ap}
 use mathlib.Core.List.{List}
 use lib.ListN.{length, take}
 use lib.Seq.{length-take-le}
 use Rattle.procedure.specs.Procedure.{Procedure}
 use Rattle.opened.proofs.Laws.{registers-sent}
 use Rattle.opened.specs.Opened.{Parts, Opened}
-use Rattle.store.specs.Store.{Bytes}
 use Rattle.layout.specs.declared.Layout.{Layout}
-use Rattle.steps.specs.declared.Answer.{Answer}
 use Rattle.opened.specs.Opened.{partsOf}
 use Rattle.opened.proofs.Few.{opened-few}
 use Rattle.opened.proofs.Parts.{length-of}
-use Rattle.output.specs.Filed.{outcome}
-use Rattle.shortening.specs.Storage.{lent, shortIn, Enough}
-use Rattle.shortening.proofs.Shortened.{short-run}
-use Rattle.shorten.specs.Storage.{Room, Fits, Done}
+use Rattle.shortening.specs.Storage.{lent, Enough, Staging}
+use Rattle.shorten.specs.Storage.{Room, Fits}
 
 -- storage for so many registers, instructions and blocks, lent as far as the file needs it
-module _ (b : List ℕ) (l : Layout) (most blocks : ℕ) (work table kinds facts : List ℕ) (known copy : ℕ) (bytes : Bytes work)
-    (room : Room most blocks (length work) (length table) (length kinds) known copy (length facts)) where
+module _ (b : List ℕ) (l : Layout) (most blocks : ℕ) (work table kinds facts heads : List ℕ) (known copy staged : ℕ)
+    (room : Room most blocks (length work) (length table) (length kinds) known copy (length facts) staged (length heads))
+    {nb nr : ℕ} {sent registers : List ℕ}
+    (h : sent ≡ partsOf b l .heads) (i : nb ≡ min (length sent / 32) blocks) (g : registers ≡ partsOf b l .registers) (j : nr ≡ min (length registers / 32) most)
+    (fits : Fits most blocks (partsOf b l)) (p : Procedure) (o : Opened p (partsOf b l)) where
   abbrev x : Parts
   x = partsOf b l
 
-  pub tier : (out : List ℕ) {nb nr : ℕ} {heads registers out′ : List ℕ} {r : Answer}
-      → heads ≡ x .heads → nb ≡ min (length heads / 32) blocks → registers ≡ x .registers → nr ≡ min (length registers / 32) most
-      → outcome r out′ ≡ shortIn x (lent work (take (32 * nb) table) kinds (take (5 * nr) facts) known copy) out
-      → Fits most blocks x
-      → Done x r out out′
-  tier out {nb} {nr} {heads} {registers} h i g j e fits p o =
-      let s = lent work (take (32 * nb) table) kinds (take (5 * nr) facts) known copy in
+  pub enough : Enough x (lent work (take (32 * nb) table) kinds (take (5 * nr) facts) known copy)
+  enough =
       let hs = ap (λ (y : List ℕ). length y) h in
       let rs = ap (λ (y : List ℕ). length y) g in
-      let fh = fits .heads in
-      let fr = fits .registers in
-      let fc = fits .code in
       let oh = o .parted .coded .heads-length in
       let or = registers-sent (o .parted) in
       let oc = o .parted .coded .code-length in
       let ts = length-take-le (32 * nb) table (let t = room .all-heads in omega arith) in
       let fs = length-take-le (5 * nr) facts (let t = room .all-facts in omega arith) in
-      let enough : Enough x s =
-      record { work = omega arith; word = omega arith; table = omega arith; kinds = omega arith; facts = omega arith; known = omega arith; copy = omega arith } in
-      e ∙ short-run p x o s enough bytes out
+      record { work = omega arith; word = omega arith; table = omega arith; kinds = omega arith; facts = omega arith; known = omega arith; copy = omega arith }
+
+  pub staging : Staging x staged (length (take (32 * nb) heads))
+  staging =
+      let hs = ap (λ (y : List ℕ). length y) h in
+      let oh = o .parted .coded .heads-length in
+      let oc = o .parted .coded .code-length in
+      let ts = length-take-le (32 * nb) heads (let t = room .all-staged-heads in omega arith) in
+      record { code-room = omega arith; heads-room = omega arith }
 
 -- every file has at most 160 blocks
 pub blocks-fit : {n m : ℕ} (p : Procedure) (x : Parts) → Opened p x → Fits n m x → Fits n 160 x

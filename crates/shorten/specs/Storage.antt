@@ -11,7 +11,7 @@ use Rattle.opened.specs.Opened.{Parts, Opened}
 use Rattle.output.specs.Filed.{outcome}
 
 -- the lengths of storage that is enough for so many registers and instructions, and so many blocks
-pub record Room (most blocks work table kinds known copy facts : ℕ) : Type 0 where
+pub record Room (most blocks work table kinds known copy facts staged heads : ℕ) : Type 0 where
   pub few : most ≤ 480
   pub all-work : work ≡ 32 * (2 * most + (3 * most / 8 + 27))
   pub all-heads : table ≡ 32 * blocks
@@ -19,6 +19,8 @@ pub record Room (most blocks work table kinds known copy facts : ℕ) : Type 0 w
   pub all-known : known ≡ 2 * (most + 15)
   pub all-copies : copy ≡ 2 * (most + 15)
   pub all-facts : facts ≡ 5 * most
+  pub all-staged : staged ≡ 32 * (most + most / 2 + 36)
+  pub all-staged-heads : heads ≡ 32 * blocks
 
 -- no more than so many registers and instructions, and so many blocks
 pub record Fits (most blocks : ℕ) (x : Parts) : Type 0 where

@@ -54,9 +54,11 @@ fn shorten_over(
     known: &mut [u64],
     copy: &mut [u32],
     facts: &mut [u64],
+    staged: &mut [u8],
+    heads: &mut [u8],
 ) -> Answer
     requires { ⌜ Room most blocks (length (now work)) (length (now table)) (length (now kinds)) (length (now known)) (length (now copy))
-        (length (now facts)) ⌝ }
+        (length (now facts)) (length (now staged)) (length (now heads)) ⌝ }
     ensures { λ r. ⌜ (Fits most blocks (partsOf (now (b .entry)) l) → Done (partsOf (now (b .entry)) l) r (now (out .entry)) (now (out .exit))) ⌝ }
 {
     let nb = blocks::least(classes::part(b, l.blocks, l.bodies).len() / 32, blocks);
@@ -71,6 +73,8 @@ fn shorten_over(
         known,
         copy,
         &mut facts[..5 * nr],
+        staged,
+        &mut heads[..32 * nb],
     )
 }
 
@@ -84,6 +88,8 @@ fn shorten_small(b: &[u8], l: Layout, out: &mut [u8]) -> Answer
     let mut known = [0u64; 2 * (SMALL + 15)];
     let mut copy = [0u32; 2 * (SMALL + 15)];
     let mut facts = [0u64; 5 * SMALL];
+    let mut staged = [0u8; 32 * (SMALL + SMALL / 2 + 36)];
+    let mut heads = [0u8; 32 * SMALL];
     shorten_over(
         b,
         l,
@@ -96,6 +102,8 @@ fn shorten_small(b: &[u8], l: Layout, out: &mut [u8]) -> Answer
         &mut known,
         &mut copy,
         &mut facts,
+        &mut staged,
+        &mut heads,
     )
 }
 
@@ -109,6 +117,8 @@ fn shorten_medium(b: &[u8], l: Layout, out: &mut [u8]) -> Answer
     let mut known = [0u64; 2 * (MEDIUM + 15)];
     let mut copy = [0u32; 2 * (MEDIUM + 15)];
     let mut facts = [0u64; 5 * MEDIUM];
+    let mut staged = [0u8; 32 * (MEDIUM + MEDIUM / 2 + 36)];
+    let mut heads = [0u8; 32 * MEDIUM];
     shorten_over(
         b,
         l,
@@ -121,6 +131,8 @@ fn shorten_medium(b: &[u8], l: Layout, out: &mut [u8]) -> Answer
         &mut known,
         &mut copy,
         &mut facts,
+        &mut staged,
+        &mut heads,
     )
 }
 
@@ -134,6 +146,8 @@ fn shorten_half(b: &[u8], l: Layout, out: &mut [u8]) -> Answer
     let mut known = [0u64; 2 * (HALF + 15)];
     let mut copy = [0u32; 2 * (HALF + 15)];
     let mut facts = [0u64; 5 * HALF];
+    let mut staged = [0u8; 32 * (HALF + HALF / 2 + 36)];
+    let mut heads = [0u8; 32 * BLOCKS];
     shorten_over(
         b,
         l,
@@ -146,6 +160,8 @@ fn shorten_half(b: &[u8], l: Layout, out: &mut [u8]) -> Answer
         &mut known,
         &mut copy,
         &mut facts,
+        &mut staged,
+        &mut heads,
     )
 }
 
@@ -159,6 +175,8 @@ fn shorten_large(b: &[u8], l: Layout, out: &mut [u8]) -> Answer
     let mut known = [0u64; 2 * (LARGE + 15)];
     let mut copy = [0u32; 2 * (LARGE + 15)];
     let mut facts = [0u64; 5 * LARGE];
+    let mut staged = [0u8; 32 * (LARGE + LARGE / 2 + 36)];
+    let mut heads = [0u8; 32 * BLOCKS];
     shorten_over(
         b,
         l,
@@ -171,6 +189,8 @@ fn shorten_large(b: &[u8], l: Layout, out: &mut [u8]) -> Answer
         &mut known,
         &mut copy,
         &mut facts,
+        &mut staged,
+        &mut heads,
     )
 }
 
