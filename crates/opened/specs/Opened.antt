@@ -1,4 +1,4 @@
--- Storage, not the paper's: a file within the shortening limits, as parts of its bytes, and what is known of them.
+-- Storage, not the paper's: a procedure in parts of bytes, as a file's or as a step leaves them, and what is known of them.
 use Prim.Native.Nat.{ℕ, _*_, _≤_}
 use mathlib.Core.Path.{_≡_}
 use mathlib.Core.List.{List, [], _++_, map}
@@ -7,6 +7,7 @@ use Rattle.format.specs.Record.{recordsOf}
 use Rattle.store.specs.Store.{Bytes}
 use Rattle.layout.specs.declared.Layout.{Layout}
 use Rattle.read.specs.Structure.{numbered}
+use Rattle.inst.specs.declared.Code.{Code}
 use Rattle.ops.specs.Ops.{regTyOf}
 use Rattle.codec.specs.Codec.{recordOf, regOf}
 use Rattle.items.specs.Items.{registerRecord, operandRecord}
@@ -38,22 +39,31 @@ partsOf b l = record {
   arms = partOf b (l .arms) (l .end);
 }
 
--- a procedure within the shortening limits, held by the parts of a file
-pub record Opened (p : Procedure) (x : Parts) : Type 0 where
+-- the same with another code and another block table
+abbrev pub recoded : Parts → List ℕ → List ℕ → Parts
+recoded x code heads =
+    record { registers = x .registers; heads = heads; body = x .body; code = code; operands = x .operands; arms = x .arms }
+
+-- blocks in bytes, in whole records, as code and block table are written
+pub record Coded (P : List (List Code)) (code heads : List ℕ) : Type 0 where
+  pub code-bytes : Bytes code
+  pub heads-bytes : Bytes heads
+  pub code-length : length code ≡ 32 * length (joined P)
+  pub heads-length : length heads ≡ 32 * length P
+  pub code-records : recordsOf code ≡ map recordOf (joined P)
+  pub head-records : recordsOf heads ≡ blockRecords 0 P
+
+-- a procedure held by parts of bytes, with the kinds of new registers behind the register records
+pub record Holds (p : Procedure) (x : Parts) (kinds : List ℕ) : Type 0 where
   pub well-formed : WellFormed p
-  pub few-registers : length (p .registers) ≤ 480
-  pub few-code : length (joined (p .blocks)) ≤ 480
-  -- bytes, in whole records
-  pub heads-bytes : Bytes (x .heads)
-  pub code-bytes : Bytes (x .code)
-  pub registers-length : length (x .registers) ≡ 32 * length (p .registers)
-  pub heads-length : length (x .heads) ≡ 32 * length (p .blocks)
+  pub coded : Coded (p .blocks) (x .code) (x .heads)
+  -- whole records
+  pub registers-length : length (x .registers) ≡ 32 * length (kindsOf (x .registers))
   pub body-length : length (x .body) ≡ 32 * length (bodyRecords (p .body))
-  pub code-length : length (x .code) ≡ 32 * length (joined (p .blocks))
   pub operands-length : length (x .operands) ≡ 32 * length (p .operands)
   pub arms-length : length (x .arms) ≡ 32 * armCount (p .tables)
   -- what they hold
-  pub kinds : kindsOf (x .registers) ≡ p .registers
+  pub registers : kindsOf (x .registers) ++ kinds ≡ p .registers
   pub blocks : blocksOf (x .code) (x .heads) ≡ p .blocks
   pub tiled : Tiled (x .code) (x .heads)
   pub canonical : Canonical (x .code) (x .heads)
@@ -62,12 +72,20 @@ pub record Opened (p : Procedure) (x : Parts) : Type 0 where
   pub tables : tablesFrom [] (recordsOf (x .arms)) ≡ p .tables
   pub numbered-arms : numbered (recordsOf (x .arms)) ≡ length (recordsOf (x .arms))
   -- the records that they are written as
-  pub register-records : recordsOf (x .registers) ≡ map (λ k. registerRecord (regTyOf k)) (p .registers)
-  pub head-records : recordsOf (x .heads) ≡ blockRecords 0 (p .blocks)
+  pub register-records : recordsOf (x .registers) ≡ map (λ k. registerRecord (regTyOf k)) (kindsOf (x .registers))
   pub body-records : recordsOf (x .body) ≡ bodyRecords (p .body)
-  pub code-records : recordsOf (x .code) ≡ map recordOf (joined (p .blocks))
   pub operand-records : recordsOf (x .operands) ≡ map (λ r. operandRecord (regOf r)) (p .operands)
   pub arm-records : recordsOf (x .arms) ≡ tableRecords 0 (p .tables)
+
+-- a procedure held by the parts of a file
+abbrev pub Parted : Procedure → Parts → Type 0
+Parted p x = Holds p x []
+
+-- and within the shortening limits
+pub record Opened (p : Procedure) (x : Parts) : Type 0 where
+  pub parted : Parted p x
+  pub few-registers : length (p .registers) ≤ 480
+  pub few-code : length (joined (p .blocks)) ≤ 480
 
 -- the parts in their order
 abbrev pub whole : Parts → List ℕ

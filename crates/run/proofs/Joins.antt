@@ -46,13 +46,13 @@ module _ {p : Procedure} {x : Parts} {work : List ℕ} (h : Held p x work) where
   o = h .opened
 
   size : length (x .code) / 32 ≡ N
-  size = let e = o .code-length in omega arith
+  size = let e = o .parted .coded .code-length in omega arith
 
   pub apart : Apart N (x .heads)
-  apart = subst (λ (n : ℕ). Apart n (x .heads)) size (tiled-apart (x .code) (x .heads) (o .tiled))
+  apart = subst (λ (n : ℕ). Apart n (x .heads)) size (tiled-apart (x .code) (x .heads) (o .parted .tiled))
 
   tiles : Tiled N 0 (recordsOf (x .heads))
-  tiles = subst (λ (n : ℕ). Tiled n 0 (recordsOf (x .heads))) size (o .tiled)
+  tiles = subst (λ (n : ℕ). Tiled n 0 (recordsOf (x .heads))) size (o .parted .tiled)
 
   blocks-here : length (recordsOf (x .heads)) ≡ length (x .heads) / 32
   blocks-here = length-records (x .heads)
@@ -65,7 +65,7 @@ module _ {p : Procedure} {x : Parts} {work : List ℕ} (h : Held p x work) where
 
   first-records : take N (recordsOf work) ≡ take N (recordsOf (x .code))
   first-records =
-      let e = o .code-length in
+      let e = o .parted .coded .code-length in
       let l = length-records (x .code) in
       let q : 32 * N ≡ length (x .code) = omega arith in
       sym (records-part work 0 N (omega arith))
@@ -77,12 +77,12 @@ module _ {p : Procedure} {x : Parts} {work : List ℕ} (h : Held p x work) where
   same-records = within-same N (x .heads) apart work (x .code) first-records
 
   pub work-blocks : blocksOf work (x .heads) ≡ p .blocks
-  work-blocks = ap (map (map codeOf)) same-records ∙ o .blocks
+  work-blocks = ap (map (map codeOf)) same-records ∙ o .parted .blocks
 
   work-canonical : Canonical work (x .heads)
   work-canonical =
       same-records
-      ∙ o .canonical
+      ∙ o .parted .canonical
       ∙ ap (λ (r : List (List Record)). map (map recordOf) (map (map codeOf) r)) (sym same-records)
 
   -- what the first records of a code are, by its blocks
@@ -95,8 +95,8 @@ module _ {p : Procedure} {x : Parts} {work : List ℕ} (h : Held p x work) where
 
     parts-all : recordsOf (take (32 * N) c) ≡ joined (blockRecordsIn c (x .heads))
     parts-all =
-        let e = o .heads-length in
-        let s = o .well-formed .some-block in
+        let e = o .parted .coded .heads-length in
+        let s = o .parted .well-formed .some-block in
         let n = blocks-here in
         sym (tiles-all (recordsOf (take (32 * N) c)) (recordsOf (x .heads))
         (subst (λ (m : ℕ). Tiled m 0 (recordsOf (x .heads))) (sym part-long) tiles) (omega arith))
@@ -158,6 +158,6 @@ module _ {p : Procedure} {x : Parts} {work : List ℕ} (h : Held p x work) where
   -- which leaves each instruction sound
   pub arms-sound : Kept (countsIn p) (p .blocks) (equalArms (p .blocks))
   arms-sound =
-      let w = o .well-formed in
+      let w = o .parted .well-formed in
       let few = w .blocks in
       arms-kept (countsIn p) (omega arith) (p .blocks) (w .each-block)

@@ -22,6 +22,7 @@ use Rattle.round.specs.WellFormed.{All, Sound, BlockIn, countsIn}
 use Rattle.round.proofs.Lists.{all-at, all-append}
 use Rattle.sized.proofs.Threads.{Inv}
 use Rattle.sized.proofs.Laws.{edits-inv}
+use Rattle.opened.proofs.Laws.{kinds-sent}
 use Rattle.opened.specs.Opened.{Parts, Opened}
 use Rattle.thread.specs.Storage.{Store, store, threadIn}
 use Rattle.thread.proofs.Refined.{workOf}
@@ -81,14 +82,14 @@ module _ {p : Procedure} {x : Parts} {known copy : ℕ} {work kinds facts : List
       ap (λ (m : ℕ). tableOf facts (kindsOf (x .registers)) (operandsIn (x .operands)) (codesOf (take (32 * m) after))) all
       ∙ ap (tableOf facts (kindsOf (x .registers)) (operandsIn (x .operands)))
       (j.codes (held h) after long ∙ ap joined (j.arms-blocks (held h)))
-      ∙ ap (λ (k : List ℕ). tableOf facts k (operandsIn (x .operands)) (joined (q .blocks))) (o .kinds)
-      ∙ ap (λ (l : List ℕ). tableOf facts (p .registers) l (joined (q .blocks))) (o .operands)
+      ∙ ap (λ (k : List ℕ). tableOf facts k (operandsIn (x .operands)) (joined (q .blocks))) (kinds-sent (o .parted))
+      ∙ ap (λ (l : List ℕ). tableOf facts (p .registers) l (joined (q .blocks))) (o .parted .operands)
 
   -- the table says what is counted of the procedure
   pub facts-are : factsIn counted (p .body) (N / 2 + 32) ≡ s.countedIn q
   facts-are =
       let k = j.arms-sound (held h) in
-      let wf = o .well-formed in
+      let wf = o .parted .well-formed in
       let c = joined (q .blocks) in
       let sound = each-joined (countsIn p) (q .blocks) (k .each) in
       let few = o .few-code in
@@ -107,7 +108,7 @@ module _ {p : Procedure} {x : Parts} {known copy : ℕ} {work kinds facts : List
   inv-at v es =
       let a = subst (λ (f : Facts). Edits f (unthreaded (blocksOf after (x .heads))) v) facts-are es in
       let b = subst (λ (P : List (List Code)). Edits (s.countedIn q) (unthreaded P) v) (j.arms-blocks (held h)) a in
-      subst (λ (f : Facts). Inv f (countsIn p) N v) (sym facts-are) (edits-inv p (o .well-formed) b)
+      subst (λ (f : Facts). Inv f (countsIn p) N v) (sym facts-are) (edits-inv p (o .parted .well-formed) b)
 
   -- with room in the storage
   abbrev pub left : Store
@@ -122,7 +123,7 @@ module _ {p : Procedure} {x : Parts} {known copy : ℕ} {work kinds facts : List
         sound =
             record {
               work-bytes = c .bytes;
-              table-bytes = o .heads-bytes;
+              table-bytes = o .parted .coded .heads-bytes;
               fit = omega arith;
               word = omega arith;
               apart = j.apart (held h);

@@ -24,18 +24,18 @@ module _ (p : Procedure) (x : Parts) (o : Opened p x) where
 
   none-joined : equalArmsIn (x .heads) (x .code) ≡ joinedTo (x .code) false → equalArms (p .blocks) ≡ arms (p .blocks)
   none-joined e =
-      ap equalArms (sym (o .blocks))
-      ∙ sym (tiled-arms (x .code) (x .heads) (o .tiled) (o .code-bytes))
+      ap equalArms (sym (o .parted .blocks))
+      ∙ sym (tiled-arms (x .code) (x .heads) (o .parted .tiled) (o .parted .coded .code-bytes))
       ∙ ap (armsOf (x .heads)) e
-      ∙ ap arms (o .blocks)
+      ∙ ap arms (o .parted .blocks)
 
   shut : opensIn (p .body) (x .code) (x .heads) ≡ false → (hasBackEdge (p .blocks) && mayThread (present (p .body)) (p .blocks)) ≡ false
-  shut e = ap (λ (P : List (List Code)). hasBackEdge P && mayThread (present (p .body)) P) (sym (o .blocks)) ∙ e
+  shut e = ap (λ (P : List (List Code)). hasBackEdge P && mayThread (present (p .body)) P) (sym (o .parted .blocks)) ∙ e
 
   pub stays-run : Stays (p .body) (x .code) (x .heads) → run p ≡ unchanged p
   unfolding run
   stays-run (inl few) =
-      let n = o .code-length in
+      let n = o .parted .coded .code-length in
       ap (λ (b : Bool). runIf b p) (lt-ltb (length (joined (p .blocks))) 6 (omega arith))
   stays-run (inr (none, closed)) = by (ltb (length (joined (p .blocks))) 6)
     where

@@ -1,100 +1,47 @@
 -- Storage of some size is enough for a file that fits it.
-use Prim.Native.Nat.{ℕ, zero, suc, _+_, _*_, _/_, _≤_, min}
+use Prim.Native.Nat.{ℕ, _*_, _/_, _≤_, min}
 use native.Mathlib.Omega.{arith}
-use mathlib.Core.Path.{_≡_, ap, _∙_}
+use mathlib.Core.Path.{_≡_, ap}
 use mathlib.Core.List.{List}
-use lib.ListN.{length, take, replicate, length-replicate}
+use lib.ListN.{length, take}
 use lib.Seq.{length-take-le}
 use Rattle.procedure.specs.Procedure.{Procedure}
+use Rattle.opened.proofs.Laws.{registers-sent}
 use Rattle.opened.specs.Opened.{Parts, Opened}
-use Rattle.store.specs.Store.{Bytes}
 use Rattle.layout.specs.declared.Layout.{Layout}
-use Rattle.steps.specs.declared.Answer.{Answer}
 use Rattle.opened.specs.Opened.{partsOf}
 use Rattle.opened.proofs.Few.{opened-few}
 use Rattle.opened.proofs.Parts.{length-of}
-use Rattle.output.specs.Filed.{outcome}
-use Rattle.shortening.specs.Storage.{Lent, lent, shortIn, Enough}
-use Rattle.shortening.proofs.Shortened.{short-run}
-use Rattle.shorten.specs.Storage.{Fits, Done}
+use Rattle.shortening.specs.Storage.{lent, Enough, Staging}
+use Rattle.shorten.specs.Storage.{Room, Fits}
 
--- the sizes of storage for so many registers and instructions, and so many blocks
-pub record Lends (most blocks : ℕ) (x : Parts) (s : Lent) : Type 0 where
-  pub work : length (s .work) ≡ 32 * (2 * most + (3 * most / 8 + 27))
-  pub table : length (s .table) ≡ 32 * min (length (x .heads) / 32) blocks
-  pub kinds : length (s .kinds) ≡ most / 2 + 40
-  pub facts : length (s .facts) ≡ 5 * min (length (x .registers) / 32) most
-  pub known : s .known ≡ 2 * (most + 15)
-  pub copy : s .copy ≡ 2 * (most + 15)
+-- storage for so many registers, instructions and blocks, lent as far as the file needs it
+module _ (b : List ℕ) (l : Layout) (most blocks : ℕ) (work table kinds facts heads : List ℕ) (known copy staged : ℕ)
+    (room : Room most blocks (length work) (length table) (length kinds) known copy (length facts) staged (length heads))
+    {nb nr : ℕ} {sent registers : List ℕ}
+    (h : sent ≡ partsOf b l .heads) (i : nb ≡ min (length sent / 32) blocks) (g : registers ≡ partsOf b l .registers) (j : nr ≡ min (length registers / 32) most)
+    (fits : Fits most blocks (partsOf b l)) (p : Procedure) (o : Opened p (partsOf b l)) where
+  abbrev x : Parts
+  x = partsOf b l
 
-pub enough : (p : Procedure) (x : Parts) (most blocks : ℕ) (s : Lent) → most ≤ 480 → Opened p x → Fits most blocks x → Lends most blocks x s → Enough x s
-enough p x most blocks s few o f l =
-    let h = o .heads-length in
-    let r = o .registers-length in
-    let c = o .code-length in
-    let fr = f .registers in
-    let fh = f .heads in
-    let fc = f .code in
-    let w = l .work in
-    let t = l .table in
-    let k = l .kinds in
-    let a = l .facts in
-    let n = l .known in
-    let m = l .copy in
-    record {
-      work = omega arith;
-      word = omega arith;
-      table = omega arith;
-      kinds = omega arith;
-      facts = omega arith;
-      known = omega arith;
-      copy = omega arith;
-    }
+  pub enough : Enough x (lent work (take (32 * nb) table) kinds (take (5 * nr) facts) known copy)
+  enough =
+      let hs = ap (λ (y : List ℕ). length y) h in
+      let rs = ap (λ (y : List ℕ). length y) g in
+      let oh = o .parted .coded .heads-length in
+      let or = registers-sent (o .parted) in
+      let oc = o .parted .coded .code-length in
+      let ts = length-take-le (32 * nb) table (let t = room .all-heads in omega arith) in
+      let fs = length-take-le (5 * nr) facts (let t = room .all-facts in omega arith) in
+      record { work = omega arith; word = omega arith; table = omega arith; kinds = omega arith; facts = omega arith; known = omega arith; copy = omega arith }
 
-zero-bytes : (n : ℕ) → Bytes (replicate n 0)
-zero-bytes zero i = omega arith
-zero-bytes (suc n) zero = omega arith
-zero-bytes (suc n) (suc i) = zero-bytes n i
-
--- storage of zeros in arrays of these sizes, lent as far as the file needs it
-module _
-    (b : List ℕ)
-    (l : Layout)
-    (most blocks w t k f n : ℕ)
-    (few : most ≤ 480)
-    (work : w ≡ 32 * (2 * most + (3 * most / 8 + 27)))
-    (table : t ≡ 32 * blocks)
-    (kinds : k ≡ most / 2 + 40)
-    (facts : f ≡ 5 * most)
-    (words : n ≡ 2 * (most + 15))
-  where
-    abbrev x : Parts
-    x = partsOf b l
-
-    pub tier : (out : List ℕ) {nb nr : ℕ} {heads registers out′ : List ℕ} {r : Answer}
-        → heads ≡ x .heads → nb ≡ min (length heads / 32) blocks → registers ≡ x .registers → nr ≡ min (length registers / 32) most
-        → outcome r out′
-        ≡ shortIn x
-        (lent (replicate w 0) (take (32 * nb) (replicate t 0)) (replicate k 0) (take (5 * nr) (replicate f 0)) (length (replicate {A = ℕ} n 0))
-        (length (replicate {A = ℕ} n 0)))
-        out
-        → Fits most blocks x
-        → Done x r out out′
-    tier out {nb} {nr} {heads} {registers} h i g j e fits p o =
-        let s = lent (replicate w 0) (take (32 * nb) (replicate t 0)) (replicate k 0) (take (5 * nr) (replicate f 0)) (length (replicate {A = ℕ} n 0))
-        (length (replicate {A = ℕ} n 0)) in
-        let hs = ap (λ (y : List ℕ). length y) h in
-        let rs = ap (λ (y : List ℕ). length y) g in
-        let wl = length-replicate {A = ℕ} w 0 in
-        let tl = length-replicate {A = ℕ} t 0 in
-        let kl = length-replicate {A = ℕ} k 0 in
-        let fl = length-replicate {A = ℕ} f 0 in
-        let nl = length-replicate {A = ℕ} n 0 in
-        let tt′ = length-take-le (32 * nb) (replicate {A = ℕ} t 0) (omega arith) in
-        let ff = length-take-le (5 * nr) (replicate {A = ℕ} f 0) (omega arith) in
-        let lends : Lends most blocks x s =
-        record { work = omega arith; table = omega arith; kinds = omega arith; facts = omega arith; known = omega arith; copy = omega arith } in
-        e ∙ short-run p x o s (enough p x most blocks s few o fits lends) (zero-bytes w) out
+  pub staging : Staging x staged (length (take (32 * nb) heads))
+  staging =
+      let hs = ap (λ (y : List ℕ). length y) h in
+      let oh = o .parted .coded .heads-length in
+      let oc = o .parted .coded .code-length in
+      let ts = length-take-le (32 * nb) heads (let t = room .all-staged-heads in omega arith) in
+      record { code-room = omega arith; heads-room = omega arith }
 
 -- every file has at most 160 blocks
 pub blocks-fit : {n m : ℕ} (p : Procedure) (x : Parts) → Opened p x → Fits n m x → Fits n 160 x

@@ -1,5 +1,5 @@
 -- Storage, not the paper's: a file whose storage is of some size, and its shortening over that storage.
-use Prim.Native.Nat.{ℕ, _*_, _≤_}
+use Prim.Native.Nat.{ℕ, _+_, _*_, _/_, _≤_}
 use mathlib.Core.Path.{_≡_}
 use mathlib.Core.List.{List}
 use lib.ListN.{length}
@@ -9,6 +9,18 @@ use Rattle.steps.specs.Run.{run}
 use Rattle.steps.specs.Shorten.{shortened}
 use Rattle.opened.specs.Opened.{Parts, Opened}
 use Rattle.output.specs.Filed.{outcome}
+
+-- the lengths of storage that is enough for so many registers and instructions, and so many blocks
+pub record Room (most blocks work table kinds known copy facts staged heads : ℕ) : Type 0 where
+  pub few : most ≤ 480
+  pub all-work : work ≡ 32 * (2 * most + (3 * most / 8 + 27))
+  pub all-heads : table ≡ 32 * blocks
+  pub all-kinds : kinds ≡ most / 2 + 40
+  pub all-known : known ≡ 2 * (most + 15)
+  pub all-copies : copy ≡ 2 * (most + 15)
+  pub all-facts : facts ≡ 5 * most
+  pub all-staged : staged ≡ 32 * (most + most / 2 + 36)
+  pub all-staged-heads : heads ≡ 32 * blocks
 
 -- no more than so many registers and instructions, and so many blocks
 pub record Fits (most blocks : ℕ) (x : Parts) : Type 0 where

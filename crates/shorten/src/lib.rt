@@ -11,7 +11,7 @@ ghost use Rattle.machine.specs.Demand.{Demand3};
 ghost use Rattle.promise.specs.Promise.{held};
 ghost use Rattle.opened.specs.Opened.{partsOf};
 ghost use Rattle.output.specs.Filed.{outcome};
-ghost use Rattle.shorten.specs.Storage.{Fits, Done};
+ghost use Rattle.shorten.specs.Storage.{Room, Fits, Done};
 use layout::Layout;
 use steps::Answer;
 
@@ -30,28 +30,80 @@ fn refused(number: u32, place: u32) -> Answer
     }
 }
 
-// A file of at most 24 registers, blocks and instructions: clearing more storage would take longer than its steps.
-fn shorten_small(b: &[u8], l: Layout, out: &mut [u8]) -> Answer
-    ensures { λ r. ⌜ (Fits 24 24 (partsOf (now (b .entry)) l) → Done (partsOf (now (b .entry)) l) r (now (out .entry)) (now (out .exit))) ⌝ }
+// For how many registers and instructions there is storage, by the size of a file.
+const SMALL: usize = 24;
+
+const MEDIUM: usize = 120;
+
+const HALF: usize = 240;
+
+const LARGE: usize = 480;
+// How many blocks a file can have.
+const BLOCKS: usize = 160;
+
+// Storage for `most` registers and instructions, and some blocks, is lent as far as a file needs it.
+fn shorten_over(
+    b: &[u8],
+    l: Layout,
+    out: &mut [u8],
+    most: usize,
+    blocks: usize,
+    work: &mut [u8],
+    table: &mut [u8],
+    kinds: &mut [u8],
+    known: &mut [u64],
+    copy: &mut [u32],
+    facts: &mut [u64],
+    staged: &mut [u8],
+    heads: &mut [u8],
+) -> Answer
+    requires { ⌜ Room most blocks (length (now work)) (length (now table)) (length (now kinds)) (length (now known)) (length (now copy))
+        (length (now facts)) (length (now staged)) (length (now heads)) ⌝ }
+    ensures { λ r. ⌜ (Fits most blocks (partsOf (now (b .entry)) l) → Done (partsOf (now (b .entry)) l) r (now (out .entry)) (now (out .exit))) ⌝ }
 {
-    let mut work = [0u8; 2688];
-    let mut table = [0u8; 768];
-    let mut kinds = [0u8; 52];
-    let mut known = [0u64; 78];
-    let mut copy = [0u32; 78];
-    let mut facts = [0u64; 120];
-    let nb = blocks::least(classes::part(b, l.blocks, l.bodies).len() / 32, 24);
-    let nr = blocks::least(classes::part(b, 0, l.blocks).len() / 32, 24);
+    let nb = blocks::least(classes::part(b, l.blocks, l.bodies).len() / 32, blocks);
+    let nr = blocks::least(classes::part(b, 0, l.blocks).len() / 32, most);
     shortening::shorten_in(
         b,
         l,
         out,
-        &mut work,
+        work,
         &mut table[..32 * nb],
+        kinds,
+        known,
+        copy,
+        &mut facts[..5 * nr],
+        staged,
+        &mut heads[..32 * nb],
+    )
+}
+
+// A file of at most 24 registers, blocks and instructions: clearing more storage would take longer than its steps.
+fn shorten_small(b: &[u8], l: Layout, out: &mut [u8]) -> Answer
+    ensures { λ r. ⌜ (Fits 24 24 (partsOf (now (b .entry)) l) → Done (partsOf (now (b .entry)) l) r (now (out .entry)) (now (out .exit))) ⌝ }
+{
+    let mut work = [0u8; 32 * (2 * SMALL + 3 * SMALL / 8 + 27)];
+    let mut table = [0u8; 32 * SMALL];
+    let mut kinds = [0u8; SMALL / 2 + 40];
+    let mut known = [0u64; 2 * (SMALL + 15)];
+    let mut copy = [0u32; 2 * (SMALL + 15)];
+    let mut facts = [0u64; 5 * SMALL];
+    let mut staged = [0u8; 32 * (SMALL + SMALL / 2 + 36)];
+    let mut heads = [0u8; 32 * SMALL];
+    shorten_over(
+        b,
+        l,
+        out,
+        SMALL,
+        SMALL,
+        &mut work,
+        &mut table,
         &mut kinds,
         &mut known,
         &mut copy,
-        &mut facts[..5 * nr],
+        &mut facts,
+        &mut staged,
+        &mut heads,
     )
 }
 
@@ -59,24 +111,28 @@ fn shorten_small(b: &[u8], l: Layout, out: &mut [u8]) -> Answer
 fn shorten_medium(b: &[u8], l: Layout, out: &mut [u8]) -> Answer
     ensures { λ r. ⌜ (Fits 120 120 (partsOf (now (b .entry)) l) → Done (partsOf (now (b .entry)) l) r (now (out .entry)) (now (out .exit))) ⌝ }
 {
-    let mut work = [0u8; 9984];
-    let mut table = [0u8; 3840];
-    let mut kinds = [0u8; 100];
-    let mut known = [0u64; 270];
-    let mut copy = [0u32; 270];
-    let mut facts = [0u64; 600];
-    let nb = blocks::least(classes::part(b, l.blocks, l.bodies).len() / 32, 120);
-    let nr = blocks::least(classes::part(b, 0, l.blocks).len() / 32, 120);
-    shortening::shorten_in(
+    let mut work = [0u8; 32 * (2 * MEDIUM + 3 * MEDIUM / 8 + 27)];
+    let mut table = [0u8; 32 * MEDIUM];
+    let mut kinds = [0u8; MEDIUM / 2 + 40];
+    let mut known = [0u64; 2 * (MEDIUM + 15)];
+    let mut copy = [0u32; 2 * (MEDIUM + 15)];
+    let mut facts = [0u64; 5 * MEDIUM];
+    let mut staged = [0u8; 32 * (MEDIUM + MEDIUM / 2 + 36)];
+    let mut heads = [0u8; 32 * MEDIUM];
+    shorten_over(
         b,
         l,
         out,
+        MEDIUM,
+        MEDIUM,
         &mut work,
-        &mut table[..32 * nb],
+        &mut table,
         &mut kinds,
         &mut known,
         &mut copy,
-        &mut facts[..5 * nr],
+        &mut facts,
+        &mut staged,
+        &mut heads,
     )
 }
 
@@ -84,24 +140,28 @@ fn shorten_medium(b: &[u8], l: Layout, out: &mut [u8]) -> Answer
 fn shorten_half(b: &[u8], l: Layout, out: &mut [u8]) -> Answer
     ensures { λ r. ⌜ (Fits 240 160 (partsOf (now (b .entry)) l) → Done (partsOf (now (b .entry)) l) r (now (out .entry)) (now (out .exit))) ⌝ }
 {
-    let mut work = [0u8; 19104];
-    let mut table = [0u8; 5120];
-    let mut kinds = [0u8; 160];
-    let mut known = [0u64; 510];
-    let mut copy = [0u32; 510];
-    let mut facts = [0u64; 1200];
-    let nb = blocks::least(classes::part(b, l.blocks, l.bodies).len() / 32, 160);
-    let nr = blocks::least(classes::part(b, 0, l.blocks).len() / 32, 240);
-    shortening::shorten_in(
+    let mut work = [0u8; 32 * (2 * HALF + 3 * HALF / 8 + 27)];
+    let mut table = [0u8; 32 * BLOCKS];
+    let mut kinds = [0u8; HALF / 2 + 40];
+    let mut known = [0u64; 2 * (HALF + 15)];
+    let mut copy = [0u32; 2 * (HALF + 15)];
+    let mut facts = [0u64; 5 * HALF];
+    let mut staged = [0u8; 32 * (HALF + HALF / 2 + 36)];
+    let mut heads = [0u8; 32 * BLOCKS];
+    shorten_over(
         b,
         l,
         out,
+        HALF,
+        BLOCKS,
         &mut work,
-        &mut table[..32 * nb],
+        &mut table,
         &mut kinds,
         &mut known,
         &mut copy,
-        &mut facts[..5 * nr],
+        &mut facts,
+        &mut staged,
+        &mut heads,
     )
 }
 
@@ -109,24 +169,28 @@ fn shorten_half(b: &[u8], l: Layout, out: &mut [u8]) -> Answer
 fn shorten_large(b: &[u8], l: Layout, out: &mut [u8]) -> Answer
     ensures { λ r. ⌜ (Fits 480 160 (partsOf (now (b .entry)) l) → Done (partsOf (now (b .entry)) l) r (now (out .entry)) (now (out .exit))) ⌝ }
 {
-    let mut work = [0u8; 37344];
-    let mut table = [0u8; 5120];
-    let mut kinds = [0u8; 280];
-    let mut known = [0u64; 990];
-    let mut copy = [0u32; 990];
-    let mut facts = [0u64; 2400];
-    let nb = blocks::least(classes::part(b, l.blocks, l.bodies).len() / 32, 160);
-    let nr = blocks::least(classes::part(b, 0, l.blocks).len() / 32, 480);
-    shortening::shorten_in(
+    let mut work = [0u8; 32 * (2 * LARGE + 3 * LARGE / 8 + 27)];
+    let mut table = [0u8; 32 * BLOCKS];
+    let mut kinds = [0u8; LARGE / 2 + 40];
+    let mut known = [0u64; 2 * (LARGE + 15)];
+    let mut copy = [0u32; 2 * (LARGE + 15)];
+    let mut facts = [0u64; 5 * LARGE];
+    let mut staged = [0u8; 32 * (LARGE + LARGE / 2 + 36)];
+    let mut heads = [0u8; 32 * BLOCKS];
+    shorten_over(
         b,
         l,
         out,
+        LARGE,
+        BLOCKS,
         &mut work,
-        &mut table[..32 * nb],
+        &mut table,
         &mut kinds,
         &mut known,
         &mut copy,
-        &mut facts[..5 * nr],
+        &mut facts,
+        &mut staged,
+        &mut heads,
     )
 }
 
@@ -175,9 +239,10 @@ fn shorten_read(b: &[u8], l: Layout, out: &mut [u8]) -> Answer
     shorten_small(b, l, out)
 }
 
-// Shortens a file into the output buffer, or refuses it.
-pub fn shorten(bytes: &[u8], out: &mut [u8]) -> Answer
-    ensures is { λ r. ⌜ record { answer = r; output = now (out .exit) } ≡ spec.shorten (now (bytes .entry)) (now (out .entry)) ⌝ }
+// Shortens a file of at most so many registers and instructions into the output buffer, or refuses it.
+pub fn shorten_within(bytes: &[u8], out: &mut [u8], registers: usize, code: usize) -> Answer
+    requires { ⌜ (registers ≤ 480) × (code ≤ 480) ⌝ }
+    ensures is { λ r. ⌜ outcome r (now (out .exit)) ≡ spec.shortenWithin registers code (now (bytes .entry)) (now (out .entry)) ⌝ }
     ensures accepted { λ r. ⌜ (r .number ≡ 0 → reading (take (r .length) (now (out .exit))) ≡ answer 0 0) ⌝ }
     ensures room { λ r. ⌜ (61728 ≤ length (now (out .entry)) → r .number ≡ 9 → ⊥) ⌝ }
     ensures unmoved { λ r. ⌜ (r .number ≡ 0 → r .moved ≡ 0
@@ -192,11 +257,26 @@ pub fn shorten(bytes: &[u8], out: &mut [u8]) -> Answer
         return refused(r.number, r.place);
     }
     let l = classes::starts(bytes);
-    if 480 < classes::part(bytes, 0, l.blocks).len() / 32 {
+    if registers < classes::part(bytes, 0, l.blocks).len() / 32 {
         return refused(8, 0);
     }
-    if 480 < classes::part(bytes, l.code, l.operands).len() / 32 {
+    if code < classes::part(bytes, l.code, l.operands).len() / 32 {
         return refused(8, 0);
     }
     shorten_read(bytes, l, out)
+}
+
+// Shortens a file into the output buffer, or refuses it.
+pub fn shorten(bytes: &[u8], out: &mut [u8]) -> Answer
+    ensures is { λ r. ⌜ record { answer = r; output = now (out .exit) } ≡ spec.shorten (now (bytes .entry)) (now (out .entry)) ⌝ }
+    ensures accepted { λ r. ⌜ (r .number ≡ 0 → reading (take (r .length) (now (out .exit))) ≡ answer 0 0) ⌝ }
+    ensures room { λ r. ⌜ (61728 ≤ length (now (out .entry)) → r .number ≡ 9 → ⊥) ⌝ }
+    ensures unmoved { λ r. ⌜ (r .number ≡ 0 → r .moved ≡ 0
+        → now (out .exit) ≡ now (bytes .entry) ++ drop (length (now (bytes .entry))) (now (out .entry))) ⌝ }
+    ensures bound { λ r. ⌜ (r .number ≡ 0 → spec.instructions (take (r .length) (now (out .exit)))
+        ≤ spec.instructions (now (bytes .entry)) + spec.instructions (now (bytes .entry)) / 2 + 36) ⌝ }
+    ensures demand3 { λ r. ⌜ (r .number ≡ 0 → Tidy (held (now (bytes .entry)))
+        → Demand3 (held (now (bytes .entry))) (held (take (r .length) (now (out .exit)))) (r .rescued)) ⌝ }
+{
+    shorten_within(bytes, out, 480, 480)
 }

@@ -1,5 +1,4 @@
 pub mod Fronts
-pub mod Emitting
 pub mod Written
-pub mod Composed
+pub mod Left
 pub mod Shortened

@@ -1,111 +1,43 @@
 -- Shorten over lent storage that is enough is Shorten of the procedure that the parts hold.
-use Prim.Native.Nat.{ℕ, _+_, _*_, _/_, _≤_, _<_, min}
-use native.Mathlib.Omega.{arith}
+use Prim.Native.Nat.{ℕ, _/_}
 use mathlib.Core.Path.{_≡_, refl, sym, ap, subst, _∙_}
-use mathlib.Core.Bool.{Bool, true, false}
-use mathlib.Core.List.{List, map}
+use mathlib.Core.List.{List, [], map}
 use mathlib.Core.Option.{Option}
-use mathlib.Core.Logic.{_⊎_, inl, inr}
-use lib.ListN.{length, take}
-use lib.Seq.{take-all}
-use Rattle.general.proofs.Numbers.{order}
-use Rattle.format.specs.declared.Record.{Record}
+use lib.ListN.{length}
 use Rattle.format.specs.Record.{recordsOf}
-use Rattle.format.proofs.Laws.{length-records}
 use Rattle.store.specs.Store.{Bytes}
+use Rattle.layout.specs.declared.Layout.{Layout}
 use Rattle.procedure.specs.Procedure.{Procedure, firstOf}
-use Rattle.procedure.specs.Lists.{joined}
-use Rattle.blocks.proofs.Parts.{records-part}
-use Rattle.steps.specs.Run.{Shortened, run, armsJoined}
-use Rattle.steps.specs.Shorten.{shortened}
-use Rattle.opened.specs.Opened.{Parts, Opened}
-use Rattle.run.specs.Ran.{Left, Stays}
-use Rattle.run.proofs.Lent as r
-use Rattle.run.proofs.Laws.{still, edited}
+use Rattle.steps.specs.Run.{Shortened, unchanged, run}
+use Rattle.steps.specs.Shorten.{Outcome, shortened}
+use Rattle.opened.specs.Opened.{Parts, partsOf, recoded, Holds, Parted, Opened}
+use Rattle.run.specs.Ran.{Left, ranIn, Stays}
 use Rattle.run.proofs.Unchanged.{stays-run}
-use Rattle.shortening.specs.Storage.{fronted, Lent, sizeOf, StaysIn, sentIn, leftIn, writtenIf, shortIn, Enough}
-use Rattle.shortening.proofs.Fronts.{fronted-length, fronted-first, fronted-bytes}
-use Rattle.shortening.proofs.Written.{emitted-written, still-written}
-
--- a part of whole records that would end past the last ends there
-records-take : (b : List ℕ) (n : ℕ) → recordsOf (take (32 * min n (length b / 32)) b) ≡ recordsOf (take (32 * n) b)
-records-take b n = by (order (length b / 32) n)
-  where
-    by : (length b / 32 < n) ⊎ (n ≤ length b / 32) → recordsOf (take (32 * min n (length b / 32)) b) ≡ recordsOf (take (32 * n) b)
-    by (inl i) =
-        let m : min n (length b / 32) ≡ length b / 32 = omega arith in
-        let l = length-records b in
-        ap (λ (k : ℕ). recordsOf (take (32 * k) b)) m
-        ∙ records-part b 0 (length b / 32) (omega arith)
-        ∙ take-all (length b / 32) (recordsOf b) (omega arith)
-        ∙ ap recordsOf (sym (take-all (32 * n) b (omega arith)))
-    by (inr i) = let m : min n (length b / 32) ≡ n = omega arith in ap (λ (k : ℕ). recordsOf (take (32 * k) b)) m
+use Rattle.shortening.specs.Storage.{fronted, Lent, StaysIn, leftIn, Enough, LeftOf}
 
 -- where no step does anything, the parts as they were sent are the result
-pub sent-run : (p : Procedure) (x : Parts) → Opened p x → StaysIn x → (out : List ℕ) → sentIn x out ≡ shortened (run p) out
-sent-run p x o s out =
-    let same = stays-run p x o (subst (λ (b : Option ℕ). Stays b (x .code) (x .heads)) (o .body) s) in
-    still-written p x o (p .blocks) (x .code) false out same (o .code-records) refl
+pub sent-run : (p : Procedure) (x : Parts) → Opened p x → StaysIn x → run p ≡ unchanged p
+sent-run p x o s = stays-run p x o (subst (λ (b : Option ℕ). Stays b (x .code) (x .heads)) (o .parted .body) s)
 
-module _ (p : Procedure) (x : Parts) (o : Opened p x) (s : Lent) (e : Enough x s) (bytes : Bytes (s .work)) where
-  size : sizeOf x ≡ length (joined (p .blocks))
-  size = let c = o .code-length in omega arith
+module _ (b : List ℕ) (l : Layout) where
+  abbrev x : Parts
+  x = partsOf b l
 
-  code-fits : length (x .code) ≤ length (s .work)
-  code-fits = let c = o .code-length in let n = size in let w = e .work in omega arith
+  -- by the parts that were cut: no step does anything
+  pub stays-is : {code heads body : List ℕ} {pause : Option ℕ} → body ≡ x .body → pause ≡ firstOf (map (λ r. r .p1) (recordsOf body))
+      → code ≡ x .code → heads ≡ x .heads → Stays pause code heads → StaysIn x
+  stays-is y p c h s = rw (p, y, c, h) at s
 
-  lent : r.Lent p x (firstOf (map (λ r. r .p1) (recordsOf (x .body)))) (s .known) (s .copy) (sizeOf x)
-      (fronted (s .work) (x .code)) (fronted (s .table) (x .heads)) (s .kinds) (s .facts)
-  lent =
-      let n = size in
-      let long = fronted-length (s .work) (x .code) code-fits in
-      let wide = fronted-length (s .table) (x .heads) (let t = e .table in omega arith) in
-      let t = e .table in
-      let w = e .work in
-      let v = e .word in
-      let k = e .kinds in
-      let f = e .facts in
-      let g = o .registers-length in
-      let a = e .known in
-      let c = e .copy in
-      record {
-        opened = o;
-        body-is = o .body;
-        n-is = n;
-        code = fronted-first (s .work) (x .code) code-fits;
-        bytes = fronted-bytes (s .work) (x .code) bytes (o .code-bytes);
-        heads = sym (take-all (length (x .heads)) (fronted (s .table) (x .heads)) (omega arith)) ∙ fronted-first (s .table) (x .heads) (omega arith);
-        space = omega arith;
-        words = omega arith;
-        registers = omega arith;
-        five = omega arith;
-        known-words = omega arith;
-        copy-words = omega arith;
-      }
+  pub sent-held : {code heads : List ℕ} → code ≡ x .code → heads ≡ x .heads → (p : Procedure) → Parted p x → Holds p (recoded x code heads) []
+  sent-held c h p o = rw (c, h) o
 
-  abbrev l : Left
-  l = leftIn x s
-
-  module _ (out : List ℕ) where
-    by-edited : (t : Bool) → l .store .at .edited ≡ t → writtenIf t x l out ≡ shortened (run p) out
-    by-edited true h =
-        let z = edited lent h in
-        let long = z .long .table in
-        let wide = fronted-length (s .table) (x .heads) (let t = e .table in omega arith) in
-        let t = e .table in
-        let heads = o .heads-length in
-        let few = o .well-formed .blocks in
-        let kinds = z .long .kinds in
-        let fresh = z .long .fresh in
-        emitted-written p x o (l .store) (l .facts) (length (joined (p .blocks)) / 2 + 32) (omega arith) (z .stored .canonical)
-        (armsJoined p .procedure .blocks) out (z .emitted) (omega arith)
-    by-edited false h =
-        let z = still lent h in
-        still-written p x o _ (take (32 * min (sizeOf x) (length (l .store .work) / 32)) (l .store .work)) (l .joined) out
-        (λ i. record { procedure = z .procedure i; moved = z .moved i; grown = z .grown i; fresh = z .fresh i; rescued = z .rescued i })
-        (records-take (l .store .work) (sizeOf x) ∙ ap (λ (n : ℕ). recordsOf (take (32 * n) (l .store .work))) size ∙ z .coded .records)
-        (z .coded .heads)
-
-    pub short-run : shortIn x s out ≡ shortened (run p) out
-    unfolding shortIn
-    short-run = by-edited (l .store .at .edited) refl
+  -- and what `run` left
+  pub left-of : (s : Lent) {code heads body registers operands work table : List ℕ} {pause : Option ℕ} {n : ℕ} {z : Left}
+      → code ≡ x .code → work ≡ fronted (s .work) code
+      → heads ≡ x .heads → table ≡ fronted (s .table) heads
+      → body ≡ x .body → pause ≡ firstOf (map (λ r. r .p1) (recordsOf body))
+      → registers ≡ x .registers → operands ≡ x .operands → n ≡ length code / 32
+      → z ≡ ranIn pause (s .known) (s .copy) operands registers n work table (s .kinds) (s .facts)
+      → Bytes (s .work) → (p : Procedure) → Opened p x → Enough x s → LeftOf p x z
+  left-of s c w h t y p r q n z bytes _ o e =
+      record { opened = o; storage = s; enough = e; bytes = bytes; is = z ∙ rw (p, y, q, r, n, w, t, c, h) refl }

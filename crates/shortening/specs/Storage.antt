@@ -1,16 +1,16 @@
--- Storage, not the paper's: what Shorten answers and writes, by the parts of a file and the work storage that is lent, for any bytes.
+-- Storage, not the paper's: what is lent to Shorten, and what stands there before it is written.
 use Prim.Native.Nat.{ℕ, _+_, _*_, _/_, _≤_, min}
 use mathlib.Core.Path.{_≡_}
-use mathlib.Core.Bool.{Bool, true, false}
+use mathlib.Core.Bool.{Bool}
 use mathlib.Core.List.{List, map}
-use lib.ListN.{length, take}
+use lib.ListN.{length}
 use lib.Seq.{paste}
 use Rattle.format.specs.Record.{recordsOf}
-use Rattle.procedure.specs.Procedure.{firstOf}
-use Rattle.steps.specs.Shorten.{Outcome}
-use Rattle.opened.specs.Opened.{Parts}
+use Rattle.store.specs.Store.{Bytes}
+use Rattle.procedure.specs.Procedure.{Procedure, firstOf}
+use Rattle.steps.specs.Run.{Shortened}
+use Rattle.opened.specs.Opened.{Parts, Opened}
 use Rattle.run.specs.Ran.{Left, ranIn, Stays}
-use Rattle.output.specs.Filed.{filed, counts, sameRecords, short, emittedIn}
 
 -- some bytes written over the first of others, as far as there is room
 abbrev pub fronted : List ℕ → List ℕ → List ℕ
@@ -36,30 +36,11 @@ sizeOf x = length (x .code) / 32
 abbrev pub StaysIn : Parts → Type 0
 StaysIn x = Stays (firstOf (map (λ r. r .p1) (recordsOf (x .body)))) (x .code) (x .heads)
 
--- the parts written as they were sent
-abbrev pub sentIn : Parts → List ℕ → Outcome
-sentIn x out = filed (sameRecords (x .registers) (x .heads) (x .body) (x .code) (x .operands) (x .arms)) (counts false 0 0 0) out
-
 -- what `run` leaves before emit
 abbrev pub leftIn : Parts → Lent → Left
 leftIn x s =
     ranIn (firstOf (map (λ r. r .p1) (recordsOf (x .body)))) (s .known) (s .copy) (x .operands) (x .registers) (sizeOf x)
     (fronted (s .work) (x .code)) (fronted (s .table) (x .heads)) (s .kinds) (s .facts)
-
--- "Only if threading edited some block.": emit, or the code with its equal arms joined
-abbrev pub writtenIf : Bool → Parts → Left → List ℕ → Outcome
-writtenIf true x l out =
-    emittedIn (l .store .work) (l .store .table) (x .arms) (l .facts) (x .registers)
-    (take (min (l .store .at .fresh) (length (l .store .kinds))) (l .store .kinds)) (x .body) (x .operands) (short (l .store .at .grown)) out
-writtenIf false x l out =
-    let code = take (32 * min (sizeOf x) (length (l .store .work) / 32)) (l .store .work) in
-    filed (sameRecords (x .registers) (x .heads) (x .body) code (x .operands) (x .arms)) (counts (l .joined) 0 0 0) out
-
-abbrev pub writtenIn : Parts → Left → List ℕ → Outcome
-writtenIn x l out = writtenIf (l .store .at .edited) x l out
-
-unfoldable pub shortIn : Parts → Lent → List ℕ → Outcome
-shortIn x s out = writtenIn x (leftIn x s) out
 
 -- storage that is enough for a file
 pub record Enough (x : Parts) (s : Lent) : Type 0 where
@@ -70,3 +51,23 @@ pub record Enough (x : Parts) (s : Lent) : Type 0 where
   pub facts : length (s .facts) ≡ 5 * (length (x .registers) / 32)
   pub known : sizeOf x + 15 ≤ s .known / 2
   pub copy : sizeOf x + 15 ≤ s .copy / 2
+
+-- and for what Emit leaves of it
+pub record Staging (x : Parts) (code heads : ℕ) : Type 0 where
+  pub code-room : sizeOf x + sizeOf x / 2 + 36 ≤ code / 32
+  pub heads-room : heads ≡ length (x .heads)
+
+-- what `run` left before emit of an opened file, in storage that was enough
+pub record LeftOf (p : Procedure) (x : Parts) (l : Left) : Type 0 where
+  pub opened : Opened p x
+  pub storage : Lent
+  pub enough : Enough x storage
+  pub bytes : Bytes (storage .work)
+  pub is : l ≡ leftIn x storage
+
+-- the counts of a result, as they are told
+pub record Tells (s : Shortened) (moved : Bool) (grown fresh rescued : ℕ) : Type 0 where
+  pub is-moved : s .moved ≡ moved
+  pub is-grown : s .grown ≡ grown
+  pub is-fresh : s .fresh ≡ fresh
+  pub is-rescued : s .rescued ≡ rescued

@@ -1,16 +1,17 @@
 // Shorten over lent storage, of a file that is read and within the limits.
 ghost use mathlib.Core.Path.{_≡_};
 ghost use mathlib.Core.Bool.{true, false};
-ghost use mathlib.Core.List.{List, map};
-ghost use Prim.Native.Nat.{ℕ};
+ghost use mathlib.Core.List.{map};
 ghost use lib.ListN.{length};
 ghost use Rattle.format.specs.Record.{recordsOf};
-ghost use Rattle.procedure.specs.Procedure.{firstOf};
+ghost use Rattle.procedure.specs.Procedure.{Procedure, firstOf};
+ghost use Rattle.steps.specs.Run.{Shortened, unchanged, run as runOf};
+ghost use Rattle.steps.specs.Shorten.{shortened};
 ghost use Rattle.pausing.specs.Storage.{bodyIn};
-ghost use Rattle.opened.specs.Opened.{partsOf};
+ghost use Rattle.opened.specs.Opened.{partsOf, recoded, Holds, Parted, Opened};
 ghost use Rattle.run.specs.Ran.{left};
 ghost use Rattle.output.specs.Filed.{outcome};
-ghost use Rattle.shortening.specs.Storage.{fronted, lent, StaysIn, sentIn, writtenIf, writtenIn, shortIn};
+ghost use Rattle.shortening.specs.Storage.{fronted, lent, StaysIn, Tells, LeftOf, Enough, Staging};
 use inst::BlockId;
 use layout::Layout;
 use pausing::Pause;
@@ -52,42 +53,86 @@ pub fn stays(b: &[u8], l: Layout) -> bool
     )
 }
 
-// The parts of a file are written as they were sent.
-pub fn put_sent(out: &mut [u8], b: &[u8], l: Layout) -> Answer
-    ensures { λ z. ⌜ outcome z (now (out .exit)) ≡ sentIn (partsOf (now (b .entry)) l) (now (out .entry)) ⌝ }
+// Code, block table and new registers hold a result: it is written with the other parts of the file, where it fits.
+// Steps behind Emit go here, each over the storage in place.
+fn finish(
+    out: &mut [u8],
+    b: &[u8],
+    l: Layout,
+    code: &[u8],
+    heads: &[u8],
+    kinds: &[u8],
+    moved: bool,
+    grown: u32,
+    rescued: u32,
+) -> Answer
+    ensures { λ z. ⌜ ((s : Shortened)
+        → Holds (s .procedure) (recoded (partsOf (now (b .entry)) l) (now (code .entry)) (now (heads .entry))) (now (kinds .entry))
+        → Tells s moved grown (length (now (kinds .entry))) rescued
+        → outcome z (now (out .exit)) ≡ shortened s (now (out .entry))) ⌝ }
 {
-    output::put_same(
+    output::put_form(
         out,
         classes::part(b, 0, l.blocks),
-        classes::part(b, l.blocks, l.bodies),
+        kinds,
+        heads,
         classes::part(b, l.bodies, l.code),
-        classes::part(b, l.code, l.operands),
+        code,
         classes::part(b, l.operands, l.arms),
         classes::part(b, l.arms, l.end),
-        false,
+        moved,
+        grown,
+        rescued,
     )
 }
 
-// Nothing is threaded: the code with its equal arms joined is written.
-fn write_same(out: &mut [u8], b: &[u8], l: Layout, work: &[u8], r: Ran) -> Answer
-    ensures { λ z. ⌜ ((table kinds facts : List ℕ) → outcome z (now (out .exit))
-        ≡ writtenIf false (partsOf (now (b .entry)) l) (left (now (work .entry)) table kinds facts r) (now (out .entry))) ⌝ }
+// The parts of a file are written as they were sent.
+pub fn put_sent(out: &mut [u8], b: &[u8], l: Layout) -> Answer
+    ensures { λ z. ⌜ ((p : Procedure) → Parted p (partsOf (now (b .entry)) l) → outcome z (now (out .exit)) ≡ shortened (unchanged p) (now (out .entry))) ⌝ }
+{
+    finish(
+        out,
+        b,
+        l,
+        classes::part(b, l.code, l.operands),
+        classes::part(b, l.blocks, l.bodies),
+        &b[..0],
+        false,
+        0,
+        0,
+    )
+}
+
+// Nothing is threaded: the storage holds the result already, the code with its equal arms joined.
+fn write_same(
+    out: &mut [u8],
+    b: &[u8],
+    l: Layout,
+    work: &[u8],
+    table: &[u8],
+    kinds: &[u8],
+    facts: &[u64],
+    r: Ran,
+) -> Answer
+    ensures { λ z. ⌜ ((p : Procedure) → LeftOf p (partsOf (now (b .entry)) l) (left (now (work .entry)) (now (table .entry)) (now (kinds .entry)) (now (facts .entry)) r)
+        → r .at .edited ≡ false → outcome z (now (out .exit)) ≡ shortened (runOf p) (now (out .entry))) ⌝ }
 {
     let n = classes::part(b, l.code, l.operands).len() / 32;
     let m = blocks::least(n, work.len() / 32);
-    output::put_same(
+    finish(
         out,
-        classes::part(b, 0, l.blocks),
-        classes::part(b, l.blocks, l.bodies),
-        classes::part(b, l.bodies, l.code),
+        b,
+        l,
         &work[..32 * m],
-        classes::part(b, l.operands, l.arms),
-        classes::part(b, l.arms, l.end),
+        table,
+        &kinds[..0],
         r.joined,
+        0,
+        0,
     )
 }
 
-// Threading edited some block: what is emitted is written.
+// Threading edited some block: Emit leaves its result in the storage for it.
 fn write_emitted(
     out: &mut [u8],
     b: &[u8],
@@ -96,12 +141,18 @@ fn write_emitted(
     table: &[u8],
     kinds: &[u8],
     facts: &[u64],
+    code: &mut [u8],
+    heads: &mut [u8],
     r: Ran,
 ) -> Answer
-    ensures { λ z. ⌜ outcome z (now (out .exit))
-        ≡ writtenIf true (partsOf (now (b .entry)) l) (left (now (work .entry)) (now (table .entry)) (now (kinds .entry)) (now (facts .entry)) r)
-        (now (out .entry)) ⌝ }
+    ensures { λ z. ⌜ ((p : Procedure)
+        → LeftOf p (partsOf (now (b .entry)) l) (left (now (work .entry)) (now (table .entry)) (now (kinds .entry)) (now (facts .entry)) r)
+        → Staging (partsOf (now (b .entry)) l) (length (now (code .entry))) (length (now (heads .entry)))
+        → r .at .edited ≡ true → outcome z (now (out .exit)) ≡ shortened (runOf p) (now (out .entry))) ⌝ }
 {
+    let arms = classes::part(b, l.arms, l.end);
+    let e = staged::emit_into(code, heads, work, table, arms, facts);
+    let n = e.n;
     let at = r.at;
     let m = blocks::least(at.fresh, kinds.len());
     let grown = if at.grown < 4294967295 {
@@ -109,21 +160,20 @@ fn write_emitted(
     } else {
         4294967295
     };
-    output::emit(
+    finish(
         out,
-        classes::part(b, 0, l.blocks),
+        b,
+        l,
+        &code[..32 * n],
+        heads,
         &kinds[..m],
-        work,
-        table,
-        facts,
-        classes::part(b, l.bodies, l.code),
-        classes::part(b, l.operands, l.arms),
-        classes::part(b, l.arms, l.end),
+        true,
         grown,
+        e.rescued,
     )
 }
 
-// What `run` left is written.
+// What `run` left is emitted where threading edited some block, and written.
 fn write(
     out: &mut [u8],
     b: &[u8],
@@ -132,17 +182,20 @@ fn write(
     table: &[u8],
     kinds: &[u8],
     facts: &[u64],
+    code: &mut [u8],
+    heads: &mut [u8],
     r: Ran,
 ) -> Answer
-    ensures { λ z. ⌜ outcome z (now (out .exit))
-        ≡ writtenIn (partsOf (now (b .entry)) l) (left (now (work .entry)) (now (table .entry)) (now (kinds .entry)) (now (facts .entry)) r)
-        (now (out .entry)) ⌝ }
+    ensures { λ z. ⌜ ((p : Procedure)
+        → LeftOf p (partsOf (now (b .entry)) l) (left (now (work .entry)) (now (table .entry)) (now (kinds .entry)) (now (facts .entry)) r)
+        → Staging (partsOf (now (b .entry)) l) (length (now (code .entry))) (length (now (heads .entry)))
+        → outcome z (now (out .exit)) ≡ shortened (runOf p) (now (out .entry))) ⌝ }
 {
     let at = r.at;
     if at.edited {
-        return write_emitted(out, b, l, work, table, kinds, facts, r);
+        return write_emitted(out, b, l, work, table, kinds, facts, code, heads, r);
     }
-    write_same(out, b, l, work, r)
+    write_same(out, b, l, work, table, kinds, facts, r)
 }
 
 // The steps over the parts of a file, and their result written where it fits.
@@ -156,11 +209,14 @@ pub fn shorten_in(
     known: &mut [u64],
     copy: &mut [u32],
     facts: &mut [u64],
+    staged: &mut [u8],
+    heads: &mut [u8],
 ) -> Answer
-    ensures { λ z. ⌜ outcome z (now (out .exit))
-        ≡ shortIn (partsOf (now (b .entry)) l)
+    ensures { λ z. ⌜ ((p : Procedure) → Opened p (partsOf (now (b .entry)) l)
+        → Enough (partsOf (now (b .entry)) l)
         (lent (now (work .entry)) (now (table .entry)) (now (kinds .entry)) (now (facts .entry)) (length (now (known .entry))) (length (now (copy .entry))))
-        (now (out .entry)) ⌝ }
+        → Staging (partsOf (now (b .entry)) l) (length (now (staged .entry))) (length (now (heads .entry)))
+        → outcome z (now (out .exit)) ≡ shortened (runOf p) (now (out .entry))) ⌝ }
 {
     let code = classes::part(b, l.code, l.operands);
     put_front(work, code);
@@ -181,5 +237,5 @@ pub fn shorten_in(
         pause,
         n,
     );
-    write(out, b, l, work, table, kinds, facts, r)
+    write(out, b, l, work, table, kinds, facts, staged, heads, r)
 }

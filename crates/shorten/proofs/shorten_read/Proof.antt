@@ -1,6 +1,7 @@
-use native.Mathlib.Omega.{arith}
-use mathlib.Core.Path.{_∙_}
+use mathlib.Core.Path.{sym, ap, _∙_}
 use denote.Ref.{now}
+use Rattle.steps.specs.Run.{Shortened}
+use Rattle.steps.specs.Shorten.{shortened}
 use Rattle.opened.specs.Opened.{partsOf}
 use Rattle.shortening.proofs.Shortened.{sent-run}
 use Rattle.shorten.proofs.Tiers.{fitting}
@@ -10,9 +11,12 @@ use Rattle.shorten.proofs.shorten_read.Tie as tie
 
 returns : tie.Need-returns
 returns c p o =
-    let i = c .before .before .before .before in
-    let a = i .before .before .before .before .args in
-    c .before .before .put-sent .ensures ∙ sent-run p (partsOf (now (a .b)) (a .l)) o (i .before .stays .ensures (i .if1 .taken)) (now (a .out))
+    let q : tie.After-put-sent = search in
+    let i : tie.Then1 = search in
+    let t : tie.After-stays = search in
+    let a = t .before .before .before .args in
+    q .put-sent .ensures p (o .parted)
+    ∙ sym (ap (λ (z : Shortened). shortened z (now (a .out))) (sent-run p (partsOf (now (a .b)) (a .l)) o (t .stays .ensures (i .if1 .taken))))
 
 returns-5 : tie.Need-returns-5
 returns-5 c =

@@ -1,18 +1,21 @@
+use mathlib.Core.Path.{refl}
 use denote.Ref.{now}
-use Rattle.shortening.proofs.Composed.{sent-is}
+use Rattle.steps.specs.Run.{unchanged}
+use Rattle.shortening.proofs.Shortened.{sent-held}
 use borrow.Author.Needs.{needs}
 use Rattle.shortening.proofs.put_sent.Statement.{statement}
 use Rattle.shortening.proofs.put_sent.Tie as tie
 
 returns : tie.Need-returns
-returns c =
-    let q = c .before .before in
-    let m = q .before .before .before .before in
-    let a = m .before .before .before .before .before .before .args in
-    sent-is (now (a .b)) (a .l) (now (a .out)) (m .before .before .part .ensures) (m .before .part2 .ensures) (m .part3 .ensures)
-    (q .before .before .before .part4 .ensures) (q .before .before .part5 .ensures) (q .before .part6 .ensures) (q .put-same .ensures)
+returns c p h =
+    let q : tie.After-finish = search in
+    let p2 : tie.After-part2 = search in
+    let p1 : tie.After-part = search in
+    let s : tie.Start = search in
+    q .finish .ensures (unchanged p) (sent-held (now (s .args .b)) (s .args .l) (p1 .part .ensures) (p2 .part2 .ensures) p h)
+    (record { is-moved = refl; is-grown = refl; is-fresh = refl; is-rescued = refl })
 
 pub put-sent-spec : {M : Type 1} → statement M
 put-sent-spec =
-    tie.close (tie.spec (λ c κs. search needs) (λ c κs. search needs) (λ c κs. search needs) (λ c κs. search needs)
-    (λ c κs. search needs) (λ c κs. search needs) (λ c κs. search needs) (λ c. search needs) returns)
+    tie.close (tie.spec (λ c κs. search needs) (λ c κs. search needs) (λ c. search needs) (λ c κs. search needs)
+    (λ c. search needs) returns)

@@ -1,5 +1,5 @@
 use denote.Ref.{now}
-use Rattle.shortening.proofs.Composed.{stays-is}
+use Rattle.shortening.proofs.Shortened.{stays-is}
 use borrow.Author.Needs.{needs}
 use Rattle.shortening.proofs.stays.Statement.{statement}
 use Rattle.shortening.proofs.stays.Tie as tie

@@ -1,28 +1,67 @@
-use mathlib.Core.Logic.{⊎-elim}
+use Prim.Native.Nat.{_+_, _/_, _≤_}
 use native.Mathlib.Omega.{arith}
+use mathlib.Core.Path.{_≡_}
+use mathlib.Core.Logic.{⊎-elim}
 use denote.Ref.{now}
-use lib.ListN.{length-take}
-use Rattle.shortening.proofs.Composed.{emitted-is}
+use lib.ListN.{length, length-take}
+use Rattle.procedure.specs.Lists.{joined}
+use Rattle.steps.specs.Run.{armsJoined, run}
+use Rattle.opened.specs.Opened.{partsOf}
+use Rattle.thread.specs.Storage.{store}
+use Rattle.thread.proofs.Refined.{workOf}
+use Rattle.output.proofs.Laws.{room}
+use Rattle.shortening.proofs.Left.{ready, emitted-held, emitted-tells}
 use borrow.Author.Needs.{needs}
 use Rattle.shortening.proofs.write_emitted.Statement.{statement}
 use Rattle.shortening.proofs.write_emitted.Tie as tie
 
-slice-aggregate-emit : tie.Need-slice-aggregate-emit
-slice-aggregate-emit c = let e = c .before .before .before .before .before .least .ensures in simp length-take (omega arith)
+abbrev emitted-of : tie.After-least → tie.After-emit-into
+emitted-of m = search
+
+abbrev arms-of : tie.After-emit-into → tie.After-part
+arms-of e = search
+
+abbrev start-of : tie.After-part → tie.Start
+start-of p = search
+
+mul-finish : tie.Need-mul-finish
+mul-finish c =
+    let m : tie.After-least = search in
+    let q = emitted-of m in
+    let s = start-of (arms-of q) in
+    record { fits = room (length (now (s .args .code))) _ (q .emit-into .ensures .0) (s .good .1 .1 .1 .1 .1 .1 .1 .0 .0) }
+
+slice-aggregate-finish : tie.Need-slice-aggregate-finish
+slice-aggregate-finish c =
+    let m : tie.After-least = search in
+    let q = emitted-of m in
+    let a = start-of (arms-of q) .args in
+    let e : q .emit-into .result .n ≤ length (now (a .code)) / 32 = q .emit-into .ensures .0 in
+    let k : length (q .emit-into .last .0) ≡ length (now (a .code)) = q .emit-into .kept .0 in
+    simp length-take (omega arith)
+
+slice-aggregate-finish-2 : tie.Need-slice-aggregate-finish-2
+slice-aggregate-finish-2 c =
+    let m : tie.After-least = search in
+    let e = m .least .ensures in
+    simp length-take (omega arith)
 
 returns : tie.Need-returns
-returns c =
-    let q = c .before .before in
-    let i = q .before .before .before .before .before .before .before in
-    let m = i .before .before in
-    let a = m .before .before .before .before .before .before .before .before .args in
-    emitted-is (now (a .b)) (a .l) (now (a .work)) (now (a .table)) (now (a .facts)) (now (a .kinds)) (now (a .out)) (a .r .at .fresh) (a .r .at .grown)
-    (q .before .before .before .before .before .part .ensures) (m .least .ensures) (q .before .before .before .part2 .ensures)
-    (q .before .before .part3 .ensures) (q .before .part4 .ensures)
-    (⊎-elim (λ w. omega arith) (λ w. omega arith) (i .if1 .came)) (q .emit .ensures)
+returns c p h g on =
+    let f : tie.After-finish = search in
+    let i : tie.Joined1 = search in
+    let m : tie.After-least = search in
+    let q = emitted-of m in
+    let y = arms-of q in
+    let a = start-of y .args in
+    let x = partsOf (now (a .b)) (a .l) in
+    let w = q .emit-into .ensures .1 (armsJoined p .procedure) (workOf (store (now (a .work)) (now (a .table)) (now (a .kinds)) (a .r .at))) (p .body)
+    (length (joined (p .blocks)) / 2 + 32) (ready p x h on (length (now (a .code))) (length (now (a .heads))) (y .part .ensures) g) in
+    f .finish .ensures (run p) (emitted-held p x h on w (m .least .ensures))
+    (emitted-tells p x h on w (m .least .ensures) (⊎-elim (λ w. omega arith) (λ w. omega arith) (i .if1 .came)))
 
 pub write-emitted-spec : {M : Type 1} → statement M
 write-emitted-spec =
-    tie.close (tie.spec (λ c κs. search needs) (λ c. search needs) (λ c κs. search needs) slice-aggregate-emit
-    (λ c κs. search needs) (λ c κs. search needs) (λ c κs. search needs) (λ c κs. search needs) (λ c. search needs)
-    returns)
+    tie.close (tie.spec (λ c κs. search needs) (λ c κs. search needs) (λ c κs. search needs) (λ c. search needs) mul-finish
+    (λ c. search needs) slice-aggregate-finish slice-aggregate-finish-2 (λ c κs. search needs) (λ c. search needs)
+    (λ c. search needs) (λ c. search needs) returns)

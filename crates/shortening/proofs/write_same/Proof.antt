@@ -1,26 +1,38 @@
+use Prim.Native.Nat.{ℕ, _*_, _/_, min}
 use native.Mathlib.Omega.{arith}
+use mathlib.Core.Path.{sym, ap, subst, _∙_}
+use mathlib.Core.List.{List, []}
 use denote.Ref.{now}
-use lib.ListN.{length-take}
-use Rattle.shortening.proofs.Composed.{same-is}
+use lib.ListN.{length, take, length-take}
+use Rattle.steps.specs.Run.{run}
+use Rattle.opened.specs.Opened.{partsOf, recoded, Holds}
+use Rattle.shortening.proofs.Left.{same-held, same-tells}
 use borrow.Author.Needs.{needs}
 use Rattle.shortening.proofs.write_same.Statement.{statement}
 use Rattle.shortening.proofs.write_same.Tie as tie
 
-slice-aggregate-put-same : tie.Need-slice-aggregate-put-same
-slice-aggregate-put-same c = let e = c .before .before .before .before .before .least .ensures in simp length-take (omega arith)
+slice-aggregate-finish : tie.Need-slice-aggregate-finish
+slice-aggregate-finish c =
+    let m : tie.After-least = search in
+    let e = m .least .ensures in
+    simp length-take (omega arith)
+
+abbrev start-of : tie.After-part → tie.Start
+start-of p = search
 
 returns : tie.Need-returns
-returns c table kinds facts =
-    let q = c .before .before in
-    let m = q .before .before .before .before .before .before .before .before in
-    let a = m .before .before .before .before .before .args in
-    same-is (now (a .b)) (a .l) (now (a .work)) (a .r .joined) (now (a .out)) (m .before .part .ensures) (m .least .ensures)
-    (q .before .before .before .before .before .before .part2 .ensures)
-    (q .before .before .before .before .before .part3 .ensures) (q .before .before .before .before .part4 .ensures)
-    (q .before .before .part5 .ensures) (q .before .part6 .ensures) (q .put-same .ensures)
+returns c p h off =
+    let q : tie.After-finish = search in
+    let m : tie.After-least = search in
+    let p1 : tie.After-part = search in
+    let a = start-of p1 .args in
+    let x = partsOf (now (a .b)) (a .l) in
+    let n = m .least .ensures ∙ ap (λ (y : List ℕ). min (length y / 32) (length (now (a .work)) / 32)) (p1 .part .ensures) in
+    q .finish .ensures (run p)
+    (subst (λ (n : ℕ). Holds (run p .procedure) (recoded x (take (32 * n) (now (a .work))) (now (a .table))) []) (sym n) (same-held p x h off))
+    (same-tells p x h off)
 
 pub write-same-spec : {M : Type 1} → statement M
 write-same-spec =
-    tie.close (tie.spec (λ c κs. search needs) (λ c κs. search needs) (λ c κs. search needs) (λ c κs. search needs)
-    (λ c κs. search needs) (λ c. search needs) slice-aggregate-put-same (λ c κs. search needs) (λ c κs. search needs)
-    (λ c κs. search needs) (λ c. search needs) returns)
+    tie.close (tie.spec (λ c κs. search needs) (λ c κs. search needs) (λ c. search needs) slice-aggregate-finish
+    (λ c. search needs) (λ c κs. search needs) (λ c. search needs) returns)

@@ -1,5 +1,5 @@
-//! The library's steps alone: `halivomue_run` and `halivomue_emit` of the shared object that HALIVOMUE_STEPS names, made
-//! of the crate `steps_c`. What they need is opened here, outside of what is timed.
+//! The library's steps alone: `halivomue_run`, `halivomue_emit` and `halivomue_put` of the shared object that HALIVOMUE_STEPS
+//! names, made of the crate `steps_c`. What they need is opened here, outside of what is timed.
 
 use halivomue_reference::library::symbol;
 use halivomue_reference::record::RECORD;
@@ -38,7 +38,27 @@ type Run = unsafe extern "C" fn(
     usize,
     usize,
 ) -> Ran;
+#[repr(C)]
+struct Staged {
+    n: usize,
+    rescued: u32,
+}
+
 type Emit = unsafe extern "C" fn(
+    *mut u8,
+    usize,
+    *mut u8,
+    usize,
+    Bytes,
+    usize,
+    Bytes,
+    usize,
+    Bytes,
+    usize,
+    *const u64,
+    usize,
+) -> Staged;
+type Put = unsafe extern "C" fn(
     *mut u8,
     usize,
     Bytes,
@@ -49,8 +69,6 @@ type Emit = unsafe extern "C" fn(
     usize,
     Bytes,
     usize,
-    *const u64,
-    usize,
     Bytes,
     usize,
     Bytes,
@@ -58,12 +76,14 @@ type Emit = unsafe extern "C" fn(
     Bytes,
     usize,
     u32,
+    u32,
 ) -> usize;
 
 #[derive(Clone, Copy)]
 pub struct Steps {
     run: Run,
     emit: Emit,
+    put: Put,
     out: Slice<u8>,
 }
 
@@ -75,7 +95,8 @@ impl Steps {
         // They have the signatures of crates/steps_c, a slice being a pointer and a length.
         let run = unsafe { transmute::<*mut c_void, Run>(found(c"halivomue_run")) };
         let emit = unsafe { transmute::<*mut c_void, Emit>(found(c"halivomue_emit")) };
-        Some(Steps { run, emit, out: Slice::zeroed(65_536) })
+        let put = unsafe { transmute::<*mut c_void, Put>(found(c"halivomue_put")) };
+        Some(Steps { run, emit, put, out: Slice::zeroed(65_536) })
     }
 }
 
@@ -99,10 +120,10 @@ impl<T: Clone + Default> Slice<T> {
     }
 }
 
-/// Calls a function with slices, each as a pointer and a length, and one number.
+/// Calls a function with slices, each as a pointer and a length, and some numbers.
 macro_rules! call {
-    ($function:expr, ($($slice:expr),*), $number:expr) => {
-        ($function)($($slice.at, $slice.len,)* $number)
+    ($function:expr, ($($slice:expr),*) $(, $number:expr)*) => {
+        ($function)($($slice.at, $slice.len,)* $($number,)*)
     };
 }
 
@@ -115,6 +136,8 @@ pub struct Opened {
     known: Slice<u64>,
     copy: Slice<u32>,
     facts: Slice<u64>,
+    staged: Slice<u8>,
+    heads: Slice<u8>,
 }
 
 impl Opened {
@@ -136,6 +159,8 @@ impl Opened {
             known: Slice::zeroed(2 * (n + 15)),
             copy: Slice::zeroed(2 * (n + 15)),
             facts: Slice::zeroed(5 * (parts[0].len / RECORD)),
+            staged: Slice::zeroed((n + n / 2 + 36) * RECORD),
+            heads: Slice::zeroed(parts[1].len),
         }
     }
 
@@ -149,9 +174,9 @@ impl Opened {
         }
     }
 
-    /// The steps, once it is opened; how many bytes emit wrote, if threading edited some block.
+    /// The steps, once it is opened; how many bytes of emit's result were written, if threading edited some block.
     pub fn steps(&self, steps: Steps) -> Option<usize> {
-        let Opened { parts, work, table, kinds, known, copy, facts } = self;
+        let Opened { parts, work, table, kinds, known, copy, facts, staged, heads } = self;
         let [registers, _, body, code, operands, arms] = parts;
         // The functions stay within these slices.
         unsafe {
@@ -162,10 +187,13 @@ impl Opened {
             );
             let kinds = Slice { len: ran.fresh, ..*kinds };
             ran.edited.then(|| {
+                let emitted = call!(steps.emit, (staged, heads, work, table, arms, facts));
+                let code = Slice { len: emitted.n * RECORD, ..*staged };
                 call!(
-                    steps.emit,
-                    (steps.out, registers, kinds, work, table, facts, body, operands, arms),
-                    ran.grown as u32
+                    steps.put,
+                    (steps.out, registers, kinds, heads, body, code, operands, arms),
+                    ran.grown as u32,
+                    emitted.rescued
                 )
             })
         }

@@ -27,7 +27,14 @@ use Rattle.sized.proofs.Emits.{empty-length}
 use Rattle.blocks.proofs.Parts.{length-blocks}
 use Rattle.read.specs.Structure.{numbered}
 use Rattle.round.proofs.Blocks.{joined-map}
-use Rattle.output.specs.Filed.{short, kindRecords, keptIn, leftIn}
+
+-- what is rescued, and the blocks as they are left, in records
+module _ (work table arms facts : List ℕ) where
+  abbrev pub keptIn : List Record
+  keptIn = rescuesIn facts (seenIn work table arms) (blockRecordsIn work table)
+
+  abbrev pub leftIn : List (List Record)
+  leftIn = emptyIn 0 (seenIn work table arms) (blockRecordsIn work table)
 
 -- the records that are rescued are those that the rescued instructions are written as
 module _ (facts : List ℕ) (body : Option ℕ) (budget : ℕ) where
@@ -142,13 +149,13 @@ module _
 
     -- and its block table, where all ends fit a 32-bit field
     module _ (small : length (joined (ontoFront kept rest)) ≤ 4294967295) where
-      kept-short : short (length (keptIn work table arms facts)) ≡ length kept
+      kept-short : min (length (keptIn work table arms facts)) 4294967295 ≡ length kept
       kept-short =
           let e = ap (λ (l : List Record). length l) kept-is ∙ length-map kept recordOf in
           let m = ap (λ (l : List Code). length l) joined-is ∙ length-append kept (joined rest) in
           omega arith
 
-      pub heads-is : headsFrom 0 (short (length (keptIn work table arms facts))) (leftIn work table arms facts) ≡ blockRecords 0 (ontoFront kept rest)
+      pub heads-is : headsFrom 0 (min (length (keptIn work table arms facts)) 4294967295) (leftIn work table arms facts) ≡ blockRecords 0 (ontoFront kept rest)
       heads-is =
           let m = ap (λ (l : List Code). length l) joined-is ∙ length-append kept (joined rest) in
           ap (λ (n : ℕ). headsFrom 0 n (leftIn work table arms facts)) kept-short

@@ -1,0 +1,40 @@
+// Emit over lent storage: what it leaves there is for the steps behind it and for the writer.
+ghost use mathlib.Core.Option.{Option};
+ghost use Prim.Native.Nat.{ℕ, _/_, _≤_};
+ghost use lib.ListN.{length};
+ghost use Rattle.procedure.specs.Procedure.{Procedure};
+ghost use Rattle.steps.specs.Thread.{Work};
+ghost use Rattle.steps.specs.Run as run;
+ghost use Rattle.facts.specs.Storage.{factsIn};
+ghost use Rattle.staged.specs.Stage.{Ready, Emitted};
+
+// How many instructions Emit leaves, and how many of them are rescued.
+pub struct Staged {
+    pub n: usize,
+    pub rescued: u32,
+}
+
+// What Emit leaves of code and block table is put into the storage, what is rescued first.
+pub fn emit_into(
+    code: &mut [u8],
+    heads: &mut [u8],
+    work: &[u8],
+    table: &[u8],
+    arms: &[u8],
+    facts: &[u64],
+) -> Staged
+    ensures size { λ r. ⌜ r .n ≤ length (now (code .entry)) / 32 ⌝ }
+    ensures emitted { λ r. ⌜ ((p : Procedure) (w : Work) (body : Option ℕ) (budget : ℕ)
+        → Ready (run.emit (factsIn (now (facts .entry)) body budget) p w) p w (now (work .entry)) (now (table .entry)) (now (arms .entry))
+        (length (now (code .entry))) (length (now (heads .entry)))
+        → Emitted (run.emit (factsIn (now (facts .entry)) body budget) p w) r (now (code .exit)) (now (heads .exit))) ⌝ }
+{
+    let room = code.len() / 32;
+    let seen = reach::reached(work, table, arms);
+    let kept = emit::put_keep(code, 0, work, table, &seen, facts);
+    let rescued = blocks::least(kept, 4294967295) as u32;
+    emit::put_heads(heads, 0, rescued, work, table, &seen);
+    let top = emit::put_code(code, kept, work, table, &seen);
+    let n = blocks::least(top, room);
+    Staged { n, rescued }
+}
