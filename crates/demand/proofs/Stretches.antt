@@ -1,8 +1,8 @@
 -- Stretches of two runs put together.
-use Prim.Native.Nat.{ℕ, zero, suc, _+_, _≤_}
-use mathlib.Core.Path.{_≡_, refl, ap, subst, _∙_}
+use Prim.Native.Nat.{ℕ, zero, suc, _≤_}
+use mathlib.Core.Path.{_≡_, refl, ap, _∙_}
 use native.Mathlib.Omega.{arith}
-use Rattle.machine.proofs.Shorter.{Mach, Shorter, Stretch, steps, steps-add, seen, simulates}
+use Rattle.machine.proofs.Shorter.{Mach, Stretch, seen}
 
 module _ (m m′ : Mach) where
   -- a stretch to a wider relation
@@ -38,21 +38,3 @@ module _ (m m′ : Mach) where
         q′ : (j : ℕ) → j ≤ suc (x .k′) → seen m′ j s′ ≡ m′ .show s′
         q′ zero l = refl
         q′ (suc j) l = x .quiet′ j (omega arith) ∙ ap (m′ .show) a′ ∙ e′
-
--- a simulation that asks a condition of the first run, at each of its states
-pub simulates-while : (m m′ : Mach) (R : m.S → m′.S → Type 0) (C : m.S → Type 0) → ((s : m.S) (s′ : m′.S) → R s s′ → m .show s ≡ m′ .show s′)
-    → ((s : m.S) (s′ : m′.S) → R s s′ → C s → Stretch m m′ R s s′)
-    → (s : m.S) (s′ : m′.S) → R s s′ → ((n : ℕ) → C (steps m n s)) → Shorter m m′ s s′
-simulates-while m m′ R C same go-on s s′ r c = simulates m m′ (λ s s′. R s s′ × ((n : ℕ) → C (steps m n s))) (λ s s′ r. same s s′ (r .0)) along s s′ (r, c)
-  where
-    along : (s : m.S) (s′ : m′.S) → R s s′ × ((n : ℕ) → C (steps m n s)) → Stretch m m′ (λ s s′. R s s′ × ((n : ℕ) → C (steps m n s))) s s′
-    along s s′ r =
-        let x = go-on s s′ (r .0) (r .1 0) in
-        record {
-          k = x .k;
-          k′ = x .k′;
-          rel = (x .rel, λ n. subst C (steps-add m (suc (x .k)) n s) (r .1 (suc (x .k) + n)));
-          cheap = x .cheap;
-          quiet = x .quiet;
-          quiet′ = x .quiet′;
-        }

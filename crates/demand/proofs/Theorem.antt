@@ -1,4 +1,4 @@
--- The theorem: what the steps leave runs as the original does.
+-- The theorem: the threaded form runs as the original does.
 use Prim.Native.Nat.{ℕ, zero, suc, _+_, _*_, _≤_, _<_}
 use mathlib.Core.Path.{_≡_, refl, sym, ap, subst, _∙_}
 use mathlib.Core.Logic.{_⊎_, inl, inr}
@@ -6,29 +6,28 @@ use mathlib.Core.List.{List, [], _∷_, _++_, append-nil}
 use mathlib.Core.Option.{some}
 use mathlib.Core.Bool.{Bool, true, false, _&&_, _||_}
 use native.Mathlib.Omega.{arith}
-use lib.Dec.{eqb, ltb}
+use lib.Dec.{eqb}
 use lib.ListN.{length, getD}
 use Rattle.inst.specs.declared.Code.{Code}
 use Rattle.roles.specs.Roles.{defsOf}
 use Rattle.procedure.specs.Procedure.{Procedure}
-use Rattle.procedure.specs.Lists.{anyOf, joined, present}
+use Rattle.procedure.specs.Lists.{anyOf, present}
 use Rattle.ends.specs.declared.End.the-variants as e
 use Rattle.ends.specs.Forms.{fixedOf, isFixed}
 use Rattle.ends.specs.Ends.{viewOf, endOf}
 use Rattle.paths.specs.Paths.{isIn, Path}
-use Rattle.steps.specs.Gate.{hasBackEdge, mayThread}
+use Rattle.steps.specs.Gate.{mayThread}
 use Rattle.steps.specs.Emit.{leads, edgesOf, reached, emptyFrom, isRescued, rescues, ontoFront}
 use Rattle.steps.specs.EqualArms.{equalArms}
 use Rattle.steps.specs.Facts.{Facts}
 use Rattle.steps.specs.Thread.{Work, thread, unthreaded, nextNumber}
-use Rattle.steps.specs.Run.{Shortened, countedIn, unchanged, armsJoined, emit, emitIf, threadIf, runIf, run}
+use Rattle.steps.specs.Run.{countedIn, unchanged, armsJoined, emit, emitIf, threadIf, loopedIn, short, threadedUnless, threadedForm}
 use Rattle.machine.specs.Machine.{Regs, Address, Outside, at, start, intoZero}
-use Rattle.machine.specs.Single.{Loaded as Constants}
-use Rattle.machine.specs.Demand.{Starts, Alike, AlikeFrom, Demand3, shows, entries}
+use Rattle.machine.specs.Demand.{Starts, Alike, AlikeFrom, shows, entries}
 use Rattle.machine.proofs.Shorter.{Shorter, mach, shorter-trans, alike}
 use Rattle.demand.specs.Setting.{In, Each, Setting, code, Fine}
 use Rattle.demand.specs.Whole.{Whole, Inside}
-use Rattle.demand.specs.Claim.{Kept, KeptWhere}
+use Rattle.demand.specs.Claim.{Kept}
 use Rattle.demand.proofs.Basics.{clash, clash-some, and-both, any-in, eqb-eq}
 use Rattle.demand.proofs.Effects.{Shape, constant, computed, acting, going, testing, casing, ending, shape, fixed-constant, varies}
 use Rattle.demand.proofs.Codes.{each-map, end-append}
@@ -237,20 +236,11 @@ module _ (p : Procedure) (whole : Whole p) (inside : Inside p) where
   if-threaded true = if-emitted (w .edited)
   if-threaded false = arms-kept
 
-  if-run : (t : Bool) → Kept p (runIf t p)
-  if-run true = unchanged-kept
-  if-run false = if-threaded (hasBackEdge (equalArms (p .blocks) .blocks) && mayThread (present (p .body)) (equalArms (p .blocks) .blocks))
+  unless-short : (t : Bool) → Kept p (threadedUnless t p)
+  unless-short true = unchanged-kept
+  unless-short false = if-threaded (loopedIn p && mayThread (present (p .body)) (equalArms (p .blocks) .blocks))
 
-  -- what the steps leave runs as the original does, from any block that it reaches
-  pub run-kept : Kept p (run p)
-  unfolding run
-  run-kept = if-run (ltb (length (joined (p .blocks))) 6)
-
-  pub demand3 : Demand3 p (run p .procedure) (run p .rescued)
-  demand3 = run-kept 0 ([], refl)
-
--- with more loaded, and under any condition
-pub kept-where : (p : Procedure) (s : Shortened) (loaded : Address → Regs → Type 0) (when : Outside → Address → ℕ → Regs → Type 0)
-    → ((address : Address) (g : Regs) → loaded address g → Constants address p g) → Kept p s → KeptWhere loaded when p s
-kept-where p s loaded when more k b r outside address g g′ l l′ same c =
-    k b r outside address g g′ (record { loaded = more address g l; loaded′ = more address g′ l′; same = same })
+  -- the threaded form runs as the original does, from any block that it reaches
+  pub threaded-kept : Kept p (threadedForm p)
+  unfolding threadedForm
+  threaded-kept = unless-short (short p)

@@ -1,13 +1,10 @@
 -- Demand 3 for each stage of the steps, and for a start at any block that the shortened form reaches.
-use Prim.Native.Nat.{ℕ, _+_, _*_, _<_}
-use mathlib.Core.Path.{_≡_}
-use lib.ListN.{length}
+use Prim.Native.Nat.{ℕ, _+_, _*_}
 use Rattle.procedure.specs.Procedure.{Procedure}
 use Rattle.paths.specs.Paths.{Leads}
 use Rattle.steps.specs.Emit.{edgesOf}
 use Rattle.steps.specs.Run.{Shortened}
-use Rattle.machine.specs.Machine.{Regs, Address, Outside}
-use Rattle.machine.specs.Demand.{Alike, AlikeFrom, shows, entries}
+use Rattle.machine.specs.Demand.{AlikeFrom}
 
 -- block b is reached from block 0, over Br, CondBr and arms
 abbrev pub Reaches : Procedure → ℕ → Type 0
@@ -17,10 +14,3 @@ Reaches q b = Leads (edgesOf (q .tables) (q .blocks)) 0 b
 -- the rescued constants for each entry into block 0
 abbrev pub Kept : Procedure → Shortened → Type 0
 Kept p s = (b : ℕ) → Reaches (s .procedure) b → AlikeFrom b (λ N entries. N + s .rescued * entries) p (s .procedure)
-
--- the same of what else is loaded, and of the runs for which a condition on the original's holds
-abbrev pub KeptWhere : (Address → Regs → Type 0) → (Outside → Address → ℕ → Regs → Type 0) → Procedure → Shortened → Type 0
-KeptWhere loaded when p s =
-    (b : ℕ) → Reaches (s .procedure) b → (outside : Outside) (address : Address) (g g′ : Regs)
-    → loaded address g → loaded address g′ → ((r : ℕ) → r < length (p .registers) → g r ≡ g′ r) → when outside address b g
-    → Alike (λ N. N + s .rescued * entries outside address p b g N) (shows outside address p b g) (shows outside address (s .procedure) b g′)

@@ -16,7 +16,7 @@ use Rattle.steps.specs.Copy.{howOf, ownUses, copyFrom, kindsGiven}
 use Rattle.steps.specs.Thread.{armOf, hopCondBr, stops, hopBr, hop, hops, threadFrom}
 use Rattle.paths.specs.Paths.{total, walk, reachedFrom}
 use Rattle.steps.specs.Emit.{reached, stays, emptyFrom, rescuedOf, rescues}
-use Rattle.steps.specs.Run.{emit, run}
+use Rattle.steps.specs.Run.{emit, threadedForm, run}
 use Rattle.machine.specs.Demand.{Demand3}
 use Rattle.machine.proofs.Printed.{printed, printed′}
 use Rattle.machine.proofs.Refuted.{looping, looping′}
@@ -30,14 +30,14 @@ printed-given : run printed ≡ record { procedure = printed′; moved = true; g
 unfolding anyOf times found formOf viewOf endOf front withEnd copyable small stepBy stepBlock latch readsKonst writesIn useCount fixedOf
     constIn constOf konstOf factsOf valuesWithout copiesWithout forgetAll learn notes follow joinArms joinFrom backEdgeFrom copied
     mayThreadFrom exchanged howOf ownUses copyFrom kindsGiven armOf hopCondBr stops hopBr hop hops threadFrom total walk reachedFrom reached
-    stays emptyFrom rescuedOf rescues emit run
+    stays emptyFrom rescuedOf rescues emit threadedForm
 printed-given = refl
 
 pub looping-given : run looping ≡ record { procedure = looping′; moved = true; grown = 1; fresh = 0; rescued = 1 }
 unfolding anyOf times found formOf viewOf endOf front withEnd copyable small stepBy stepBlock latch readsKonst writesIn useCount fixedOf
     constIn constOf konstOf factsOf valuesWithout copiesWithout forgetAll learn notes follow joinArms joinFrom backEdgeFrom copied
     mayThreadFrom exchanged howOf ownUses copyFrom kindsGiven armOf hopCondBr stops hopBr hop hops threadFrom total walk reachedFrom reached
-    stays emptyFrom rescuedOf rescues emit run
+    stays emptyFrom rescuedOf rescues emit threadedForm
 looping-given = refl
 
 pub printed-kept : Kept printed

@@ -4,6 +4,7 @@ pub mod Words
 pub mod Reading
 pub mod Exact
 pub mod Shorter
+pub mod Alike
 pub mod Exchanged
 pub mod Printed
 pub mod Refuted

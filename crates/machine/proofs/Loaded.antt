@@ -1,16 +1,14 @@
--- Any registers can be had with the single constants loaded.
+-- Any registers can be had with the single constants loaded; the other registers keep their words.
 use Prim.Native.Nat.{ℕ}
-use mathlib.Core.Option.{Option, none, some}
+use mathlib.Core.Path.{_≡_}
+use mathlib.Core.Option.{none}
 use Rattle.procedure.specs.Procedure.{Procedure}
 use Rattle.machine.specs.Machine.{Regs, Address}
-use Rattle.machine.specs.Single.{single, Loaded}
+use Rattle.machine.specs.Single.{single, Loaded, load}
 
-abbrev orElse : Option ℕ → ℕ → ℕ
-orElse none w = w
-orElse (some v) w = v
+module _ (address : Address) (p : Procedure) (g : Regs) where
+  pub load-loads : Loaded address p (load address p g)
+  load-loads r v e = rw e
 
-abbrev pub load : Address → Procedure → Regs → Regs
-load address p g = λ r. orElse (single address p r) (g r)
-
-pub load-loads : (address : Address) (p : Procedure) (g : Regs) → Loaded address p (load address p g)
-load-loads address p g r v e = rw e
+  pub load-keeps : (r : ℕ) → single address p r ≡ none → load address p g r ≡ g r
+  load-keeps r e = rw e

@@ -16,8 +16,8 @@ use Rattle.procedure.specs.Counts.{writesIn}
 use Rattle.ends.specs.Forms.{formOf, fixedOf}
 use Rattle.machine.specs.Act.{opOf}
 use Rattle.machine.specs.Machine.{Regs, End, Shown, shown, effect}
-use Rattle.machine.specs.Single.{singleIn, constantIn, constantOf}
-use Rattle.machine.proofs.Loaded.{load, load-loads}
+use Rattle.machine.specs.Single.{singleIn, constantIn, constantOf, load}
+use Rattle.machine.proofs.Loaded.{load-loads}
 use Rattle.machine.specs.Demand.{AlikeFrom, Demand3, Starts, shows, entries}
 use Rattle.machine.proofs.Reading.{run-done}
 use Rattle.machine.proofs.Printed.{code, stmt, br, condBr, ret, procedure, printed, nowhere, willing, all}

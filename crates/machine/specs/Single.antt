@@ -8,7 +8,7 @@ use lib.Dec.{eqb}
 use Rattle.inst.specs.declared.Code.{Code}
 use Rattle.inst.specs.declared.Inst.{Inst}
 use Rattle.procedure.specs.Procedure.{Procedure, firstOf}
-use Rattle.procedure.specs.Lists.{joined}
+use Rattle.procedure.specs.Lists.{joined, valueOr}
 use Rattle.procedure.specs.Counts.{singly}
 use Rattle.ends.specs.Forms.{fixedOf, isFixed}
 use Rattle.steps.specs.Facts.{writes as names}
@@ -40,3 +40,7 @@ single address p r = singleIn address (joined (p .blocks)) r
 -- "already loaded"
 abbrev pub Loaded : Address → Procedure → Regs → Type 0
 Loaded address p g = (r v : ℕ) → single address p r ≡ some v → g r ≡ v
+
+-- given registers with the single constants loaded over them
+abbrev pub load : Address → Procedure → Regs → Regs
+load address p g = λ r. valueOr (g r) (single address p r)

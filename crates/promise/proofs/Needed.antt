@@ -27,7 +27,7 @@ use Rattle.roles.specs.Exchange.{exchanged}
 use Rattle.steps.specs.Copy.{howOf, ownUses, copyFrom, kindsGiven}
 use Rattle.steps.specs.Thread.{armOf, hopCondBr, stops, hopBr, hop, hops, threadFrom}
 use Rattle.steps.specs.Emit.{reached, stays, emptyFrom, rescuedOf, rescues}
-use Rattle.steps.specs.Run.{emit, run}
+use Rattle.steps.specs.Run.{emit, threadedForm, run}
 use Rattle.machine.specs.Act.{opOf}
 use Rattle.machine.specs.Machine.{Regs, Address, Outside, effect}
 use Rattle.machine.specs.Single.{singleIn, constantIn, constantOf}
@@ -77,7 +77,7 @@ elsewhere-given : run elsewhere ≡ record { procedure = elsewhere′; moved = t
 unfolding anyOf times found formOf viewOf endOf front withEnd copyable small stepBy stepBlock latch readsKonst writesIn useCount fixedOf constIn
     constOf konstOf factsOf valuesWithout copiesWithout forgetAll learn notes follow joinArms joinFrom backEdgeFrom copied mayThreadFrom exchanged
     howOf ownUses copyFrom kindsGiven armOf hopCondBr stops hopBr hop hops threadFrom total walk reachedFrom reached stays emptyFrom rescuedOf rescues
-    emit run
+    emit threadedForm
 elsewhere-given = refl
 
 elsewhere-fails : Demand3 elsewhere elsewhere′ 0 → ⊥
@@ -112,7 +112,7 @@ earlier-given : run earlier ≡ record { procedure = earlier′; moved = true; g
 unfolding anyOf times found formOf viewOf endOf front withEnd copyable small stepBy stepBlock latch readsKonst writesIn useCount fixedOf constIn
     constOf konstOf factsOf valuesWithout copiesWithout forgetAll learn notes follow joinArms joinFrom backEdgeFrom copied mayThreadFrom exchanged
     howOf ownUses copyFrom kindsGiven armOf hopCondBr stops hopBr hop hops threadFrom total walk reachedFrom reached stays emptyFrom rescuedOf rescues
-    emit run
+    emit threadedForm
 earlier-given = refl
 
 earlier-fails : Demand3 earlier earlier′ 0 → ⊥
@@ -147,7 +147,7 @@ itself-given : run itself ≡ record { procedure = itself′; moved = true; grow
 unfolding anyOf times found formOf viewOf endOf front withEnd copyable small stepBy stepBlock latch readsKonst writesIn useCount fixedOf constIn
     constOf konstOf factsOf valuesWithout copiesWithout forgetAll learn notes follow joinArms joinFrom backEdgeFrom copied mayThreadFrom exchanged
     howOf ownUses copyFrom kindsGiven armOf hopCondBr stops hopBr hop hops threadFrom total walk reachedFrom reached stays emptyFrom rescuedOf rescues
-    emit run
+    emit threadedForm
 itself-given = refl
 
 itself-fails : Demand3 itself itself′ 0 → ⊥
@@ -182,7 +182,7 @@ constant-given : run constant ≡ record { procedure = constant′; moved = true
 unfolding anyOf times found formOf viewOf endOf front withEnd copyable small stepBy stepBlock latch readsKonst writesIn useCount fixedOf constIn
     constOf konstOf factsOf valuesWithout copiesWithout forgetAll learn notes follow joinArms joinFrom backEdgeFrom copied mayThreadFrom exchanged
     howOf ownUses copyFrom kindsGiven armOf hopCondBr stops hopBr hop hops threadFrom total walk reachedFrom reached stays emptyFrom rescuedOf rescues
-    emit run
+    emit threadedForm
 constant-given = refl
 
 -- demand 3 of any registers, the same in both

@@ -8,7 +8,7 @@ use lib.Seq.{take-append-seam}
 use Rattle.store.specs.Store.{Bytes}
 use Rattle.procedure.specs.Procedure.{Procedure}
 use Rattle.tidy.specs.Tidy.{Tidy}
-use Rattle.steps.specs.Run.{run}
+use Rattle.steps.specs.Run.{threadedForm, run}
 use Rattle.steps.specs.Shorten.{success, shorten}
 use Rattle.machine.specs.Demand.{Demand3}
 use Rattle.round.specs.WellFormed.{WellFormed}
@@ -16,14 +16,14 @@ use Rattle.round.proofs.Laws.{read-well-formed, read-registers, read-code, read
 use Rattle.sized.proofs.Laws.{run-well-formed}
 use Rattle.sized.proofs.Shorten.{shortBytes, Within, Fate, unread, over, short, done, fate}
 use Rattle.demand.specs.Claim.{Kept}
-use Rattle.demand.proofs.Theorem.{run-kept}
+use Rattle.demand.proofs.Theorem.{threaded-kept}
 use Rattle.promise.specs.Promise.{held, Promise}
 use Rattle.promise.proofs.Tidied.{tidy-inside}
 use Rattle.promise.proofs.Formed.{whole}
 
--- a well-formed, tidy procedure: what the steps leave runs as it does, from any block that it reaches
-pub tidy-kept : (p : Procedure) → WellFormed p → Tidy p → Kept p (run p)
-tidy-kept p w t = run-kept p (whole p w) (tidy-inside p t)
+-- a well-formed, tidy procedure: its threaded form runs as it does, from any block that the form reaches
+pub tidy-kept : (p : Procedure) → WellFormed p → Tidy p → Kept p (threadedForm p)
+tidy-kept p w t = threaded-kept p (whole p w) (tidy-inside p t)
 
 pub demand3 : (p : Procedure) → WellFormed p → Tidy p → Demand3 p (run p .procedure) (run p .rescued)
 demand3 p w t = tidy-kept p w t 0 (mathlib.Core.List.[], refl)

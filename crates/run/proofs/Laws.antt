@@ -1,11 +1,10 @@
--- What `run` leaves in the storage of an opened file is what the definition's `run` leaves before Emit, or that itself.
+-- What `run` leaves in the storage of an opened file is the threaded form as it is before Emit, or that form itself.
 use Prim.Native.Nat.{ℕ, _+_, _/_, _≤_}
 use native.Mathlib.Omega.{arith}
 use mathlib.Core.Path.{_≡_, refl, sym, ap, subst, _∙_}
 use mathlib.Core.Bool.{Bool, true, false, _&&_, false≢true}
 use mathlib.Core.List.{List}
 use mathlib.Core.Option.{Option}
-use lib.Dec.{ltb}
 use lib.ListN.{length}
 use lib.Seq.{length-take-le}
 use Rattle.inst.specs.declared.Code.{Code}
@@ -91,7 +90,7 @@ module _ {p : Procedure} {x : Parts} {known copy : ℕ} {work kinds facts : List
   abbrev ran : Bool → r.Left
   ran b = r.runIf (p .body) known copy (x .operands) (x .registers) N b work (x .heads) kinds facts
 
-  by-arms : (Q : s.Shortened → r.Left → Type 0) → ((b : Bool) → Q (s.threadIf b (s.armsJoined p)) (gated b)) → Q (s.runIf false p) (ran false)
+  by-arms : (Q : s.Shortened → r.Left → Type 0) → ((b : Bool) → Q (s.threadIf b (s.armsJoined p)) (gated b)) → Q (s.threadedUnless false p) (ran false)
   by-arms Q f =
       subst (λ (P : List (List Code)). Q (s.threadIf (hasBackEdge P && mayThread (present (p .body)) P) (s.armsJoined p)) (ran false))
       arms-blocks (f (r.opensIn (p .body) (arms .code) (x .heads)))
@@ -117,7 +116,7 @@ module _ {p : Procedure} {x : Parts} {known copy : ℕ} {work kinds facts : List
       (subst (λ (m : Store). Still p (s.armsJoined p) (x .heads) (record { store = m; facts = counted; joined = arms .edited })) (sym none)
       (joined-still counted))
 
-  run-still : (b : Bool) → ran b .store .at .edited ≡ false → Still p (s.runIf b p) (x .heads) (ran b)
+  run-still : (b : Bool) → ran b .store .at .edited ≡ false → Still p (s.threadedUnless b p) (x .heads) (ran b)
   run-still true e = record {
     procedure = ap (s.withBlocks p) (sym (j.work-blocks (held h)));
     moved = refl;
@@ -156,7 +155,7 @@ module _ {p : Procedure} {x : Parts} {known copy : ℕ} {work kinds facts : List
   gate-edited true e =
       subst (λ (b : ℕ). Edited p (s.threadIf true (s.armsJoined p)) work (x .heads) kinds facts (at b)) (sym budget) (left-edited (edited-is e))
 
-  run-edited : (b : Bool) → ran b .store .at .edited ≡ true → Edited p (s.runIf b p) work (x .heads) kinds facts (ran b)
+  run-edited : (b : Bool) → ran b .store .at .edited ≡ true → Edited p (s.threadedUnless b p) work (x .heads) kinds facts (ran b)
   run-edited true e = absurd (false≢true e)
   run-edited false e = by-arms (λ z l. l .store .at .edited ≡ true → Edited p z work (x .heads) kinds facts l) gate-edited e
 
@@ -170,13 +169,13 @@ module _ {p : Procedure} {x : Parts} {body : Option ℕ} {known copy n : ℕ} {w
   to-file Q f = rw (h .body-is, h .n-is, h .heads) (f (rw (h .body-is, h .n-is, h .heads) at h))
 
   pub still : r.ranIn body known copy (x .operands) (x .registers) n work table kinds facts .store .at .edited ≡ false
-      → Still p (s.run p) table (r.ranIn body known copy (x .operands) (x .registers) n work table kinds facts)
-  unfolding s.run r.ranIn
-  still = to-file (λ t l. l .store .at .edited ≡ false → Still p (s.run p) t l)
-      (λ g. run-still g (ltb (length (joined (p .blocks))) 6))
+      → Still p (s.threadedForm p) table (r.ranIn body known copy (x .operands) (x .registers) n work table kinds facts)
+  unfolding s.threadedForm r.ranIn
+  still = to-file (λ t l. l .store .at .edited ≡ false → Still p (s.threadedForm p) t l)
+      (λ g. run-still g (s.short p))
 
   pub edited : r.ranIn body known copy (x .operands) (x .registers) n work table kinds facts .store .at .edited ≡ true
-      → Edited p (s.run p) work table kinds facts (r.ranIn body known copy (x .operands) (x .registers) n work table kinds facts)
-  unfolding s.run r.ranIn
-  edited = to-file (λ t l. l .store .at .edited ≡ true → Edited p (s.run p) work t kinds facts l)
-      (λ g. run-edited g (ltb (length (joined (p .blocks))) 6))
+      → Edited p (s.threadedForm p) work table kinds facts (r.ranIn body known copy (x .operands) (x .registers) n work table kinds facts)
+  unfolding s.threadedForm r.ranIn
+  edited = to-file (λ t l. l .store .at .edited ≡ true → Edited p (s.threadedForm p) work t kinds facts l)
+      (λ g. run-edited g (s.short p))

@@ -1,18 +1,17 @@
--- Where no step does anything, the definition's `run` leaves a file as it is.
+-- Where no step does anything, the threaded form is the file as it was sent.
 use native.Mathlib.Omega.{arith}
 use mathlib.Core.Path.{_≡_, refl, sym, ap, _∙_}
 use mathlib.Core.Bool.{Bool, true, false, _&&_}
 use mathlib.Core.List.{List}
 use mathlib.Core.Logic.{inl, inr}
 use borrow.Author.Tests.{lt-ltb}
-use lib.Dec.{ltb}
 use lib.ListN.{length}
 use Rattle.inst.specs.declared.Code.{Code}
 use Rattle.procedure.specs.Procedure.{Procedure}
 use Rattle.procedure.specs.Lists.{joined, present}
 use Rattle.steps.specs.EqualArms.{Arms, equalArms}
 use Rattle.steps.specs.Gate.{hasBackEdge, mayThread}
-use Rattle.steps.specs.Run.{unchanged, withArms, threadIf, fromArms, runIf, run}
+use Rattle.steps.specs.Run.{unchanged, withArms, threadIf, threaded, short, threadedUnless, threadedForm}
 use Rattle.arms.specs.Joined.{joined as joinedTo, armsOf, equalArmsIn}
 use Rattle.arms.proofs.Arms.{tiled-arms}
 use Rattle.opened.specs.Opened.{Parts, Opened}
@@ -32,13 +31,13 @@ module _ (p : Procedure) (x : Parts) (o : Opened p x) where
   shut : opensIn (p .body) (x .code) (x .heads) ≡ false → (hasBackEdge (p .blocks) && mayThread (present (p .body)) (p .blocks)) ≡ false
   shut e = ap (λ (P : List (List Code)). hasBackEdge P && mayThread (present (p .body)) P) (sym (o .parted .blocks)) ∙ e
 
-  pub stays-run : Stays (p .body) (x .code) (x .heads) → run p ≡ unchanged p
-  unfolding run
+  pub stays-run : Stays (p .body) (x .code) (x .heads) → threadedForm p ≡ unchanged p
+  unfolding threadedForm
   stays-run (inl few) =
       let n = o .parted .coded .code-length in
-      ap (λ (b : Bool). runIf b p) (lt-ltb (length (joined (p .blocks))) 6 (omega arith))
-  stays-run (inr (none, closed)) = by (ltb (length (joined (p .blocks))) 6)
+      ap (λ (b : Bool). threadedUnless b p) (lt-ltb (length (joined (p .blocks))) 6 (omega arith))
+  stays-run (inr (none, closed)) = by (short p)
     where
-      by : (b : Bool) → runIf b p ≡ unchanged p
+      by : (b : Bool) → threadedUnless b p ≡ unchanged p
       by true = refl
-      by false = ap (λ (a : Arms). fromArms (withArms p a)) (none-joined none) ∙ ap (λ (b : Bool). threadIf b (unchanged p)) (shut closed)
+      by false = ap (λ (a : Arms). threaded (hasBackEdge (a .blocks)) (withArms p a)) (none-joined none) ∙ ap (λ (b : Bool). threadIf b (unchanged p)) (shut closed)

@@ -3,17 +3,17 @@ use Prim.Native.Nat.{ℕ, _+_, _/_, _≤_, _<_, _^_}
 use native.Mathlib.Omega.{arith}
 use mathlib.Core.Path.{_≡_, refl, ap, _∙_}
 use mathlib.Core.Bool.{Bool, true, false, _&&_, true≢false}
-use mathlib.Core.List.{_++_}
-use lib.Dec.{ltb}
+use mathlib.Core.List.{List, _++_}
 use lib.ListN.{length, length-append}
+use Rattle.inst.specs.declared.Code.{Code}
 use Rattle.procedure.specs.Procedure.{Procedure}
 use Rattle.procedure.specs.Lists.{joined, present}
 use Rattle.steps.specs.Facts.{Facts, factsOf}
 use Rattle.steps.specs.EqualArms.{equalArms}
-use Rattle.steps.specs.Gate.{hasBackEdge, mayThread}
+use Rattle.steps.specs.Gate.{mayThread}
 use Rattle.steps.specs.Thread.{Work, nextNumber, thread, unthreaded}
 use Rattle.steps.specs.Emit.{reached, emptyFrom, rescues, ontoFront}
-use Rattle.steps.specs.Run.{Shortened, withBlocks, unchanged, armsJoined, emit, emitIf, countedIn, threadIf, runIf, run}
+use Rattle.steps.specs.Run.{Shortened, withBlocks, unchanged, armsJoined, emit, emitIf, countedIn, threadIf, loopedIn, short, threadedUnless, threadedForm, run}
 use Rattle.steps.proofs.Edits.{Edits, thread-edits}
 use Rattle.round.specs.WellFormed.{All, BlockIn, countsIn, WellFormed}
 use Rattle.round.proofs.Lists.{all-append, all-turn}
@@ -31,8 +31,23 @@ pub record Stage (p : Procedure) (s : Shortened) : Type 0 where
   pub body : s .procedure .body ≡ p .body
   pub operands : s .procedure .operands ≡ p .operands
   pub tables : s .procedure .tables ≡ p .tables
-  -- "moved (what `run` returns then)"
-  pub same : s .moved ≡ false → s .procedure ≡ p
+
+-- a later step keeps this where it leaves as many blocks and no more code, of instructions that name what there is
+pub stage-then : {p : Procedure} {s : Shortened} → Stage p s → (P : List (List Code)) (moved : Bool) → length P ≡ length (s .procedure .blocks)
+    → All (BlockIn (countsIn (s .procedure))) P → length (joined P) ≤ codeSize (s .procedure)
+    → Stage p (record { procedure = withBlocks (s .procedure) P; moved = moved; grown = s .grown; fresh = s .fresh; rescued = s .rescued })
+stage-then r P moved n each few =
+    let z = r .sized in
+    let c = z .code in
+    let b = z .blocks in
+    record {
+      sized = record { code = omega arith; grown = z .grown; fresh = z .fresh; rescued = z .rescued; registers = z .registers; blocks = omega arith };
+      each-register = r .each-register;
+      each-block = rw n each;
+      body = r .body;
+      operands = r .operands;
+      tables = r .tables;
+    }
 
 module _ (p : Procedure) (h : WellFormed p) where
   few : length (p .blocks) ≤ 2 ^ 32
@@ -46,7 +61,6 @@ module _ (p : Procedure) (h : WellFormed p) where
     body = refl;
     operands = refl;
     tables = refl;
-    same = λ e. refl;
   }
 
   kept : Kept (countsIn p) (p .blocks) (equalArms (p .blocks))
@@ -63,7 +77,6 @@ module _ (p : Procedure) (h : WellFormed p) where
         body = refl;
         operands = refl;
         tables = refl;
-        same = λ e. ap (withBlocks p) (k .same e);
       }
 
   -- the procedure after the equal-arms step, its counts and what Thread leaves
@@ -118,7 +131,6 @@ module _ (p : Procedure) (h : WellFormed p) where
         body = refl;
         operands = refl;
         tables = refl;
-        same = λ e. absurd (true≢false e);
       }
 
   emit-if : (t : Bool) → Stage p (emitIf t f (armsJoined p) w)
@@ -129,21 +141,45 @@ module _ (p : Procedure) (h : WellFormed p) where
   thread-if true = emit-if (w .edited)
   thread-if false = arms-stage
 
-  run-if : (t : Bool) → Stage p (runIf t p)
-  run-if true = unchanged-stage
-  run-if false = thread-if (hasBackEdge (q .blocks) && mayThread (present (p .body)) (q .blocks))
+  unless-short : (t : Bool) → Stage p (threadedUnless t p)
+  unless-short true = unchanged-stage
+  unless-short false = thread-if (loopedIn p && mayThread (present (p .body)) (q .blocks))
 
+  pub threaded-stage : Stage p (threadedForm p)
+  unfolding threadedForm
+  threaded-stage = unless-short (short p)
+
+  -- a later step is put behind it here, by stage-then
   pub run-stage : Stage p (run p)
-  unfolding run
-  run-stage = run-if (ltb (length (joined (p .blocks))) 6)
+  run-stage = threaded-stage
 
   -- "Output has at most n + n/2 + 36 instructions."
   pub run-sized : Sized p (run p)
   run-sized = run-stage .sized
 
   -- "moved (what `run` returns then)": where it is false, nothing has changed
-  pub run-same : run p .moved ≡ false → run p .procedure ≡ p
-  run-same = run-stage .same
+  abbrev Same : Shortened → Type 0
+  Same s = s .moved ≡ false → s .procedure ≡ p
+
+  emit-same : (t : Bool) → Same (emitIf t f (armsJoined p) w)
+  unfolding emit
+  emit-same true e = absurd (true≢false e)
+  emit-same false e = ap (withBlocks p) (kept .same e)
+
+  thread-same : (t : Bool) → Same (threadIf t (armsJoined p))
+  thread-same true = emit-same (w .edited)
+  thread-same false = emit-same false
+
+  unless-same : (t : Bool) → Same (threadedUnless t p)
+  unless-same true = λ e. refl
+  unless-same false = thread-same (loopedIn p && mayThread (present (p .body)) (q .blocks))
+
+  pub threaded-same : Same (threadedForm p)
+  unfolding threadedForm
+  threaded-same = unless-same (short p)
+
+  pub run-same : Same (run p)
+  run-same = threaded-same
 
   -- within limits that leave room for what is added, such as 480 registers and 480 instructions
   module _ (registers : length (p .registers) + codeSize p / 2 + 36 ≤ 756) (code : codeSize p + codeSize p / 2 + 36 ≤ 756) where

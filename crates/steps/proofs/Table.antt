@@ -29,7 +29,7 @@ use Rattle.steps.specs.Copy.{howOf, ownUses, copyFrom, kindsGiven}
 use Rattle.steps.specs.Thread.{armOf, hopCondBr, stops, hopBr, hop, hops, threadFrom}
 use Rattle.paths.specs.Paths.{total, walk, reachedFrom}
 use Rattle.steps.specs.Emit.{reached, stays, emptyFrom, rescuedOf, rescues}
-use Rattle.steps.specs.Run.{emit, run}
+use Rattle.steps.specs.Run.{emit, threadedForm}
 use Rattle.steps.specs.Write.{blockRecords, tableRecords, recordsFor, bytesOf}
 use Rattle.steps.specs.Shorten.{Outcome, refusal, shorten, shortenWithin}
 
@@ -265,5 +265,5 @@ unfolding bytesOf wordBytes tagBytes recordsOf firstRecords right namesExist pas
     readRecords reading instOf instRecord tablesFrom procedureOf anyOf times found formOf viewOf endOf front withEnd copyable small stepBy
     stepBlock latch readsKonst writesIn useCount fixedOf constIn constOf konstOf factsOf valuesWithout copiesWithout forgetAll learn notes
     follow joinArms joinFrom backEdgeFrom copied mayThreadFrom exchanged howOf ownUses copyFrom kindsGiven armOf hopCondBr stops hopBr hop hops
-    threadFrom total walk reachedFrom reached stays emptyFrom rescuedOf rescues emit run blockRecords tableRecords recordsFor shortenWithin
+    threadFrom total walk reachedFrom reached stays emptyFrom rescuedOf rescues emit threadedForm blockRecords tableRecords recordsFor shortenWithin
 proved = refl

@@ -80,18 +80,27 @@ abbrev pub threadIf : Bool → Shortened → Shortened
 threadIf true s = threadBy (countedIn (s .procedure)) s
 threadIf false s = s
 
--- "Gate.", of `looped`, which is asked once
+-- "Gate.", of `looped`
 abbrev pub threaded : Bool → Shortened → Shortened
 threaded looped s = threadIf (looped && mayThread (present (s .procedure .body)) (s .procedure .blocks)) s
 
--- the stages after the equal-arms step
-abbrev pub fromArms : Shortened → Shortened
-fromArms s = threaded (hasBackEdge (s .procedure .blocks)) s
+-- `looped`: asked once, after the equal-arms step
+abbrev pub loopedIn : Procedure → Bool
+loopedIn p = hasBackEdge (armsJoined p .procedure .blocks)
 
--- "Fewer than 6 instructions: unchanged."
-abbrev pub runIf : Bool → Procedure → Shortened
-runIf true p = unchanged p
-runIf false p = fromArms (armsJoined p)
+-- "Fewer than 6 instructions"
+abbrev pub short : Procedure → Bool
+short p = ltb (length (joined (p .blocks))) 6
 
-unfoldable pub run : Procedure → Shortened
-run p = runIf (ltb (length (joined (p .blocks))) 6) p
+-- "unchanged. Otherwise:"
+abbrev pub threadedUnless : Bool → Procedure → Shortened
+threadedUnless true p = unchanged p
+threadedUnless false p = threaded (loopedIn p) (armsJoined p)
+
+-- the threaded form: what equal arms, Thread and Emit leave
+unfoldable pub threadedForm : Procedure → Shortened
+threadedForm p = threadedUnless (short p) p
+
+-- "The reference is `run`, stopped after `thread`"
+abbrev pub run : Procedure → Shortened
+run p = threadedForm p
