@@ -6,6 +6,7 @@ ghost use Rattle.arena.specs.Arena as spec;
 ghost use Rattle.arena.specs.Arena.{arena, topped};
 use format::Record;
 use inst::Block;
+use inst::BlockId;
 use inst::Code;
 
 fn size_of(r: Record) -> usize
@@ -55,17 +56,21 @@ fn copy(b: &mut [u8], from: usize, to: usize, n: usize)
 }
 
 // Start and end of block k are written.
-fn point(table: &mut [u8], k: usize, start: u32, end: u32)
-    ensures { λ u. ⌜ now (table .exit) ≡ spec.pointed (now (table .entry)) k start end ⌝ }
+fn point(table: &mut [u8], k: BlockId, start: u32, end: u32)
+    ensures { λ u. ⌜ now (table .exit) ≡ spec.pointed (now (table .entry)) (k .0) start end ⌝ }
 {
-    store::put_record(table, k, items::record_of_block(Block { start, end }));
+    store::put_record(
+        table,
+        k.0 as usize,
+        items::record_of_block(Block { start, end }),
+    );
 }
 
 // Block k is moved to the top, where it isn't there and has room; returns the new top.
-pub fn to_end(work: &mut [u8], table: &mut [u8], k: usize, top: usize) -> usize
-    ensures { λ r. ⌜ arena (now (work .exit)) (now (table .exit)) r ≡ spec.toEnd k (arena (now (work .entry)) (now (table .entry)) top) ⌝ }
+pub fn to_end(work: &mut [u8], table: &mut [u8], k: BlockId, top: usize) -> usize
+    ensures { λ r. ⌜ arena (now (work .exit)) (now (table .exit)) r ≡ spec.toEnd (k .0) (arena (now (work .entry)) (now (table .entry)) top) ⌝ }
 {
-    let r = format::record_at(table, k);
+    let r = format::record_at(table, k.0 as usize);
     if !moves(work, r, top) {
         return top;
     }
@@ -82,10 +87,10 @@ fn can_pop(r: Record, top: usize) -> bool
 }
 
 // Block k, where it ends at the top, loses its last record; returns the new top.
-pub fn pop(table: &mut [u8], k: usize, top: usize) -> usize
-    ensures { λ r. ⌜ topped (now (table .exit)) r ≡ spec.pop k (topped (now (table .entry)) top) ⌝ }
+pub fn pop(table: &mut [u8], k: BlockId, top: usize) -> usize
+    ensures { λ r. ⌜ topped (now (table .exit)) r ≡ spec.pop (k .0) (topped (now (table .entry)) top) ⌝ }
 {
-    let r = format::record_at(table, k);
+    let r = format::record_at(table, k.0 as usize);
     if !can_pop(r, top) {
         return top;
     }
@@ -100,10 +105,10 @@ fn grows(work: &[u8], r: Record, top: usize) -> bool
 }
 
 // Block k, where it ends at the top and there is room, gets one instruction more; returns the new top.
-pub fn push(work: &mut [u8], table: &mut [u8], k: usize, top: usize, c: Code) -> usize
-    ensures { λ r. ⌜ arena (now (work .exit)) (now (table .exit)) r ≡ spec.push k c (arena (now (work .entry)) (now (table .entry)) top) ⌝ }
+pub fn push(work: &mut [u8], table: &mut [u8], k: BlockId, top: usize, c: Code) -> usize
+    ensures { λ r. ⌜ arena (now (work .exit)) (now (table .exit)) r ≡ spec.push (k .0) c (arena (now (work .entry)) (now (table .entry)) top) ⌝ }
 {
-    let r = format::record_at(table, k);
+    let r = format::record_at(table, k.0 as usize);
     if !grows(work, r, top) {
         return top;
     }
@@ -116,12 +121,12 @@ pub fn push(work: &mut [u8], table: &mut [u8], k: usize, top: usize, c: Code) ->
 pub fn append(
     work: &mut [u8],
     table: &mut [u8],
-    k: usize,
+    k: BlockId,
     top: usize,
     code: [Code; 4],
     n: usize,
 ) -> usize
-    ensures { λ r. ⌜ arena (now (work .exit)) (now (table .exit)) r ≡ spec.pushAll k (take n code) (arena (now (work .entry)) (now (table .entry)) top) ⌝ }
+    ensures { λ r. ⌜ arena (now (work .exit)) (now (table .exit)) r ≡ spec.pushAll (k .0) (take n code) (arena (now (work .entry)) (now (table .entry)) top) ⌝ }
 {
     let end = blocks::least(n, 4);
     let mut at = top;

@@ -28,7 +28,7 @@ fn follow(code: &[u8], table: &[u8], b: BlockId) -> BlockId
     let mut at = b;
     let mut k: u32 = 0;
     while k < 4 {
-        let next = past(at, ends::lone_of(blocks::block(code, table, at.0 as usize)));
+        let next = past(at, ends::lone_of(blocks::block(code, table, at)));
         if next.0 == at.0 {
             return at;
         }
@@ -49,7 +49,7 @@ fn meet(code: &[u8], table: &[u8], k: usize) -> Meeting
     ensures { λ m. ⌜ ((edited : Bool) → joinMet (now (table .entry)) m k (joined (now (code .entry)) edited)
         ≡ joinArms (now (table .entry)) k (joined (now (code .entry)) edited)) ⌝ }
 {
-    let e = blocks::end_at(code, table, k);
+    let e = blocks::end_by(code, format::record_at(table, k));
     match e {
         End::Br(_) => Meeting::Apart,
         End::CondBr(_, t, f) => {
@@ -72,7 +72,7 @@ fn join_arms(code: &mut [u8], table: &[u8], k: usize, edited: bool) -> bool
     let m = meet(code, table, k);
     match m {
         Meeting::At(to) => {
-            blocks::rewrite_br(code, table, k, to);
+            blocks::rewrite_br_by(code, format::record_at(table, k), to);
             true
         }
         Meeting::Apart => edited,
@@ -88,10 +88,10 @@ fn lead_apart(code: &[u8], table: &[u8], t: BlockId, f: BlockId) -> bool
     if t.0 == f.0 {
         return false;
     }
-    if blocks::is_lone(code, table, t.0 as usize) {
+    if blocks::is_lone(code, table, t) {
         return false;
     }
-    !blocks::is_lone(code, table, f.0 as usize)
+    !blocks::is_lone(code, table, f)
 }
 
 // A glance at block k: where it says yes, it has no arms, or they don't meet.
@@ -99,7 +99,7 @@ fn apart(code: &[u8], table: &[u8], k: usize) -> bool
     ensures { λ z. ⌜ (z ≡ true → (edited : Bool)
         → joinArms (now (table .entry)) k (joined (now (code .entry)) edited) ≡ joined (now (code .entry)) edited) ⌝ }
 {
-    let e = blocks::end_at(code, table, k);
+    let e = blocks::end_by(code, format::record_at(table, k));
     match e {
         End::Br(_) => true,
         End::CondBr(_, t, f) => lead_apart(code, table, t, f),

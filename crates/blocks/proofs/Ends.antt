@@ -18,46 +18,45 @@ use Rattle.procedure.specs.Procedure.{codesOf}
 use Rattle.ends.specs.declared.End.the-variants as e
 use Rattle.ends.specs.Ends.{viewOf, endOf, loneOf}
 use Rattle.ends.proofs.Laws.{length-codes, inst-there, end-last, end-none, lone-none}
-use Rattle.blocks.specs.Blocks.{blocksOf, blockBytes}
+use Rattle.blocks.specs.Blocks.{blocksOf, bytesOfBlock}
 use Rattle.blocks.proofs.Parts.{start-within, end-within, between-length, between-at, block-codes}
 
 -- a block that doesn't hold one instruction alone has no lone end
 pub not-lone : (c : List Code) → eqb (length c) 1 ≡ false → loneOf c ≡ e.Other
 not-lone c h = lone-none c (eqb-false (length c) 1 h)
 
-module _ (code table : List ℕ) (k : ℕ) where
-  own : Record
-  own = recordAt table k
-
-  size : length (codesOf (blockBytes code table k)) ≡ end-within code own - start-within code own
-  unfolding own
-  size = length-codes (blockBytes code table k) ∙ sym (length-records (blockBytes code table k)) ∙ between-length code own
+-- a block by its record
+module _ (code : List ℕ) (r : Record) where
+  size : length (codesOf (bytesOfBlock code r)) ≡ end-within code r - start-within code r
+  size = length-codes (bytesOfBlock code r) ∙ sym (length-records (bytesOfBlock code r)) ∙ between-length code r
 
   -- it ends where it starts, or before
-  pub ends-nowhere : end-within code (recordAt table k) ≤ recordAt table k .p1 → e.Other ≡ endOf (getD (blocksOf code table) k [])
-  unfolding own
+  pub ends-nowhere : end-within code r ≤ r .p1 → e.Other ≡ endOf (codesOf (bytesOfBlock code r))
   ends-nowhere h =
-      let z : end-within code own - start-within code own ≡ 0 = omega arith in
-      sym (end-none (codesOf (blockBytes code table k)) (size ∙ z)) ∙ ap endOf (block-codes code table k)
+      let z : end-within code r - start-within code r ≡ 0 = omega arith in
+      sym (end-none (codesOf (bytesOfBlock code r)) (size ∙ z))
 
   -- else by the record before its end
-  pub ends-there :
-      (recordAt table k .p1 < end-within code (recordAt table k)) → {x : Record} → x ≡ recordAt code (end-within code (recordAt table k) - 1) →
-      viewOf (instOf x) ≡ endOf (getD (blocksOf code table) k [])
-  unfolding own
+  pub ends-there : r .p1 < end-within code r → {x : Record} → x ≡ recordAt code (end-within code r - 1)
+      → viewOf (instOf x) ≡ endOf (codesOf (bytesOfBlock code r))
   ends-there h q =
-      let b = blockBytes code table k in
-      let j = end-within code own - start-within code own - 1 in
-      let at : start-within code own + j ≡ end-within code own - 1 = omega arith in
-      let one : end-within code own - start-within code own ≡ suc j = omega arith in
-      let there = between-at code own j (omega arith) ∙ ap (recordAt code) at in
-      ap viewOf (inst-there b j (q ∙ sym there)) ∙ sym (end-last (codesOf b) j (size ∙ one)) ∙ ap endOf (block-codes code table k)
+      let b = bytesOfBlock code r in
+      let j = end-within code r - start-within code r - 1 in
+      let at : start-within code r + j ≡ end-within code r - 1 = omega arith in
+      let one : end-within code r - start-within code r ≡ suc j = omega arith in
+      let there = between-at code r j (omega arith) ∙ ap (recordAt code) at in
+      ap viewOf (inst-there b j (q ∙ sym there)) ∙ sym (end-last (codesOf b) j (size ∙ one))
+
+module _ (code table : List ℕ) (k : ℕ) where
+  -- what is told of a record's block, told of block k
+  pub by-record : {r : Record} → r ≡ recordAt table k → endOf (codesOf (bytesOfBlock code r)) ≡ endOf (getD (blocksOf code table) k [])
+  by-record e = ap (λ (r : Record). endOf (codesOf (bytesOfBlock code r))) e ∙ ap endOf (block-codes code table k)
 
   -- it ends one after its start
   pub lone-size : eqb (recordAt table k .p1 + 1) (end-within code (recordAt table k)) ≡ eqb (length (getD (blocksOf code table) k [])) 1
-  unfolding own
   lone-size =
-      one (recordAt table k .p1) (end-within code own) ∙ ap (λ (n : ℕ). eqb n 1) (sym size ∙ ap length (block-codes code table k))
+      one (recordAt table k .p1) (end-within code (recordAt table k))
+      ∙ ap (λ (n : ℕ). eqb n 1) (sym (size code (recordAt table k)) ∙ ap length (block-codes code table k))
     where
       one : (s t : ℕ) → eqb (s + 1) t ≡ eqb (t - min s t) 1
       one s t = go (order (s + 1) t) (order t (s + 1))

@@ -6,11 +6,14 @@ ghost use lib.ListN.{length, getD};
 ghost use Rattle.format.specs.Record.{recordAt};
 ghost use Rattle.inst.specs.declared.Inst.the-variants as i;
 ghost use Rattle.ends.specs.Ends.{endOf};
-ghost use Rattle.blocks.specs.Blocks.{partBytes, blockBytes, blocksOf};
+ghost use Rattle.procedure.specs.Procedure.{codesOf};
+ghost use Rattle.blocks.specs.Blocks.{partBytes, bytesOfBlock, blockBytes, blocksOf};
 ghost use Rattle.blocks.specs.Rewrite as spec;
 use ends::End;
+use format::Record;
 use inst::BlockId;
 use inst::Inst;
+use inst::StmtId;
 
 // The lesser of two numbers.
 pub fn least(a: usize, b: usize) -> usize
@@ -28,19 +31,24 @@ pub fn part<'a>(code: &'a [u8], start: u32, end: u32) -> &'a [u8]
     &code[32 * s..32 * e]
 }
 
-// The code of block k; none past the last block.
-pub fn block<'a>(code: &'a [u8], table: &[u8], k: usize) -> &'a [u8]
-    ensures { λ r. ⌜ now r ≡ blockBytes (now (code .entry)) (now (table .entry)) k ⌝ }
+// The code of a block, by its record. A loop over a table has a record where it may not have a number.
+pub fn block_by<'a>(code: &'a [u8], r: Record) -> &'a [u8]
+    ensures { λ b. ⌜ now b ≡ bytesOfBlock (now (code .entry)) r ⌝ }
 {
-    let r = format::record_at(table, k);
     part(code, r.p1, r.p2)
 }
 
-// How block k ends, by its last record alone.
-pub fn end_at(code: &[u8], table: &[u8], k: usize) -> End
-    ensures { λ r. ⌜ r ≡ endOf (getD (blocksOf (now (code .entry)) (now (table .entry))) k []) ⌝ }
+// The code of block k; none past the last block.
+pub fn block<'a>(code: &'a [u8], table: &[u8], k: BlockId) -> &'a [u8]
+    ensures { λ r. ⌜ now r ≡ blockBytes (now (code .entry)) (now (table .entry)) (k .0) ⌝ }
 {
-    let r = format::record_at(table, k);
+    block_by(code, format::record_at(table, k.0 as usize))
+}
+
+// How a block ends, by its record and its last instruction's alone.
+pub fn end_by(code: &[u8], r: Record) -> End
+    ensures { λ e. ⌜ e ≡ endOf (codesOf (bytesOfBlock (now (code .entry)) r)) ⌝ }
+{
     let end = least(r.p2 as usize, code.len() / 32);
     if end <= r.p1 as usize {
         return End::Other;
@@ -48,11 +56,18 @@ pub fn end_at(code: &[u8], table: &[u8], k: usize) -> End
     ends::end_in(format::record_at(code, end - 1))
 }
 
-// Block k has one instruction.
-pub fn is_lone(code: &[u8], table: &[u8], k: usize) -> bool
-    ensures { λ z. ⌜ z ≡ eqb (length (getD (blocksOf (now (code .entry)) (now (table .entry))) k [])) 1 ⌝ }
+// How block k ends.
+pub fn end_at(code: &[u8], table: &[u8], k: BlockId) -> End
+    ensures { λ r. ⌜ r ≡ endOf (getD (blocksOf (now (code .entry)) (now (table .entry))) (k .0) []) ⌝ }
 {
-    let r = format::record_at(table, k);
+    end_by(code, format::record_at(table, k.0 as usize))
+}
+
+// Block k has one instruction.
+pub fn is_lone(code: &[u8], table: &[u8], k: BlockId) -> bool
+    ensures { λ z. ⌜ z ≡ eqb (length (getD (blocksOf (now (code .entry)) (now (table .entry))) (k .0) [])) 1 ⌝ }
+{
+    let r = format::record_at(table, k.0 as usize);
     r.p1 as usize + 1 == least(r.p2 as usize, code.len() / 32)
 }
 
@@ -66,10 +81,10 @@ pub fn front<'a>(code: &'a [u8]) -> &'a [u8]
 }
 
 // The last instruction of block k is rewritten; nothing is where block k is empty or ends past the code.
-pub fn rewrite_end(code: &mut [u8], table: &[u8], k: usize, i: Inst)
-    ensures { λ u. ⌜ now (code .exit) ≡ spec.endRewritten (now (code .entry)) (recordAt (now (table .entry)) k) i ⌝ }
+pub fn rewrite_end(code: &mut [u8], table: &[u8], k: BlockId, i: Inst)
+    ensures { λ u. ⌜ now (code .exit) ≡ spec.endRewritten (now (code .entry)) (recordAt (now (table .entry)) (k .0)) i ⌝ }
 {
-    let r = format::record_at(table, k);
+    let r = format::record_at(table, k.0 as usize);
     if r.p1 < r.p2 {
         let last = r.p2 as usize - 1;
         let old = format::record_at(code, last);
@@ -77,14 +92,20 @@ pub fn rewrite_end(code: &mut [u8], table: &[u8], k: usize, i: Inst)
     }
 }
 
-// The last instruction of block k becomes a Br; nothing is where block k is empty or ends past the code.
-pub fn rewrite_br(code: &mut [u8], table: &[u8], k: usize, to: BlockId)
-    ensures { λ u. ⌜ now (code .exit) ≡ spec.endRewritten (now (code .entry)) (recordAt (now (table .entry)) k) (i.Br to) ⌝ }
+// The last instruction of a block, by its record, becomes a Br; nothing does where it is empty or ends past the code.
+pub fn rewrite_br_by(code: &mut [u8], r: Record, to: BlockId)
+    ensures { λ u. ⌜ now (code .exit) ≡ spec.endRewritten (now (code .entry)) r (i.Br to) ⌝ }
 {
-    let r = format::record_at(table, k);
     if r.p1 < r.p2 {
         let at = r.p2 as usize - 1;
         let old = format::record_at(code, at);
-        store::put_record(code, at, codec::br_record(to, old.stmt));
+        store::put_record(code, at, codec::br_record(to, StmtId(old.stmt)));
     }
+}
+
+// The last instruction of block k becomes a Br, in the same way.
+pub fn rewrite_br(code: &mut [u8], table: &[u8], k: BlockId, to: BlockId)
+    ensures { λ u. ⌜ now (code .exit) ≡ spec.endRewritten (now (code .entry)) (recordAt (now (table .entry)) (k .0)) (i.Br to) ⌝ }
+{
+    rewrite_br_by(code, format::record_at(table, k.0 as usize), to);
 }

@@ -43,20 +43,20 @@ fn arm_of(
     code: &[u8],
     table: &[u8],
     pause: Pause,
-    a: usize,
+    a: BlockId,
     c: Reg,
     truth: bool,
     l: BlockId,
 ) -> BlockId
-    ensures { λ z. ⌜ z ≡ blockOf (armIn (now (table .entry)) a (now (code .entry)) (bodyIn pause) (c .0) truth (l .0)) ⌝ }
+    ensures { λ z. ⌜ z ≡ blockOf (armIn (now (table .entry)) (a .0) (now (code .entry)) (bodyIn pause) (c .0) truth (l .0)) ⌝ }
 {
-    if l.0 as usize == a {
+    if l.0 == a.0 {
         return l;
     }
     if pausing::is_pause(pause, l) {
         return l;
     }
-    matching(truth, c, l, gate::lone_at(code, table, l.0 as usize))
+    matching(truth, c, l, gate::lone_at(code, table, l))
 }
 
 // Nothing differs.
@@ -77,14 +77,14 @@ fn rewrite(
     code: &mut [u8],
     table: &[u8],
     pause: Pause,
-    a: usize,
+    a: BlockId,
     c: Reg,
     t: BlockId,
     e: BlockId,
     d: Reg,
 ) -> Turn
     ensures { λ z. ⌜ turned (now (code .exit)) z
-        ≡ turnIn (now (table .entry)) a (now (code .entry)) (bodyIn pause) (c .0) (t .0) (e .0) (d .0) ⌝ }
+        ≡ turnIn (now (table .entry)) (a .0) (now (code .entry)) (bodyIn pause) (c .0) (t .0) (e .0) (d .0) ⌝ }
 {
     let x = arm_of(code, table, pause, a, d, true, t);
     let y = arm_of(code, table, pause, a, d, false, e);
@@ -102,8 +102,8 @@ fn choose(v: u64, t: BlockId, e: BlockId) -> BlockId
 }
 
 // A known value makes a Br.
-fn fold(code: &mut [u8], table: &[u8], a: usize, v: u64, t: BlockId, e: BlockId) -> Turn
-    ensures { λ z. ⌜ turned (now (code .exit)) z ≡ foldIn (now (table .entry)) a (now (code .entry)) v (t .0) (e .0) ⌝ }
+fn fold(code: &mut [u8], table: &[u8], a: BlockId, v: u64, t: BlockId, e: BlockId) -> Turn
+    ensures { λ z. ⌜ turned (now (code .exit)) z ≡ foldIn (now (table .entry)) (a .0) (now (code .entry)) v (t .0) (e .0) ⌝ }
 {
     blocks::rewrite_br(code, table, a, choose(v, t, e));
     Turn::Next
@@ -117,14 +117,14 @@ pub fn hop_cond_br(
     copy: &mut [u32],
     facts: &[u64],
     pause: Pause,
-    a: usize,
+    a: BlockId,
     c: Reg,
     t: BlockId,
     e: BlockId,
 ) -> Turn
     ensures { λ z. ⌜ turned (now (code .exit)) z
-        ≡ turnedIn (now (table .entry)) a (now (facts .entry)) (bodyIn pause) (now (code .entry)) (c .0) (t .0) (e .0)
-        (roomIn (now (table .entry)) a (now (code .entry)) (now (known .entry)) (now (copy .entry))) ⌝ }
+        ≡ turnedIn (now (table .entry)) (a .0) (now (facts .entry)) (bodyIn pause) (now (code .entry)) (c .0) (t .0) (e .0)
+        (roomIn (now (table .entry)) (a .0) (now (code .entry)) (now (known .entry)) (now (copy .entry))) ⌝ }
 {
     let n = note::notes(
         blocks::front(blocks::block(code, table, a)),

@@ -8,6 +8,7 @@ use inst::Inst;
 use inst::Reg;
 use inst::Regs;
 use inst::StmtId;
+use inst::kinds;
 
 // The word whose low and high halves stand in two fields.
 pub fn word_of(low: u32, high: u32) -> u64
@@ -264,15 +265,15 @@ pub fn record_of(c: Code) -> Record
 }
 
 // The record of a Br.
-pub fn br_record(to: BlockId, stmt: u32) -> Record
-    ensures { λ r. ⌜ r ≡ recordOf (record { inst = i.Br to; stmt = record { 0 = stmt } }) ⌝ }
+pub fn br_record(to: BlockId, stmt: StmtId) -> Record
+    ensures { λ r. ⌜ r ≡ recordOf (record { inst = i.Br to; stmt = stmt }) ⌝ }
 {
     Record {
         class: 4,
-        kind: 18,
+        kind: kinds::BR,
         op: 0,
         zero: 0,
-        stmt,
+        stmt: stmt.0,
         p1: to.0,
         p2: 0,
         p3: 0,

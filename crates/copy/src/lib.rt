@@ -1,7 +1,7 @@
 ghost use mathlib.Core.Path.{_≡_};
 ghost use mathlib.Core.List.{[], _∷_};
 ghost use mathlib.Core.Option.{Option};
-ghost use Prim.Native.Nat.{ℕ, _≤_, _<_};
+ghost use Prim.Native.Nat.{ℕ, _≤_, _<_, min};
 ghost use lib.ListN.{take, drop};
 ghost use Rattle.roles.specs.Roles.{usesOf, numbersOf};
 ghost use Rattle.procedure.specs.Procedure.{codesOf};
@@ -280,9 +280,9 @@ fn taken(code: &[u8]) -> [Code; 4]
 }
 
 // The copy of n instructions, where m is the first new number.
-fn copy_all(code: [Code; 4], n: usize, facts: &[u64], m: u16) -> Copied
-    requires { ⌜ n ≤ 4 ⌝ }
-    ensures { λ z. ⌜ CopyOf (now (facts .entry)) (take n code) m z ⌝ }
+fn copy_all(code: [Code; 4], n: usize, facts: &[u64], m: Reg) -> Copied
+    requires { ⌜ (n ≤ 4) × (m .0 ≤ 65535) ⌝ }
+    ensures { λ z. ⌜ CopyOf (now (facts .entry)) (take n code) (m .0) z ⌝ }
 {
     let mut s = nothing();
     let mut k = 0;
@@ -290,19 +290,30 @@ fn copy_all(code: [Code; 4], n: usize, facts: &[u64], m: u16) -> Copied
         let x = code[k];
         let i = x.inst;
         let how = how_of(i, code, n, facts);
-        s = placed(s, how, x, Reg(m as u32 + s.fresh as u32));
+        s = placed(s, how, x, Reg(m.0 + s.fresh as u32));
         k += 1;
     }
     s
 }
 
-// The copy of a target's first four instructions, where m is the first new number.
-pub fn copy_of(code: &[u8], facts: &[u64], m: u16) -> Copied
-    ensures { λ z. ⌜ CopyOf (now (facts .entry)) (take 4 (codesOf (now (code .entry)))) m z ⌝ }
+// A number of 16 bits: r, or the last where r is above it.
+fn within(r: Reg) -> Reg
+    ensures { λ z. ⌜ z .0 ≡ min (r .0) 65535 ⌝ }
 {
+    if r.0 < 65535 {
+        return r;
+    }
+    Reg(65535)
+}
+
+// The copy of a target's first four instructions, where m is the first new number, or 65535 where m is above it.
+pub fn copy_of(code: &[u8], facts: &[u64], m: Reg) -> Copied
+    ensures { λ z. ⌜ CopyOf (now (facts .entry)) (take 4 (codesOf (now (code .entry)))) (min (m .0) 65535) z ⌝ }
+{
+    let first = within(m);
     let n = code.len() / 32;
     if n < 4 {
-        return copy_all(taken(code), n, facts, m);
+        return copy_all(taken(code), n, facts, first);
     }
-    copy_all(taken(code), 4, facts, m)
+    copy_all(taken(code), 4, facts, first)
 }

@@ -8,7 +8,7 @@ ghost use Rattle.inst.specs.declared.Inst.the-variants as i;
 ghost use Rattle.codec.specs.Codec.{instOf, recordOf};
 ghost use Rattle.procedure.specs.Lists.{joined};
 ghost use Rattle.procedure.specs.Procedure.{codesOf};
-ghost use Rattle.blocks.specs.Blocks.{blockRecordsIn, blocksOf};
+ghost use Rattle.blocks.specs.Blocks.{blockBytes, blockRecordsIn, blocksOf};
 ghost use Rattle.steps.specs.Emit as steps;
 ghost use Rattle.emit.specs.Emitted.{marksIn, rescuedBy, staysBy, rescuedIn, branchRecord};
 ghost use Rattle.emit.specs.Emitted.{place, put as putOne, puts};
@@ -18,6 +18,8 @@ use format::Record;
 use inst::Block;
 use inst::BlockId;
 use inst::Reg;
+use inst::StmtId;
+use inst::kinds;
 
 // A Const, ConstF or AddrOf whose register one field of the code writes. By the record's kind.
 pub fn is_rescued(r: Record, facts: &[u64]) -> bool
@@ -25,7 +27,7 @@ pub fn is_rescued(r: Record, facts: &[u64]) -> bool
 {
     let kind = r.kind;
     match kind {
-        0 | 1 | 3 => facts::is_single(facts, Reg(r.p1)),
+        kinds::CONST | kinds::CONST_F | kinds::ADDR_OF => facts::is_single(facts, Reg(r.p1)),
         _ => false,
     }
 }
@@ -157,7 +159,14 @@ pub fn put_emptied(out: &mut [u8], at: usize, next: BlockId, code: &[u8]) -> usi
     ensures { λ z. ⌜ place (now (out .exit)) z ≡ putOne (branchRecord next (codesOf (now (code .entry)))) (place (now (out .entry)) at) ⌝ }
 {
     let first = format::record_at(code, 0);
-    put(out, at, codec::br_record(next, first.stmt))
+    put(out, at, codec::br_record(next, StmtId(first.stmt)))
+}
+
+// The code of the block whose record has place b of the table; none past the last.
+fn code_at<'a>(work: &'a [u8], table: &[u8], b: usize) -> &'a [u8]
+    ensures { λ r. ⌜ now r ≡ blockBytes (now (work .entry)) (now (table .entry)) b ⌝ }
+{
+    blocks::block_by(work, format::record_at(table, b))
 }
 
 // The mark of block b; a block without a mark stays.
@@ -176,7 +185,7 @@ fn keeps(work: &[u8], table: &[u8], seen: &[bool], b: usize) -> bool
 {
     let nb = table.len() / 32;
     let last = nb - blocks::least(1, nb) <= b;
-    stays(mark_at(seen, b), last, blocks::block(work, table, b))
+    stays(mark_at(seen, b), last, code_at(work, table, b))
 }
 
 // The rescued records of block b, where it doesn't stay, are written from a place on; returns the next place.
@@ -196,7 +205,7 @@ fn put_lost(
     if keeps(work, table, seen, b) {
         return at;
     }
-    put_rescued(out, at, blocks::block(work, table, b), facts)
+    put_rescued(out, at, code_at(work, table, b), facts)
 }
 
 // The rescued records are written from a place on, in order; returns the next place.
@@ -227,7 +236,7 @@ fn put_new(out: &mut [u8], at: usize, work: &[u8], table: &[u8], seen: &[bool], 
     ensures { λ z. ⌜ place (now (out .exit)) z
         ≡ puts (newAt (marksIn (now (seen .entry))) (blockRecordsIn (now (work .entry)) (now (table .entry))) b) (place (now (out .entry)) at) ⌝ }
 {
-    let code = blocks::block(work, table, b);
+    let code = code_at(work, table, b);
     if keeps(work, table, seen, b) {
         return put_block(out, at, code);
     }
@@ -255,7 +264,7 @@ fn size_at(work: &[u8], table: &[u8], seen: &[bool], b: usize) -> usize
     ensures { λ z. ⌜ z ≡ length (newAt (marksIn (now (seen .entry))) (blockRecordsIn (now (work .entry)) (now (table .entry))) b) ⌝ }
 {
     if keeps(work, table, seen, b) {
-        return blocks::block(work, table, b).len() / 32;
+        return code_at(work, table, b).len() / 32;
     }
     1
 }
@@ -319,7 +328,7 @@ fn sized(at: Sizes, work: &[u8], table: &[u8], seen: &[bool], facts: &[u64], b: 
     ensures code { λ z. ⌜ z .code ≡ counted (at .code
         + length (newAt (marksIn (now (seen .entry))) (blockRecordsIn (now (work .entry)) (now (table .entry))) b)) ⌝ }
 {
-    let code = blocks::block(work, table, b);
+    let code = code_at(work, table, b);
     if keeps(work, table, seen, b) {
         return Sizes {
             keep: at.keep,

@@ -6,6 +6,7 @@ use format::Record;
 use inst::BlockId;
 use inst::Inst;
 use inst::Reg;
+use inst::kinds;
 
 // How a block ends, as the branch steps look at it.
 pub enum End {
@@ -39,9 +40,9 @@ pub fn end_in(r: Record) -> End
 {
     let kind = r.kind;
     match kind {
-        18 => End::Br(BlockId(r.p1)),
-        19 => End::CondBr(Reg(r.p1), BlockId(r.p2), BlockId(r.p3)),
-        20 => End::Case(r.p2),
+        kinds::BR => End::Br(BlockId(r.p1)),
+        kinds::COND_BR => End::CondBr(Reg(r.p1), BlockId(r.p2), BlockId(r.p3)),
+        kinds::CASE => End::Case(r.p2),
         _ => End::Other,
     }
 }

@@ -6,7 +6,9 @@ ghost use Rattle.procedure.specs.Procedure.{codesOf};
 ghost use Rattle.fill.specs.Filling.{over, withWord, withKonst, classStep, classCode};
 use format::Record;
 use inst::AddrSpace;
+use inst::Inst;
 use inst::Reg;
+use inst::kinds;
 
 // The v of a Const, if it is the first of a register that is written once.
 fn put_word(table: &mut [u64], d: Reg, v: u64)
@@ -65,16 +67,25 @@ fn put_address(table: &mut [u64], d: Reg, space: AddrSpace)
     put_konst(table, d);
 }
 
-// By the record's kind: a Const, ConstF or AddrOf.
+// What an instruction says of the class of the register that it writes: a Const, ConstF or AddrOf.
+fn put_inst(table: &mut [u64], i: Inst)
+    ensures { λ u. ⌜ now (table .exit) ≡ classStep (now (table .entry)) i ⌝ }
+{
+    match i {
+        Inst::Const { dst, v } => put_word(table, dst, v),
+        Inst::ConstF { dst, v: _ } => put_konst(table, dst),
+        Inst::AddrOf { dst, space, off: _ } => put_address(table, dst, space),
+        _ => {}
+    }
+}
+
+// The same of a record: of another kind nothing is read.
 fn put_class(table: &mut [u64], r: Record)
     ensures { λ u. ⌜ now (table .exit) ≡ classStep (now (table .entry)) (instOf r) ⌝ }
 {
     let kind = r.kind;
-    let d = Reg(r.p1);
     match kind {
-        0 => put_word(table, d, codec::word_of(r.p2, r.p3)),
-        1 => put_konst(table, d),
-        3 => put_address(table, d, ops::space_of(r.op, r.p2)),
+        kinds::CONST | kinds::CONST_F | kinds::ADDR_OF => put_inst(table, codec::inst_of(r)),
         _ => {}
     }
 }

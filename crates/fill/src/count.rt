@@ -11,6 +11,7 @@ use inst::BoolOp;
 use inst::Inst;
 use inst::Reg;
 use inst::Regs;
+use inst::kinds;
 
 // One more in column j of a register's row, up to the most; nothing where the table has no such place.
 fn bump(table: &mut [u64], j: usize, most: u64, r: Reg)
@@ -51,8 +52,8 @@ fn bump_list(table: &mut [u64], j: usize, most: u64, operands: &[u8], list: Regs
         if operands.len() / 32 <= start + k {
             return;
         }
-        let r = format::record_at(operands, start + k);
-        bump(table, j, most, Reg(r.p1));
+        let r = items::operand_of(format::record_at(operands, start + k));
+        bump(table, j, most, r);
         k += 1;
     }
 }
@@ -69,48 +70,49 @@ fn count_inst(table: &mut [u64], operands: &[u8], i: Inst)
 }
 
 // One register written and one read.
-fn bump_two(table: &mut [u64], d: u32, a: u32)
-    ensures { λ u. ⌜ now (table .exit) ≡ counted 2 cap (counted 1 255 (now (table .entry)) d) a ⌝ }
+fn bump_two(table: &mut [u64], d: Reg, a: Reg)
+    ensures { λ u. ⌜ now (table .exit) ≡ counted 2 cap (counted 1 255 (now (table .entry)) (d .0)) (a .0) ⌝ }
 {
-    bump(table, 1, 255, Reg(d));
-    bump(table, 2, 4294967295, Reg(a));
+    bump(table, 1, 255, d);
+    bump(table, 2, 4294967295, a);
 }
 
 // One register written and two read.
-fn bump_three(table: &mut [u64], d: u32, a: u32, b: u32)
-    ensures { λ u. ⌜ now (table .exit) ≡ counted 2 cap (counted 2 cap (counted 1 255 (now (table .entry)) d) a) b ⌝ }
+fn bump_three(table: &mut [u64], d: Reg, a: Reg, b: Reg)
+    ensures { λ u. ⌜ now (table .exit) ≡ counted 2 cap (counted 2 cap (counted 1 255 (now (table .entry)) (d .0)) (a .0)) (b .0) ⌝ }
 {
     bump_two(table, d, a);
-    bump(table, 2, 4294967295, Reg(b));
+    bump(table, 2, 4294967295, b);
 }
 
 // Two registers read.
-fn bump_reads(table: &mut [u64], a: u32, b: u32)
-    ensures { λ u. ⌜ now (table .exit) ≡ counted 2 cap (counted 2 cap (now (table .entry)) a) b ⌝ }
+fn bump_reads(table: &mut [u64], a: Reg, b: Reg)
+    ensures { λ u. ⌜ now (table .exit) ≡ counted 2 cap (counted 2 cap (now (table .entry)) (a .0)) (b .0) ⌝ }
 {
-    bump(table, 2, 4294967295, Reg(a));
-    bump(table, 2, 4294967295, Reg(b));
+    bump(table, 2, 4294967295, a);
+    bump(table, 2, 4294967295, b);
 }
 
 // One register written and three read.
-fn bump_four(table: &mut [u64], d: u32, a: u32, b: u32, e: u32)
-    ensures { λ u. ⌜ now (table .exit) ≡ counted 2 cap (counted 2 cap (counted 2 cap (counted 1 255 (now (table .entry)) d) a) b) e ⌝ }
+fn bump_four(table: &mut [u64], d: Reg, a: Reg, b: Reg, e: Reg)
+    ensures { λ u. ⌜ now (table .exit)
+        ≡ counted 2 cap (counted 2 cap (counted 2 cap (counted 1 255 (now (table .entry)) (d .0)) (a .0)) (b .0)) (e .0) ⌝ }
 {
     bump_two(table, d, a);
     bump_reads(table, b, e);
 }
 
 // One register written and four read.
-fn bump_five(table: &mut [u64], d: u32, a: u32, b: u32, l: u32, h: u32)
+fn bump_five(table: &mut [u64], d: Reg, a: Reg, b: Reg, l: Reg, h: Reg)
     ensures { λ u. ⌜ now (table .exit)
-        ≡ counted 2 cap (counted 2 cap (counted 2 cap (counted 2 cap (counted 1 255 (now (table .entry)) d) a) b) l) h ⌝ }
+        ≡ counted 2 cap (counted 2 cap (counted 2 cap (counted 2 cap (counted 1 255 (now (table .entry)) (d .0)) (a .0)) (b .0)) (l .0)) (h .0) ⌝ }
 {
     bump_three(table, d, a, b);
     bump_reads(table, l, h);
 }
 
-fn bump_bool(table: &mut [u64], op: BoolOp, d: u32, a: u32, b: u32)
-    ensures { λ u. ⌜ now (table .exit) ≡ over (counted 2 cap) (counted 1 255 (now (table .entry)) d) (boolUses op a b) ⌝ }
+fn bump_bool(table: &mut [u64], op: BoolOp, d: Reg, a: Reg, b: Reg)
+    ensures { λ u. ⌜ now (table .exit) ≡ over (counted 2 cap) (counted 1 255 (now (table .entry)) (d .0)) (boolUses op (a .0) (b .0)) ⌝ }
 {
     match op {
         BoolOp::And => bump_three(table, d, a, b),
@@ -120,33 +122,37 @@ fn bump_bool(table: &mut [u64], op: BoolOp, d: u32, a: u32, b: u32)
     }
 }
 
-// The same for record k: the kinds that most code has are counted by their fields; for another it is read again as a whole.
+// The same for record k, by its kind: most code has kinds that are counted by their fields; another is read as a whole.
 fn count_record(table: &mut [u64], operands: &[u8], code: &[u8], k: usize)
     ensures { λ u. ⌜ now (table .exit)
         ≡ countInst (operandsIn (now (operands .entry))) (now (table .entry)) (instOf (recordAt (now (code .entry)) k)) ⌝ }
 {
     let r = format::record_at(code, k);
     let kind = r.kind;
+    let q1 = Reg(r.p1);
+    let q2 = Reg(r.p2);
+    let q3 = Reg(r.p3);
+    let q4 = Reg(r.p4);
     match kind {
-        0 => bump(table, 1, 255, Reg(r.p1)),
-        1 => bump(table, 1, 255, Reg(r.p1)),
-        2 => bump_two(table, r.p1, r.p2),
-        3 => bump(table, 1, 255, Reg(r.p1)),
-        4 => bump_four(table, r.p1, r.p2, r.p3, r.p4),
-        5 => bump_three(table, r.p1, r.p2, r.p3),
-        6 => bump_bool(table, ops::bool_of(r.op), r.p1, r.p2, r.p3),
-        7 => bump_three(table, r.p1, r.p2, r.p3),
-        8 => bump_five(table, r.p1, r.p2, r.p3, r.p4, r.p5),
-        9 => bump_two(table, r.p1, r.p2),
-        10 => bump_reads(table, r.p1, r.p2),
-        13 => bump_two(table, r.p1, r.p2),
-        14 => bump_four(table, r.p1, r.p2, r.p3, r.p4),
-        15 => bump_two(table, r.p1, r.p2),
-        18 => {}
-        19 => bump(table, 2, 4294967295, Reg(r.p1)),
-        20 => bump(table, 2, 4294967295, Reg(r.p1)),
-        22 => {}
-        23 => {}
+        kinds::CONST => bump(table, 1, 255, q1),
+        kinds::CONST_F => bump(table, 1, 255, q1),
+        kinds::MOVE => bump_two(table, q1, q2),
+        kinds::ADDR_OF => bump(table, 1, 255, q1),
+        kinds::SELECT => bump_four(table, q1, q2, q3, q4),
+        kinds::CMP => bump_three(table, q1, q2, q3),
+        kinds::BOOL => bump_bool(table, ops::bool_of(r.op), q1, q2, q3),
+        kinds::BIN => bump_three(table, q1, q2, q3),
+        kinds::BIN_RANGE => bump_five(table, q1, q2, q3, q4, Reg(r.p5)),
+        kinds::LOAD => bump_two(table, q1, q2),
+        kinds::STORE => bump_reads(table, q1, q2),
+        kinds::DOPE_LEN => bump_two(table, q1, q2),
+        kinds::BOUNDS_LEN => bump_four(table, q1, q2, q3, q4),
+        kinds::ALLOC => bump_two(table, q1, q2),
+        kinds::BR => {}
+        kinds::COND_BR => bump(table, 2, 4294967295, q1),
+        kinds::CASE => bump(table, 2, 4294967295, q1),
+        kinds::UNREACHABLE => {}
+        kinds::STMT => {}
         _ => count_inst(table, operands, codec::inst_of(format::record_at(code, k))),
     }
 }

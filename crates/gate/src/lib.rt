@@ -12,8 +12,8 @@ use ends::End;
 use inst::BlockId;
 
 // The end of block k where it holds nothing else.
-pub fn lone_at(code: &[u8], table: &[u8], k: usize) -> End
-    ensures { λ r. ⌜ r ≡ loneOf (getD (blocksOf (now (code .entry)) (now (table .entry))) k []) ⌝ }
+pub fn lone_at(code: &[u8], table: &[u8], k: BlockId) -> End
+    ensures { λ r. ⌜ r ≡ loneOf (getD (blocksOf (now (code .entry)) (now (table .entry))) (k .0) []) ⌝ }
 {
     ends::lone_of(blocks::block(code, table, k))
 }
@@ -37,7 +37,7 @@ pub fn has_back_edge(code: &[u8], table: &[u8]) -> bool
     let n = table.len() / 32;
     let mut b = 0;
     while b < n {
-        if goes_back(b, blocks::end_at(code, table, b)) {
+        if goes_back(b, blocks::end_by(code, format::record_at(table, b))) {
             return true;
         }
         b += 1;
@@ -60,26 +60,26 @@ fn is_cond_br(e: End) -> bool
 fn lone_cond_br(code: &[u8], table: &[u8], k: BlockId) -> bool
     ensures { λ z. ⌜ z ≡ steps.isCondBr (loneOf (getD (blocksOf (now (code .entry)) (now (table .entry))) (k .0) [])) ⌝ }
 {
-    is_cond_br(lone_at(code, table, k.0 as usize))
+    is_cond_br(lone_at(code, table, k))
 }
 
 // Block l is small and no latch.
 pub fn copied(code: &[u8], table: &[u8], l: BlockId, wide: bool) -> bool
     ensures { λ z. ⌜ z ≡ steps.copied wide (blocksOf (now (code .entry)) (now (table .entry))) (l .0) ⌝ }
 {
-    let at = l.0 as usize;
-    let target = blocks::block(code, table, at);
+    let target = blocks::block(code, table, l);
     if !small::small(target) {
         return false;
     }
-    !small::latch(target, blocks::block(code, table, at + 1), l, wide)
+    let next = format::record_at(table, l.0 as usize + 1);
+    !small::latch(target, blocks::block_by(code, next), l, wide)
 }
 
 fn may_hop(code: &[u8], table: &[u8], a: usize, wide: bool) -> bool
     ensures { λ z. ⌜ z ≡ steps.mayHop wide (blocksOf (now (code .entry)) (now (table .entry)))
         a (endOf (getD (blocksOf (now (code .entry)) (now (table .entry))) a [])) ⌝ }
 {
-    let e = blocks::end_at(code, table, a);
+    let e = blocks::end_by(code, format::record_at(table, a));
     match e {
         End::Br(to) => to.0 as usize != a && copied(code, table, to, wide),
         End::CondBr(_, t, f) => lone_cond_br(code, table, t) || lone_cond_br(code, table, f),
@@ -94,19 +94,19 @@ fn could_hop(code: &[u8], table: &[u8], a: usize) -> bool
         → steps.mayHop wide (blocksOf (now (code .entry)) (now (table .entry)))
         a (endOf (getD (blocksOf (now (code .entry)) (now (table .entry))) a [])) ≡ false) ⌝ }
 {
-    let e = blocks::end_at(code, table, a);
+    let e = blocks::end_by(code, format::record_at(table, a));
     match e {
         End::Br(to) => {
-            if !small::small(blocks::block(code, table, to.0 as usize)) {
+            if !small::small(blocks::block(code, table, to)) {
                 return false;
             }
             to.0 as usize != a
         }
         End::CondBr(_, t, f) => {
-            if blocks::is_lone(code, table, t.0 as usize) {
+            if blocks::is_lone(code, table, t) {
                 return true;
             }
-            blocks::is_lone(code, table, f.0 as usize)
+            blocks::is_lone(code, table, f)
         }
         End::Case(_) => false,
         End::Other => false,

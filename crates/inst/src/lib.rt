@@ -2,6 +2,8 @@ ghost use mathlib.Core.Path.{_≡_};
 ghost use Rattle.inst.specs.Inst.{kindOf};
 use real::Real;
 
+pub mod kinds;
+
 pub struct Reg(pub u32);
 
 pub struct BlockId(pub u32);
@@ -222,29 +224,29 @@ pub fn kind(i: Inst) -> u32
     ensures { λ r. ⌜ r ≡ kindOf i ⌝ }
 {
     match i {
-        Inst::Const { .. } => 0,
-        Inst::ConstF { .. } => 1,
-        Inst::Move { .. } => 2,
-        Inst::AddrOf { .. } => 3,
-        Inst::Select { .. } => 4,
-        Inst::Cmp { .. } => 5,
-        Inst::Bool { .. } => 6,
-        Inst::Bin { .. } => 7,
-        Inst::BinRange { .. } => 8,
-        Inst::Load { .. } => 9,
-        Inst::Store { .. } => 10,
-        Inst::Check { .. } => 11,
-        Inst::MakeDope { .. } => 12,
-        Inst::DopeLen { .. } => 13,
-        Inst::BoundsLen { .. } => 14,
-        Inst::Alloc { .. } => 15,
-        Inst::TakeBounds { .. } => 16,
-        Inst::CallNative { .. } => 17,
-        Inst::Br { .. } => 18,
-        Inst::CondBr { .. } => 19,
-        Inst::Case { .. } => 20,
-        Inst::Ret { .. } => 21,
-        Inst::Unreachable { .. } => 22,
-        Inst::Stmt => 23,
+        Inst::Const { .. } => kinds::CONST,
+        Inst::ConstF { .. } => kinds::CONST_F,
+        Inst::Move { .. } => kinds::MOVE,
+        Inst::AddrOf { .. } => kinds::ADDR_OF,
+        Inst::Select { .. } => kinds::SELECT,
+        Inst::Cmp { .. } => kinds::CMP,
+        Inst::Bool { .. } => kinds::BOOL,
+        Inst::Bin { .. } => kinds::BIN,
+        Inst::BinRange { .. } => kinds::BIN_RANGE,
+        Inst::Load { .. } => kinds::LOAD,
+        Inst::Store { .. } => kinds::STORE,
+        Inst::Check { .. } => kinds::CHECK,
+        Inst::MakeDope { .. } => kinds::MAKE_DOPE,
+        Inst::DopeLen { .. } => kinds::DOPE_LEN,
+        Inst::BoundsLen { .. } => kinds::BOUNDS_LEN,
+        Inst::Alloc { .. } => kinds::ALLOC,
+        Inst::TakeBounds { .. } => kinds::TAKE_BOUNDS,
+        Inst::CallNative { .. } => kinds::CALL_NATIVE,
+        Inst::Br { .. } => kinds::BR,
+        Inst::CondBr { .. } => kinds::COND_BR,
+        Inst::Case { .. } => kinds::CASE,
+        Inst::Ret { .. } => kinds::RET,
+        Inst::Unreachable { .. } => kinds::UNREACHABLE,
+        Inst::Stmt => kinds::STMT,
     }
 }

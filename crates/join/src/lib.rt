@@ -32,21 +32,20 @@ pub fn stops(
     pause: Pause,
     budget: u32,
     grown: u64,
-    a: usize,
+    a: BlockId,
     l: BlockId,
 ) -> bool
     ensures { λ z. ⌜ z ≡ steps.stops (factsIn (now (facts .entry)) (bodyIn pause) budget)
-        (grownTo (blocksOf (now (code .entry)) (now (table .entry))) grown) a (l .0) ⌝ }
+        (grownTo (blocksOf (now (code .entry)) (now (table .entry))) grown) (a .0) (l .0) ⌝ }
 {
-    let at = l.0 as usize;
-    if at == a {
+    if l.0 == a.0 {
         return true;
     }
     if pausing::is_pause(pause, l) {
         return true;
     }
     let wide = pausing::has_pause(pause);
-    if binds(blocks::block(code, table, at), facts, wide) {
+    if binds(blocks::block(code, table, l), facts, wide) {
         return true;
     }
     if (budget as u64) < grown {
@@ -63,11 +62,11 @@ pub struct Joined {
 }
 
 // The number of the next new register.
-fn next_number(facts: &[u64], fresh: usize) -> u16
-    ensures { λ r. ⌜ r ≡ nextIn (now (facts .entry)) fresh ⌝ }
+fn next_number(facts: &[u64], fresh: usize) -> Reg
+    ensures { λ r. ⌜ r .0 ≡ nextIn (now (facts .entry)) fresh ⌝ }
 {
     let m = blocks::least(facts::registers(facts), 65535);
-    (m + blocks::least(fresh, 65535 - m)) as u16
+    Reg((m + blocks::least(fresh, 65535 - m)) as u32)
 }
 
 // A register's kind; 0 for a register that the file doesn't have.
@@ -105,17 +104,17 @@ pub fn join(
     table: &mut [u8],
     kinds: &mut [u8],
     facts: &[u64],
-    a: usize,
+    a: BlockId,
     l: BlockId,
     top: usize,
     fresh: usize,
 ) -> Joined
     ensures { λ r. ⌜ ((body : Option ℕ) (budget : ℕ)
         → left (arena (now (work .exit)) (now (table .exit)) (r .top)) (now (kinds .exit)) (r .n) (r .fresh)
-        ≡ joinOf (now (facts .entry)) body budget a (l .0) fresh (arena (now (work .entry)) (now (table .entry)) top) (now (kinds .entry))) ⌝ }
+        ≡ joinOf (now (facts .entry)) body budget (a .0) (l .0) fresh (arena (now (work .entry)) (now (table .entry)) top) (now (kinds .entry))) ⌝ }
 {
     let m = next_number(facts, fresh);
-    let z = copy::copy_of(blocks::block(work, table, l.0 as usize), facts, m);
+    let z = copy::copy_of(blocks::block(work, table, l), facts, m);
     let code = z.code;
     let old = z.old;
     put_kinds(kinds, facts, old, z.fresh, fresh);

@@ -16,6 +16,7 @@ use facts::Word;
 use inst::BoolOp;
 use inst::OptReg;
 use inst::Reg;
+use inst::kinds;
 
 mod bools;
 mod learn;
@@ -97,9 +98,9 @@ fn note(known: &mut [u64], copy: &mut [u32], h: Held, facts: &[u64], code: &[u8]
     let kind = r.kind;
     let d = Reg(r.p1);
     match kind {
-        0 => note_const(known, copy, h, d, codec::word_of(r.p2, r.p3)),
-        2 => note_move(known, copy, h, facts, d, Reg(r.p2)),
-        6 => note_bool(
+        kinds::CONST => note_const(known, copy, h, d, codec::word_of(r.p2, r.p3)),
+        kinds::MOVE => note_move(known, copy, h, facts, d, Reg(r.p2)),
+        kinds::BOOL => note_bool(
             known,
             copy,
             h,
@@ -109,9 +110,18 @@ fn note(known: &mut [u64], copy: &mut [u32], h: Held, facts: &[u64], code: &[u8]
             Reg(r.p2),
             Reg(r.p3),
         ),
-        1 | 3 | 4 | 5 | 7 | 8 | 9 | 13 | 14 | 15 => entries::forget(known, copy, h, d),
-        16 => Held { known: 0, copy: 0 },
-        17 => note_call(known, copy, h, ops::opt_of(r.op, r.p4)),
+        kinds::CONST_F
+        | kinds::ADDR_OF
+        | kinds::SELECT
+        | kinds::CMP
+        | kinds::BIN
+        | kinds::BIN_RANGE
+        | kinds::LOAD
+        | kinds::DOPE_LEN
+        | kinds::BOUNDS_LEN
+        | kinds::ALLOC => entries::forget(known, copy, h, d),
+        kinds::TAKE_BOUNDS => Held { known: 0, copy: 0 },
+        kinds::CALL_NATIVE => note_call(known, copy, h, ops::opt_of(r.op, r.p4)),
         _ => h,
     }
 }

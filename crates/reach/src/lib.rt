@@ -41,10 +41,11 @@ fn push_arms(
     let mut at = top;
     let mut k = 0;
     while k < count {
-        let r = format::record_at(arms, k);
-        if r.p1 == n {
-            at = push(seen, stack, at, nb, BlockId(r.p6));
-            if r.kind == 1 {
+        let x = items::arm_of(format::record_at(arms, k));
+        if x.table == n {
+            let to = x.to;
+            at = push(seen, stack, at, nb, to);
+            if x.default {
                 return at;
             }
         }
@@ -87,8 +88,8 @@ pub fn reached(code: &[u8], table: &[u8], arms: &[u8]) -> [bool; 160]
     let mut stack = [0u32; 160];
     let mut top = push(&mut seen, &mut stack, 0, nb, BlockId(0));
     while 0 < top {
-        let b = stack[top - 1] as usize;
-        let e = blocks::end_at(code, table, b);
+        let b = stack[top - 1];
+        let e = blocks::end_at(code, table, BlockId(b));
         top = push_targets(arms, e, &mut seen, &mut stack, top - 1, nb);
     }
     seen

@@ -1,6 +1,6 @@
 ghost use mathlib.Core.Path.{_≡_};
 ghost use mathlib.Core.Bool.{_&&_, _||_};
-ghost use Prim.Native.Nat.{ℕ, suc};
+ghost use Prim.Native.Nat.{ℕ, suc, _+_};
 ghost use lib.Dec.{eqb, leb};
 ghost use lib.ListN.{length};
 ghost use Rattle.codec.specs.Codec.{instOf};
@@ -11,29 +11,30 @@ use ends::End;
 use format::Record;
 use inst::BlockId;
 use inst::IntOp;
+use inst::kinds;
 
 // Cheap instructions without effects: what a copied block may hold besides its end. By the record's kind.
 pub fn dupable(r: Record) -> bool
     ensures { λ z. ⌜ z ≡ steps.dupable (instOf r) ⌝ }
 {
     let kind = r.kind;
-    if 6 < kind {
+    if kinds::BOOL < kind {
         return false;
     }
-    kind != 3
+    kind != kinds::ADDR_OF
 }
 
 fn small_end(r: Record) -> bool
     ensures { λ z. ⌜ z ≡ steps.smallEnd (instOf r) ⌝ }
 {
     let kind = r.kind;
-    if kind == 18 {
+    if kind == kinds::BR {
         return true;
     }
-    if kind == 19 {
+    if kind == kinds::COND_BR {
         return true;
     }
-    kind == 21
+    kind == kinds::RET
 }
 
 // At most four instructions: dupable ones, then a Br, CondBr or Ret.
@@ -77,8 +78,8 @@ fn step_by(wide: bool, r: Record) -> bool
 {
     let kind = r.kind;
     match kind {
-        7 => add_or_sub(ops::int_of(r.op)),
-        8 => wide && add_or_sub(ops::int_of(r.op)),
+        kinds::BIN => add_or_sub(ops::int_of(r.op)),
+        kinds::BIN_RANGE => wide && add_or_sub(ops::int_of(r.op)),
         _ => false,
     }
 }
@@ -97,24 +98,25 @@ fn any_step(wide: bool, code: &[u8]) -> bool
     false
 }
 
-// A CondBr with an arm to block l.
-fn tests_into(l: u64, e: End) -> bool
-    ensures { λ z. ⌜ z ≡ steps.testsInto l e ⌝ }
+// A CondBr with an arm to the block after l.
+fn tests_after(l: BlockId, e: End) -> bool
+    ensures { λ z. ⌜ z ≡ steps.testsInto (l .0 + 1) e ⌝ }
 {
+    let next = l.0 as u64 + 1;
     match e {
         End::Br(_) => false,
-        End::CondBr(_, t, f) => t.0 as u64 == l || f.0 as u64 == l,
+        End::CondBr(_, t, f) => t.0 as u64 == next || f.0 as u64 == next,
         End::Case(_) => false,
         End::Other => false,
     }
 }
 
 // A Br to block l or before.
-fn jumps_back(l: u64, e: End) -> bool
-    ensures { λ z. ⌜ z ≡ steps.jumpsBack l e ⌝ }
+fn jumps_back(l: BlockId, e: End) -> bool
+    ensures { λ z. ⌜ z ≡ steps.jumpsBack (l .0) e ⌝ }
 {
     match e {
-        End::Br(to) => to.0 as u64 <= l,
+        End::Br(to) => to.0 <= l.0,
         End::CondBr(_, _, _) => false,
         End::Case(_) => false,
         End::Other => false,
@@ -139,8 +141,8 @@ fn two_to_br(n: usize, e: End) -> bool
 }
 
 // The length and the end of a step block.
-fn step_shape(wide: bool, l: u64, code: &[u8]) -> bool
-    ensures { λ z. ⌜ z ≡ steps.stepShape wide l (codesOf (now (code .entry))) ⌝ }
+fn step_shape(wide: bool, l: BlockId, code: &[u8]) -> bool
+    ensures { λ z. ⌜ z ≡ steps.stepShape wide (l .0) (codesOf (now (code .entry))) ⌝ }
 {
     let n = code.len() / 32;
     let e = ends::end_of(code);
@@ -160,11 +162,10 @@ fn step_shape(wide: bool, l: u64, code: &[u8]) -> bool
 pub fn latch(code: &[u8], next: &[u8], l: BlockId, wide: bool) -> bool
     ensures { λ z. ⌜ z ≡ steps.latch (codesOf (now (code .entry))) (codesOf (now (next .entry))) (l .0) wide ⌝ }
 {
-    let block = l.0 as u64;
-    if !tests_into(block + 1, ends::end_of(code)) {
+    if !tests_after(l, ends::end_of(code)) {
         return false;
     }
-    if !step_shape(wide, block, next) {
+    if !step_shape(wide, l, next) {
         return false;
     }
     any_step(wide, next)

@@ -1,5 +1,6 @@
 -- The hops and the blocks one after the other: where each hop has what it asks, they are the definition's.
-use Prim.Native.Nat.{ℕ, zero, suc, _/_, _<_, _^_}
+use Prim.Native.Nat.{ℕ, zero, suc, _/_, _≤_, _<_, _^_}
+use native.Mathlib.Omega.{arith}
 use mathlib.Core.Path.{_≡_, refl, ap, subst, _∙_}
 use mathlib.Core.Bool.{Bool, true, false, _&&_, cond}
 use mathlib.Core.List.{List, [], _∷_}
@@ -26,7 +27,7 @@ use Rattle.steps.specs.Thread.{Work, blockAt, stops, hopAt, hop, hops, onward, 
 use Rattle.facts.specs.Storage.{factsIn}
 use Rattle.branch.specs.Storage.{before}
 use Rattle.arena.proofs.Moved.{Sound}
-use Rattle.thread.specs.Storage.{Store, store, hopAtIn, hopIn, onwardIn, hopsIn, threadFromIn, threadIn}
+use Rattle.thread.specs.Storage.{Store, store, hopAtIn, hopIn, onwardIn, hopsIn, nameable, threadFromIn, threadIn}
 use Rattle.thread.proofs.Refined.{workOf, goes, arenaOf, Room, cond-br-hop, br-hop}
 
 -- the register that an end tests is in range
@@ -140,12 +141,13 @@ module _ (facts : List ℕ) (body : Option ℕ) (budget known copy : ℕ) where
           ap (threadFrom f n (suc a)) (hops-same a 6 s g) ∙ from-same n (suc a) t (hops-good a 6 s g)
 
       -- threading is the definition's
-      pub thread-same : (work table kinds : List ℕ) (top : ℕ)
+      pub thread-same : (work table kinds : List ℕ) (top : ℕ) → length table / 32 ≤ 4294967296
           → Good 6 0 (store work table kinds (record { top = top; grown = 0; fresh = 0; edited = false }))
           → thread f (blocksOf work table) ≡ workOf (threadIn facts body budget known copy work table kinds top)
-      thread-same work table kinds top g =
+      thread-same work table kinds top few g =
           let s = store work table kinds (record { top = top; grown = 0; fresh = 0; edited = false }) in
-          ap (λ (n : ℕ). threadFrom f n 0 (workOf s)) (length-blocks work table) ∙ from-same (length table / 32) 0 s g
+          let all : length table / 32 ≡ nameable table = omega arith in
+          ap (λ (n : ℕ). threadFrom f n 0 (workOf s)) (length-blocks work table ∙ all) ∙ from-same (nameable table) 0 s g
 
       from-holds : (Q : Store → Type 0) → ((a : ℕ) (s : Store) → Good 6 a s → Q s) → (n a : ℕ) (s : Store) → Good 6 a s
           → Q (threadFromIn facts body budget known copy n a s)
@@ -160,4 +162,4 @@ module _ (facts : List ℕ) (body : Option ℕ) (budget known copy : ℕ) where
           → Good 6 0 (store work table kinds (record { top = top; grown = 0; fresh = 0; edited = false }))
           → Q (threadIn facts body budget known copy work table kinds top)
       thread-holds Q q work table kinds top g =
-          from-holds Q q (length table / 32) 0 (store work table kinds (record { top = top; grown = 0; fresh = 0; edited = false })) g
+          from-holds Q q (nameable table) 0 (store work table kinds (record { top = top; grown = 0; fresh = 0; edited = false })) g

@@ -17,7 +17,7 @@ use Rattle.branch.specs.declared.Turn.{Turn}
 use Rattle.branch.specs.declared.Turn.the-variants as u
 use Rattle.branch.specs.Storage.{turned, before, turnedIn}
 use Rattle.join.specs.Storage.{grownTo}
-use Rattle.thread.specs.Storage.{Store, store, turnedAt, appendIn, hopBrIn, hopCondBrIn, hopAtIn, hopIn, onwardIn, hopsIn, threadFromIn, threadIn}
+use Rattle.thread.specs.Storage.{Store, store, turnedAt, appendIn, hopBrIn, hopCondBrIn, hopAtIn, hopIn, onwardIn, hopsIn, nameable, threadFromIn, threadIn}
 use Rattle.thread.proofs.Refined.{isStay, stay-turned}
 
 -- as it was, or edited
@@ -84,7 +84,7 @@ module _ (facts : List ℕ) (body : Option ℕ) (budget known copy : ℕ) where
 
   pub unedited : (work table kinds : List ℕ) (top : ℕ) → threadIn facts body budget known copy work table kinds top .at .edited ≡ false
       → threadIn facts body budget known copy work table kinds top ≡ store work table kinds (record { top = top; grown = 0; fresh = 0; edited = false })
-  unedited work table kinds top q = by (from-kept (length table / 32) 0 start)
+  unedited work table kinds top q = by (from-kept (nameable table) 0 start)
     where
       start : Store
       start = store work table kinds (record { top = top; grown = 0; fresh = 0; edited = false })

@@ -340,8 +340,9 @@ module _
         }
 
     -- what is left is what Thread leaves
-    pub thread-is : thread (factsIn facts body budget) (blocksOf work table) ≡ workOf (threadIn facts body budget known copy work table kinds top)
-    thread-is = thread-same facts body budget known copy Good good-fine good-keeps good-leads work table kinds top good-start
+    pub thread-is : length table / 32 ≤ 4294967296
+        → thread (factsIn facts body budget) (blocksOf work table) ≡ workOf (threadIn facts body budget known copy work table kinds top)
+    thread-is few = thread-same facts body budget known copy Good good-fine good-keeps good-leads work table kinds top few good-start
 
     -- which stays sound and canonical
     pub thread-stored : Stored (threadIn facts body budget known copy work table kinds top)

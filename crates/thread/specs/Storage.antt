@@ -60,6 +60,10 @@ turnedAt s z = hopping (z .code) (s .table) (s .kinds) (turnAt (z .turn) (s .at)
 abbrev pub freshTo : ℕ → ℕ → ℕ
 freshTo fresh n = min (fresh + n) 65535
 
+-- as many blocks of a table as a BlockId can name
+abbrev pub nameable : List ℕ → ℕ
+nameable table = min (length table / 32) 4294967296
+
 abbrev pub joinedAt : Threaded → Left → Hopping
 joinedAt s z =
     let at : Threaded = record { top = z .blocks .top; grown = s .grown + z .n; fresh = freshTo (s .fresh) (z .fresh); edited = true } in
@@ -107,4 +111,4 @@ module _ (facts : List ℕ) (body : Option ℕ) (budget known copy : ℕ) where
 
   abbrev pub threadIn : List ℕ → List ℕ → List ℕ → ℕ → Store
   threadIn work table kinds top =
-      threadFromIn (length table / 32) 0 (store work table kinds (record { top = top; grown = 0; fresh = 0; edited = false }))
+      threadFromIn (nameable table) 0 (store work table kinds (record { top = top; grown = 0; fresh = 0; edited = false }))

@@ -59,7 +59,7 @@ fn hop_cond_br(
     copy: &mut [u32],
     facts: &[u64],
     pause: Pause,
-    a: usize,
+    a: BlockId,
     s: Threaded,
     c: Reg,
     t: BlockId,
@@ -67,7 +67,7 @@ fn hop_cond_br(
 ) -> Hopped
     ensures { λ z. ⌜ ((budget : ℕ) (kinds : List ℕ) → hopping (now (work .exit)) (now (table .entry)) kinds z
         ≡ hopCondBrIn (now (facts .entry)) (bodyIn pause) budget (length (now (known .entry))) (length (now (copy .entry)))
-        (store (now (work .entry)) (now (table .entry)) kinds s) a (c .0) (t .0) (e .0)) ⌝ }
+        (store (now (work .entry)) (now (table .entry)) kinds s) (a .0) (c .0) (t .0) (e .0)) ⌝ }
 {
     let n = branch::hop_cond_br(work, table, known, copy, facts, pause, a, c, t, e);
     turned(n, s)
@@ -89,13 +89,13 @@ fn hop_br(
     facts: &[u64],
     pause: Pause,
     budget: u32,
-    a: usize,
+    a: BlockId,
     s: Threaded,
     l: BlockId,
 ) -> Hopped
     ensures { λ z. ⌜ ((known copy : ℕ) → hopping (now (work .exit)) (now (table .exit)) (now (kinds .exit)) z
         ≡ hopBrIn (now (facts .entry)) (bodyIn pause) budget known copy
-        (store (now (work .entry)) (now (table .entry)) (now (kinds .entry)) s) a (l .0)) ⌝ }
+        (store (now (work .entry)) (now (table .entry)) (now (kinds .entry)) s) (a .0) (l .0)) ⌝ }
 {
     if join::stops(work, table, facts, pause, budget, s.grown, a, l) {
         return Hopped { at: s, more: false };
@@ -122,11 +122,11 @@ fn hops(
     facts: &[u64],
     pause: Pause,
     budget: u32,
-    a: usize,
+    a: BlockId,
     mut s: Threaded,
 ) -> Threaded
     ensures { λ r. ⌜ store (now (work .exit)) (now (table .exit)) (now (kinds .exit)) r ≡ hopsIn (now (facts .entry)) (bodyIn pause) budget
-        (length (now (known .entry))) (length (now (copy .entry))) 6 a (store (now (work .entry)) (now (table .entry)) (now (kinds .entry)) s) ⌝ }
+        (length (now (known .entry))) (length (now (copy .entry))) 6 (a .0) (store (now (work .entry)) (now (table .entry)) (now (kinds .entry)) s) ⌝ }
 {
     let mut h: usize = 0;
     'hops: while h < 6 {
@@ -153,7 +153,7 @@ fn hops(
     s
 }
 
-// Blocks ascending, each with its hops.
+// Blocks ascending, each with its hops: those that a BlockId can name.
 pub fn thread(
     work: &mut [u8],
     table: &mut [u8],
@@ -169,7 +169,7 @@ pub fn thread(
         ≡ threadIn (now (facts .entry)) (bodyIn pause) budget (length (now (known .entry))) (length (now (copy .entry)))
         (now (work .entry)) (now (table .entry)) (now (kinds .entry)) top ⌝ }
 {
-    let n = table.len() / 32;
+    let n = blocks::least(table.len() / 32, 4294967296);
     let mut s = Threaded {
         top,
         grown: 0,
@@ -178,7 +178,8 @@ pub fn thread(
     };
     let mut a = 0;
     while a < n {
-        s = hops(work, table, kinds, known, copy, facts, pause, budget, a, s);
+        let b = BlockId(a as u32);
+        s = hops(work, table, kinds, known, copy, facts, pause, budget, b, s);
         a += 1;
     }
     s

@@ -16,7 +16,7 @@ Inv-loop work₀ table₀ k top n code end at₀ i₀ work table at i =
     × (end ≡ min n 4)
     × (length work ≡ length work₀)
     × (length table ≡ length table₀)
-    × (pushAll k (drop i (take n code)) (arena work table at) ≡ pushAll k (take n code) (arena work₀ table₀ top))
+    × (pushAll (k .0) (drop i (take n code)) (arena work table at) ≡ pushAll (k .0) (take n code) (arena work₀ table₀ top))
 
 abbrev μ-loop : tie.MeasureT-loop
 μ-loop work₀ table₀ k top n code end at₀ i₀ work table at i = end - i
@@ -35,8 +35,8 @@ loop-again c =
       l .loop .inv .1,
       p .kept .0 ∙ l .loop .inv .2,
       p .kept .1 .0 ∙ l .loop .inv .3,
-      ap (pushAll (a .k) (drop (i + 1) (take (a .n) (a .t5)))) (p .ensures)
-          ∙ sym (push-step (a .k) (a .t5) (a .n) i _ (arena (l .loop .work) (l .loop .table) (l .loop .at)) (omega arith) (omega arith))
+      ap (pushAll (a .k .0) (drop (i + 1) (take (a .n) (a .t5)))) (p .ensures)
+          ∙ sym (push-step (a .k .0) (a .t5) (a .n) i _ (arena (l .loop .work) (l .loop .table) (l .loop .at)) (omega arith) (omega arith))
           ∙ l .loop .inv .4,
     )
 
@@ -45,7 +45,7 @@ returns c =
     let l = c .before in
     let a = l .before .before .before .before .args in
     let four : length (a .t5) ≡ 4 = search needs in
-    push-end (a .k) (a .t5) (a .n) (l .loop .i) (arena (l .loop .work) (l .loop .table) (l .loop .at)) (omega arith) ∙ l .loop .inv .4
+    push-end (a .k .0) (a .t5) (a .n) (l .loop .i) (arena (l .loop .work) (l .loop .table) (l .loop .at)) (omega arith) ∙ l .loop .inv .4
 
 pub append-spec : {M : Type 1} → statement M
 append-spec =

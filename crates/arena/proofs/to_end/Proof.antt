@@ -15,14 +15,14 @@ use Rattle.arena.proofs.to_end.Tie as tie
 returns : tie.Need-returns
 returns c =
     let q = c .before in
-    let a = q .before .before .before .before .before .before .args in
+    let a = q .before .before .before .before .before .before .before .args in
     let test = not-true _ (c .if1 .taken) in
-    by-moves (a .k) (arena (now (a .work)) (now (a .table)) (a .top)) (q .before .before .record-at .ensures) (sym test ∙ q .moves .ensures)
+    by-moves (a .k .0) (arena (now (a .work)) (now (a .table)) (a .top)) (q .before .before .record-at .ensures) (sym test ∙ q .moves .ensures)
 
 mul-copy-2 : tie.Need-mul-copy-2
 mul-copy-2 c =
     let q = c .before .before .before .before in
-    let a = q .before .before .before .before .before .before .args in
+    let a = q .before .before .before .before .before .before .before .args in
     let test = not-false _ (c .before .before .before .if1 .left) in
     let m = moving (now (a .work)) (q .before .before .record-at .result) (a .top) (sym (q .moves .ensures) ∙ test) in
     let e = c .before .before .size-of .ensures in
@@ -31,7 +31,7 @@ mul-copy-2 c =
 copy-requires : tie.Need-copy-requires
 copy-requires c κs =
     let q = c .before .before .before .before in
-    let a = q .before .before .before .before .before .before .args in
+    let a = q .before .before .before .before .before .before .before .args in
     let test = not-false _ (c .before .before .before .if1 .left) in
     let m = moving (now (a .work)) (q .before .before .record-at .result) (a .top) (sym (q .moves .ensures) ∙ test) in
     let e = c .before .before .size-of .ensures in
@@ -40,7 +40,7 @@ copy-requires c κs =
 cast-point : tie.Need-cast-point
 cast-point c =
     let q = c .before .before .before .before .before .before .before .before in
-    let a = q .before .before .before .before .before .before .args in
+    let a = q .before .before .before .before .before .before .before .args in
     let test = not-false _ (c .before .before .before .before .before .before .before .if1 .left) in
     let m = moving (now (a .work)) (q .before .before .record-at .result) (a .top) (sym (q .moves .ensures) ∙ test) in
     let e = c .before .before .before .before .before .before .size-of .ensures in
@@ -49,7 +49,7 @@ cast-point c =
 add-point : tie.Need-add-point
 add-point c =
     let q = c .before .before .before .before .before .before .before .before in
-    let a = q .before .before .before .before .before .before .args in
+    let a = q .before .before .before .before .before .before .before .args in
     let test = not-false _ (c .before .before .before .before .before .before .before .if1 .left) in
     let m = moving (now (a .work)) (q .before .before .record-at .result) (a .top) (sym (q .moves .ensures) ∙ test) in
     let e = c .before .before .before .before .before .before .size-of .ensures in
@@ -58,7 +58,7 @@ add-point c =
 cast-point-2 : tie.Need-cast-point-2
 cast-point-2 c =
     let q = c .before .before .before .before .before .before .before .before in
-    let a = q .before .before .before .before .before .before .args in
+    let a = q .before .before .before .before .before .before .before .args in
     let test = not-false _ (c .before .before .before .before .before .before .before .if1 .left) in
     let m = moving (now (a .work)) (q .before .before .record-at .result) (a .top) (sym (q .moves .ensures) ∙ test) in
     let e = c .before .before .before .before .before .before .size-of .ensures in
@@ -67,7 +67,7 @@ cast-point-2 c =
 add-result : tie.Need-add-result
 add-result c =
     let q = c .before .before .before .before .before .before .before .before .before .before .before in
-    let a = q .before .before .before .before .before .before .args in
+    let a = q .before .before .before .before .before .before .before .args in
     let test = not-false _ (c .before .before .before .before .before .before .before .before .before .before .if1 .left) in
     let m = moving (now (a .work)) (q .before .before .record-at .result) (a .top) (sym (q .moves .ensures) ∙ test) in
     let e = c .before .before .before .before .before .before .before .before .before .size-of .ensures in
@@ -76,7 +76,7 @@ add-result c =
 returns-2 : tie.Need-returns-2
 returns-2 c =
     let q = c .before .before .before .before .before .before .before .before .before .before .before in
-    let a = q .before .before .before .before .before .before .args in
+    let a = q .before .before .before .before .before .before .before .args in
     let w = now (a .work) in
     let r = q .before .before .record-at .result in
     let n = c .before .before .before .before .before .before .before .before .before .size-of in
@@ -84,12 +84,12 @@ returns-2 c =
     let test = not-false _ (c .before .before .before .before .before .before .before .before .before .before .if1 .left) in
     ap (λ (x : List ℕ). arena x (c .before .before .point .last .0) (a .top + n .result)) (c .before .before .before .before .before .before .copy .ensures)
     ∙ ap (λ (t : List ℕ). arena (paste w at (drop (32 * r .p1) w) (32 * n .result)) t (a .top + n .result)) (c .before .before .point .ensures)
-    ∙ ap (λ (m : ℕ). arena (paste w at (drop (32 * r .p1) w) (32 * m)) (pointed (now (a .table)) (a .k) (a .top) (a .top + m)) (a .top + m)) (n .ensures)
-    ∙ by-moves (a .k) (arena w (now (a .table)) (a .top)) (q .before .before .record-at .ensures) (sym test ∙ q .moves .ensures)
+    ∙ ap (λ (m : ℕ). arena (paste w at (drop (32 * r .p1) w) (32 * m)) (pointed (now (a .table)) (a .k .0) (a .top) (a .top + m)) (a .top + m)) (n .ensures)
+    ∙ by-moves (a .k .0) (arena w (now (a .table)) (a .top)) (q .before .before .record-at .ensures) (sym test ∙ q .moves .ensures)
 
 pub to-end-spec : {M : Type 1} → statement M
 to-end-spec =
-    tie.close (tie.spec (λ c κs. search needs) (λ c κs. search needs) (λ c. search needs) (λ c. search needs) returns
+    tie.close (tie.spec (λ c. search needs) (λ c κs. search needs) (λ c κs. search needs) (λ c. search needs) (λ c. search needs) returns
     (λ c κs. search needs) (λ c. search needs) (λ c. search needs) mul-copy-2 (λ c. search needs) copy-requires
     cast-point add-point cast-point-2 (λ c κs. search needs) add-result (λ c. search needs) (λ c. search needs)
     returns-2)

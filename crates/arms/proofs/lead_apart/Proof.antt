@@ -16,16 +16,15 @@ returns-2 c z = absurd (false≢true z)
 
 returns-3 : tie.Need-returns-3
 returns-3 c z =
-    let i = c .before .before .before in
-    let n = i .before .before in
+    let i = c .before .before in
+    let n = i .before in
     let a = n .before .before .before .before .before .args in
     let p = blocksOf (now (a .code)) (now (a .table)) in (
       n .if1 .left,
-      reached-itself p (a .t .0) (sym (i .is-lone .ensures) ∙ c .before .before .if2 .left),
+      reached-itself p (a .t .0) (sym (i .is-lone .ensures) ∙ c .before .if2 .left),
       reached-itself p (a .f .0) (sym (c .is-lone2 .ensures) ∙ not-true _ z),
     )
 
 pub lead-apart-spec : {M : Type 1} → statement M
 lead-apart-spec =
-    tie.close (tie.spec returns (λ c. search needs) (λ c κs. search needs) returns-2 (λ c. search needs)
-    (λ c κs. search needs) returns-3)
+    tie.close (tie.spec returns (λ c κs. search needs) returns-2 (λ c κs. search needs) returns-3)

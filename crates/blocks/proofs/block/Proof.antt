@@ -7,8 +7,8 @@ use Rattle.blocks.proofs.block.Tie as tie
 
 returns : tie.Need-returns
 returns c =
-    c .part .ensures
-    ∙ ap (bytesOfBlock (now (c .before .before .before .before .args .code))) (c .before .record-at .ensures)
+    let start : tie.Start = search in
+    c .block-by .ensures ∙ ap (bytesOfBlock (now (start .args .code))) (c .before .record-at .ensures)
 
 pub block-spec : {M : Type 1} → statement M
-block-spec = tie.close (tie.spec (λ c κs. search needs) (λ c κs. search needs) returns)
+block-spec = tie.close (tie.spec (λ c. search needs) (λ c κs. search needs) (λ c κs. search needs) returns)

@@ -1,35 +1,19 @@
-use Prim.Native.Nat.{_-_}
 use mathlib.Core.Path.{ap, _∙_}
 use denote.Ref.{now}
 use Rattle.format.specs.declared.Record.{Record}
 use Rattle.inst.specs.declared.Inst.the-variants as i
-use Rattle.store.specs.Store.{putOf}
-use Rattle.codec.specs.Codec.{rewrittenRecord}
 use Rattle.blocks.specs.Rewrite.{endRewritten}
-use Rattle.blocks.proofs.Rewrites.{end-rewritten, end-kept}
 use borrow.Author.Needs.{needs}
 use Rattle.blocks.proofs.rewrite_br.Statement.{statement}
 use Rattle.blocks.proofs.rewrite_br.Tie as tie
 
 returns : tie.Need-returns
 returns c =
-    let t = c .before .before .before .before .before .before .before .before .before .before in
-    let a = t .before .before .before .args in
-    let code = now (a .code) in
-    let old = ap (λ (r : Record). rewrittenRecord r (i.Br (a .to))) (c .before .before .before .before .before .record-at2 .ensures) in
-    c .before .before .put-record .ensures
-    ∙ ap (putOf code (t .record-at .result .p2 - 1)) (c .before .before .before .br-record .ensures ∙ old)
-    ∙ end-rewritten code (t .record-at .result) (i.Br (a .to)) (c .before .before .before .before .before .before .before .before .if1 .taken)
-    ∙ ap (λ (r : Record). endRewritten code r (i.Br (a .to))) (t .record-at .ensures)
-
-returns-2 : tie.Need-returns-2
-returns-2 c =
-    let t = c .before .before in
-    let a = t .before .before .before .args in
-    let code = now (a .code) in
-    end-kept code (t .record-at .result) (i.Br (a .to)) (c .if1 .left) ∙ ap (λ (r : Record). endRewritten code r (i.Br (a .to))) (t .record-at .ensures)
+    let start : tie.Start = search in
+    let a = start .args in
+    c .before .before .rewrite-br-by .ensures
+    ∙ ap (λ (r : Record). endRewritten (now (a .code)) r (i.Br (a .to))) (c .before .before .before .record-at .ensures)
 
 pub rewrite-br-spec : {M : Type 1} → statement M
 rewrite-br-spec =
-    tie.close (tie.spec (λ c κs. search needs) (λ c. search needs) (λ c. search needs) (λ c κs. search needs)
-    (λ c κs. search needs) (λ c κs. search needs) (λ c. search needs) returns returns-2)
+    tie.close (tie.spec (λ c. search needs) (λ c κs. search needs) (λ c κs. search needs) (λ c. search needs) returns)

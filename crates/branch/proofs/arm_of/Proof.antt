@@ -8,26 +8,25 @@ use Rattle.branch.proofs.arm_of.Tie as tie
 
 returns : tie.Need-returns
 returns c =
-    let a = c .before .before .before .before .args in
-    arm-here (now (a .table)) (a .a) (now (a .code)) (bodyIn (a .pause)) (a .c .0) (a .truth) (a .l) (c .if1 .taken)
+    let a = c .before .before .before .before .before .args in
+    arm-here (now (a .table)) (a .a .0) (now (a .code)) (bodyIn (a .pause)) (a .c .0) (a .truth) (a .l) (c .if1 .taken)
 
 returns-2 : tie.Need-returns-2
 returns-2 c =
     let p = c .before in
-    let a = p .before .before .before .before .before .args in
-    arm-pause (now (a .table)) (a .a) (now (a .code)) (bodyIn (a .pause)) (a .c .0) (a .truth) (a .l) (p .before .if1 .left)
+    let a = p .before .before .before .before .before .before .args in
+    arm-pause (now (a .table)) (a .a .0) (now (a .code)) (bodyIn (a .pause)) (a .c .0) (a .truth) (a .l) (p .before .if1 .left)
     (sym (p .is-pause .ensures) ∙ c .if2 .taken)
 
 returns-3 : tie.Need-returns-3
 returns-3 c =
-    let d = c .before .before .before in
+    let d = c .before .before in
     let p = d .before in
-    let a = p .before .before .before .before .before .args in
+    let a = p .before .before .before .before .before .before .args in
     c .matching .ensures
-    ∙ arm-past (now (a .table)) (a .a) (now (a .code)) (bodyIn (a .pause)) (a .c .0) (a .truth) (a .l) (p .before .if1 .left)
+    ∙ arm-past (now (a .table)) (a .a .0) (now (a .code)) (bodyIn (a .pause)) (a .c .0) (a .truth) (a .l) (p .before .if1 .left)
     (sym (p .is-pause .ensures) ∙ d .if2 .left) (c .before .lone-at .ensures)
 
 pub arm-of-spec : {M : Type 1} → statement M
 arm-of-spec =
-    tie.close (tie.spec (λ c. search needs) returns (λ c κs. search needs) returns-2 (λ c. search needs)
-    (λ c κs. search needs) (λ c κs. search needs) returns-3)
+    tie.close (tie.spec returns (λ c κs. search needs) returns-2 (λ c κs. search needs) (λ c κs. search needs) returns-3)

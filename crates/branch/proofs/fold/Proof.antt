@@ -17,7 +17,7 @@ returns c =
     let x = c .before .before .before in
     let a = x .before .before .before .before .args in
     ap (λ (b : List ℕ). turned b u.Next) (c .before .before .rewrite-br .ensures)
-    ∙ ap (λ (b : BlockId). turned (endRewritten (now (a .code)) (recordAt (now (a .table)) (a .a)) (i.Br b)) u.Next) (x .choose .ensures)
+    ∙ ap (λ (b : BlockId). turned (endRewritten (now (a .code)) (recordAt (now (a .table)) (a .a .0)) (i.Br b)) u.Next) (x .choose .ensures)
 
 pub fold-spec : {M : Type 1} → statement M
 fold-spec = tie.close (tie.spec (λ c κs. search needs) (λ c κs. search needs) (λ c. search needs) returns)

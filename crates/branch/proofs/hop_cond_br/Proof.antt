@@ -18,7 +18,7 @@ returns c =
     let table = now (a .table) in
     let code = now (a .code) in
     c .before .before .fold .ensures
-    ∙ turned-at table (a .a) (now (a .facts)) (bodyIn (a .pause)) code (a .c .0) (a .t .0) (a .e .0) (now (a .known)) (now (a .copy))
+    ∙ turned-at table (a .a .0) (now (a .facts)) (bodyIn (a .pause)) code (a .c .0) (a .t .0) (a .e .0) (now (a .known)) (now (a .copy))
     (f .before .block .ensures) (f .front .ensures) (k .notes .last .1 .0) (k .notes .last .1 .1 .0) (k .notes .ensures) (n .n .given .0 .0) (n .n .given .1)
     (s .source-of .ensures) (sym (ap wordIn (c .before .before .before .before .before .v .given .1)) ∙ v .value-of .ensures)
 
@@ -33,7 +33,7 @@ returns-2 c =
     let table = now (a .table) in
     let code = now (a .code) in
     c .before .before .rewrite .ensures
-    ∙ turned-at table (a .a) (now (a .facts)) (bodyIn (a .pause)) code (a .c .0) (a .t .0) (a .e .0) (now (a .known)) (now (a .copy))
+    ∙ turned-at table (a .a .0) (now (a .facts)) (bodyIn (a .pause)) code (a .c .0) (a .t .0) (a .e .0) (now (a .known)) (now (a .copy))
     (f .before .block .ensures) (f .front .ensures) (k .notes .last .1 .0) (k .notes .last .1 .1 .0) (k .notes .ensures) (n .n .given .0 .0) (n .n .given .1)
     (s .source-of .ensures) (sym (ap wordIn (c .before .before .before .before .enum-told .given .1)) ∙ v .value-of .ensures)
 
@@ -44,7 +44,7 @@ returns-3 c =
     let a = f .before .before .before .before .before .before .before .before .args in
     let table = now (a .table) in
     let code = now (a .code) in
-    turned-full table (a .a) (now (a .facts)) (bodyIn (a .pause)) code (a .c .0) (a .t .0) (a .e .0) (now (a .known)) (now (a .copy))
+    turned-full table (a .a .0) (now (a .facts)) (bodyIn (a .pause)) code (a .c .0) (a .t .0) (a .e .0) (now (a .known)) (now (a .copy))
     (f .before .block .ensures) (f .front .ensures) (k .notes .last .1 .0) (k .notes .last .1 .1 .0) (k .notes .ensures) (c .enum-told2 .given .1)
 
 pub hop-cond-br-spec : {M : Type 1} → statement M

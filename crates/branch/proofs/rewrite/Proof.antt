@@ -14,7 +14,7 @@ returns : tie.Need-returns
 returns c =
     let s = c .before in
     let a = s .before .before .before .before .before .before .before .args in
-    all-same (now (a .table)) (a .a) (now (a .code)) (bodyIn (a .pause)) (a .c .0) (a .t .0) (a .e .0) (a .d .0)
+    all-same (now (a .table)) (a .a .0) (now (a .code)) (bodyIn (a .pause)) (a .c .0) (a .t .0) (a .e .0) (a .d .0)
     (s .before .before .before .arm-of .ensures) (s .before .arm-of2 .ensures) (s .same .ensures) (c .if1 .taken)
 
 returns-2 : tie.Need-returns-2
@@ -24,7 +24,7 @@ returns-2 c =
     let s = i .before in
     let a = s .before .before .before .before .before .before .before .args in
     ap (λ (b : List ℕ). turned b u.Last) (r .rewrite-end .ensures)
-    ∙ one-differs (now (a .table)) (a .a) (now (a .code)) (bodyIn (a .pause)) (a .c .0) (a .t .0) (a .e .0) (a .d .0)
+    ∙ one-differs (now (a .table)) (a .a .0) (now (a .code)) (bodyIn (a .pause)) (a .c .0) (a .t .0) (a .e .0) (a .d .0)
     (s .before .before .before .arm-of .ensures) (s .before .arm-of2 .ensures) (s .same .ensures) (i .if1 .left)
 
 pub rewrite-spec : {M : Type 1} → statement M

@@ -25,10 +25,10 @@ returns c =
     let e = l .least .ensures in
     let last : nb - l .least .result ≡ length P - 1 = omega arith in
     c .stays .ensures
-    ∙ ap (λ (t : Bool). staysBy t (leb (nb - l .least .result) (a .b)) (codesOf (now (b .block .result)))) (m .mark-at .ensures)
-    ∙ ap (λ (k : ℕ). staysBy (getD (marksIn (now (a .seen))) (a .b) true) (leb k (a .b)) (codesOf (now (b .block .result)))) last
+    ∙ ap (λ (t : Bool). staysBy t (leb (nb - l .least .result) (a .b)) (codesOf (now (b .code-at .result)))) (m .mark-at .ensures)
+    ∙ ap (λ (k : ℕ). staysBy (getD (marksIn (now (a .seen))) (a .b) true) (leb k (a .b)) (codesOf (now (b .code-at .result)))) last
     ∙ ap (staysBy (getD (marksIn (now (a .seen))) (a .b) true) (leb (length P - 1) (a .b)))
-    (ap codesOf (b .block .ensures) ∙ block-codes (now (a .work)) (now (a .table)) (a .b))
+    (ap codesOf (b .code-at .ensures) ∙ block-codes (now (a .work)) (now (a .table)) (a .b))
 
 pub keeps-spec : {M : Type 1} → statement M
 keeps-spec =

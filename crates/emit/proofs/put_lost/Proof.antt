@@ -30,7 +30,7 @@ returns-2 c =
     let s = place (now (a .out)) (a .at) in
     let f = now (a .facts) in
     let t = sym (i .before .keeps .ensures) ∙ i .if1 .left in
-    let e = ap recordsOf (p .before .block .ensures) ∙ block-records (now (a .work)) (now (a .table)) (a .b) in
+    let e = ap recordsOf (p .before .code-at .ensures) ∙ block-records (now (a .work)) (now (a .table)) (a .b) in
     p .put-rescued .ensures
     ∙ ap (λ (l : List Record). puts l s) (ap (rescuedIn f) e ∙ other [] (rescuedIn f (getD R (a .b) [])) t)
 

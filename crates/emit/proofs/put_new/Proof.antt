@@ -24,7 +24,7 @@ returns c =
     let k = i .before in
     let a = k .before .before .before .before .before .before .args in
     let R = blockRecordsIn (now (a .work)) (now (a .table)) in
-    let e = ap recordsOf (k .before .block .ensures) ∙ block-records (now (a .work)) (now (a .table)) (a .b) in
+    let e = ap recordsOf (k .before .code-at .ensures) ∙ block-records (now (a .work)) (now (a .table)) (a .b) in
     let t = sym (k .keeps .ensures) ∙ i .if1 .taken in
     p .put-block .ensures
     ∙ ap (λ (l : List Record). puts l (place (now (a .out)) (a .at)))
@@ -57,7 +57,7 @@ returns-2 c =
     let a = k .before .before .before .before .before .before .args in
     let R = blockRecordsIn (now (a .work)) (now (a .table)) in
     let s = place (now (a .out)) (a .at) in
-    let e = ap recordsOf (k .before .block .ensures) ∙ block-records (now (a .work)) (now (a .table)) (a .b) in
+    let e = ap recordsOf (k .before .code-at .ensures) ∙ block-records (now (a .work)) (now (a .table)) (a .b) in
     let t = sym (k .keeps .ensures) ∙ i .if1 .left in
     p .put-emptied .ensures
     ∙ ap (λ (l : List Record). puts (branchRecord (blockOf (a .b + 1)) (map codeOf l) ∷ []) s) e

@@ -22,7 +22,7 @@ returns c =
     let t = now (a .table) in
     let r = getD (blockRecordsIn w t) (a .b) [] in
     let e = sym (i .before .keeps .ensures) ∙ i .if1 .taken in
-    ap (λ (l : List ℕ). length l / 32) (c .block .ensures)
+    ap (λ (l : List ℕ). length l / 32) (c .code-at .ensures)
     ∙ sym (length-records (blockBytes w t (a .b)))
     ∙ ap (λ (l : List Record). length l) (block-records w t (a .b) ∙ chosen r (branchRecord (blockOf (suc (a .b))) (map codeOf r) ∷ []) e)
 

@@ -28,7 +28,7 @@ returns c =
     let e = sym (k .keeps .ensures) ∙ i .if1 .taken in
     let none = ap (λ (l : List Record). length l) (chosen [] (rescuedIn (now (a .facts)) r) e) in
     let own =
-    ap (λ (l : List ℕ). length l / 32) (k .before .block .ensures)
+    ap (λ (l : List ℕ). length l / 32) (k .before .code-at .ensures)
     ∙ sym (length-records (blockBytes w t (a .b)))
     ∙ ap (λ (l : List Record). length l) (block-records w t (a .b) ∙ chosen r (branchRecord (blockOf (suc (a .b))) (map codeOf r) ∷ []) e) in
     (omega (arith, none), c .plus .ensures ∙ ap (λ (n : ℕ). counted (a .at .code + n)) own)
@@ -44,7 +44,7 @@ returns-2 c =
     let r = getD (blockRecordsIn w t) (a .b) [] in
     let f = now (a .facts) in
     let e = sym (k .keeps .ensures) ∙ i .if1 .left in
-    let records = ap recordsOf (k .before .block .ensures) ∙ block-records w t (a .b) in
+    let records = ap recordsOf (k .before .code-at .ensures) ∙ block-records w t (a .b) in
     let lost =
     s .rescued-in .ensures
     ∙ ap (λ (l : List Record). length l) (ap (rescuedIn f) records ∙ other [] (rescuedIn f r) e) in

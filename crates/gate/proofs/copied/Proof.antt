@@ -5,7 +5,7 @@ use mathlib.Core.Bool.{not}
 use borrow.Author.Tests.{not-true, not-false}
 use denote.Ref.{now}
 use Rattle.steps.specs.Small.{small, latch}
-use Rattle.blocks.specs.Blocks.{blocksOf}
+use Rattle.blocks.specs.Blocks.{bytesOfBlock, blocksOf}
 use Rattle.blocks.proofs.Parts.{block-codes}
 use Rattle.gate.proofs.Laws.{not-small, small-block}
 use borrow.Author.Needs.{needs}
@@ -14,7 +14,8 @@ use Rattle.gate.proofs.copied.Tie as tie
 
 returns : tie.Need-returns
 returns c =
-    let a = c .before .before .before .before .before .before .args in
+    let start : tie.Start = search in
+    let a = start .args in
     let p = blocksOf (now (a .code)) (now (a .table)) in
     let b = c .before .before .block .ensures in
     let e = sym (block-codes (now (a .code)) (now (a .table)) (a .l .0)) in
@@ -22,16 +23,18 @@ returns c =
 
 returns-2 : tie.Need-returns-2
 returns-2 c =
-    let a = c .before .before .before .before .before .before .before .before .args in
+    let start : tie.Start = search in
+    let a = start .args in
     let p = blocksOf (now (a .code)) (now (a .table)) in
     let at = block-codes (now (a .code)) (now (a .table)) in
-    let b = c .before .before .before .before .block .ensures in
-    let s = sym (c .before .before .before .small .ensures) ∙ not-false _ (c .before .before .if1 .left) in
-    let n = c .before .block2 .ensures in
+    let f = c .before .before .before .before in
+    let b = f .before .before .block .ensures in
+    let s = sym (f .before .small .ensures) ∙ not-false _ (f .if1 .left) in
+    let n = c .before .block-by .ensures ∙ ap (bytesOfBlock (now (a .code))) (c .before .before .record-at .ensures) in
     small-block (a .wide) p (a .l .0) (rw (sym (at (a .l .0)), ← b) s)
     (rw (sym (at (a .l .0)), ← b, ← add-one (a .l .0), sym (at (a .l .0 + 1)), ← n) (ap not (c .latch .ensures)))
 
 pub copied-spec : {M : Type 1} → statement M
 copied-spec =
-    tie.close (tie.spec (λ c. search needs) (λ c κs. search needs) (λ c κs. search needs) returns (λ c. search needs)
-    (λ c κs. search needs) (λ c κs. search needs) returns-2)
+    tie.close (tie.spec (λ c κs. search needs) (λ c κs. search needs) returns (λ c. search needs) (λ c. search needs)
+    (λ c κs. search needs) (λ c κs. search needs) (λ c κs. search needs) returns-2)

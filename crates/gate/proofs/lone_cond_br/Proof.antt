@@ -8,4 +8,4 @@ returns : tie.Need-returns
 returns c = c .is-cond-br .ensures ∙ ap isCondBr (c .before .lone-at .ensures)
 
 pub lone-cond-br-spec : {M : Type 1} → statement M
-lone-cond-br-spec = tie.close (tie.spec (λ c. search needs) (λ c κs. search needs) (λ c κs. search needs) returns)
+lone-cond-br-spec = tie.close (tie.spec (λ c κs. search needs) (λ c κs. search needs) returns)

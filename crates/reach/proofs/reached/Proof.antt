@@ -36,14 +36,6 @@ mul-b c = let z = c .before .loop .inv .sized .room in omega arith
 array-read-b : tie.Need-array-read-b Inv-loop μ-loop
 array-read-b c = let z = c .before .loop .inv .sized .room in omega arith
 
-cast-b : tie.Need-cast-b Inv-loop μ-loop
-cast-b c =
-    let h = c .before .loop .inv in
-    let k = held-block h (c .loop-test .taken) in
-    let n = h .count in
-    let f = h .sized .few in
-    omega arith
-
 sub-push-targets : tie.Need-sub-push-targets Inv-loop μ-loop
 sub-push-targets c = omega (arith, c .before .before .before .loop-test .taken)
 
@@ -78,5 +70,5 @@ returns c = held-end (c .before .loop .inv) (c .loop-test .left)
 
 pub reached-spec : {M : Type 1} → statement M
 reached-spec =
-    tie.close (tie.spec Inv-loop μ-loop (λ c κs. search needs) push-requires loop-holds sub-b mul-b array-read-b cast-b
+    tie.close (tie.spec Inv-loop μ-loop (λ c κs. search needs) push-requires loop-holds sub-b mul-b array-read-b
     (λ c κs. search needs) sub-push-targets push-targets-requires loop-less loop-again returns)

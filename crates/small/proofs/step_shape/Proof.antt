@@ -13,28 +13,28 @@ returns : tie.Need-returns
 returns c = let a = c .before .before .before .before .args in
     let b = now (a .code) in
     let t = two-told b (c .before .before .end-of .ensures) (c .before .two-to-br .ensures) in
-    shape-two (a .wide) (a .l) (codesOf b) (t ∙ c .if1 .taken)
+    shape-two (a .wide) (a .l .0) (codesOf b) (t ∙ c .if1 .taken)
 
 returns-2 : tie.Need-returns-2
 returns-2 c = let a = c .before .before .before .before .before .args in
     let b = now (a .code) in
     let t = two-told b (c .before .before .before .end-of .ensures) (c .before .before .two-to-br .ensures) in
-    shape-narrow (a .wide) (a .l) (codesOf b) (t ∙ c .before .if1 .left) (not-true _ (c .if2 .taken))
+    shape-narrow (a .wide) (a .l .0) (codesOf b) (t ∙ c .before .if1 .left) (not-true _ (c .if2 .taken))
 
 returns-3 : tie.Need-returns-3
 returns-3 c = let a = c .before .before .before .before .before .before .args in
     let b = now (a .code) in
     let t = two-told b (c .before .before .before .before .end-of .ensures) (c .before .before .before .two-to-br .ensures) in
     let wide = not-false _ (c .before .if2 .left) in
-    shape-long (a .wide) (a .l) (codesOf b) (t ∙ c .before .before .if1 .left) wide (rw length-codes (c .if3 .taken))
+    shape-long (a .wide) (a .l .0) (codesOf b) (t ∙ c .before .before .if1 .left) wide (rw length-codes (c .if3 .taken))
 
 returns-4 : tie.Need-returns-4
 returns-4 c = let a = c .before .before .before .before .before .before .before .args in
     let b = now (a .code) in
     let t = two-told b (c .before .before .before .before .before .end-of .ensures) (c .before .before .before .before .two-to-br .ensures) in
-    let j = c .jumps-back .ensures ∙ ap (jumpsBack (a .l)) (c .before .before .before .before .before .end-of .ensures) in
+    let j = c .jumps-back .ensures ∙ ap (jumpsBack (a .l .0)) (c .before .before .before .before .before .end-of .ensures) in
     let wide = not-false _ (c .before .before .if2 .left) in
-    shape-back (a .wide) (a .l) (codesOf b) (t ∙ c .before .before .before .if1 .left) wide (rw length-codes (c .before .if3 .left)) j
+    shape-back (a .wide) (a .l .0) (codesOf b) (t ∙ c .before .before .before .if1 .left) wide (rw length-codes (c .before .if3 .left)) j
 
 pub step-shape-spec : {M : Type 1} → statement M
 step-shape-spec =

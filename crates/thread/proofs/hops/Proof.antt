@@ -20,8 +20,8 @@ Inv-hops work₀ table₀ kinds₀ known₀ copy₀ facts pause budget a s₀ h�
     × (length kinds ≡ length kinds₀)
     × (length known ≡ length known₀)
     × (length copy ≡ length copy₀)
-    × (hopsIn facts (bodyIn pause) budget (length known₀) (length copy₀) (6 - h) a (store work table kinds s)
-    ≡ hopsIn facts (bodyIn pause) budget (length known₀) (length copy₀) 6 a (store work₀ table₀ kinds₀ s₀))
+    × (hopsIn facts (bodyIn pause) budget (length known₀) (length copy₀) (6 - h) (a .0) (store work table kinds s)
+    ≡ hopsIn facts (bodyIn pause) budget (length known₀) (length copy₀) 6 (a .0) (store work₀ table₀ kinds₀ s₀))
 
 abbrev μ-hops : tie.MeasureT-hops
 μ-hops work₀ table₀ kinds₀ known₀ copy₀ facts pause budget a s₀ h₀ work table kinds known copy s h = 6 - h
@@ -48,14 +48,14 @@ hops-again c =
       ⊎-elim
           (λ w.
           rw (w .17, w .18, w .19, w .22)
-          (hops-go (now (a .facts)) (bodyIn (a .pause)) (a .budget) k q (a .a) (l .hops .h) test s
-          (hop-cond-br (now (a .facts)) (bodyIn (a .pause)) (a .budget) k q (l .hops .work) (l .hops .table) (l .hops .kinds) (l .hops .s) (a .a)
+          (hops-go (now (a .facts)) (bodyIn (a .pause)) (a .budget) k q (a .a .0) (l .hops .h) test s
+          (hop-cond-br (now (a .facts)) (bodyIn (a .pause)) (a .budget) k q (l .hops .work) (l .hops .table) (l .hops .kinds) (l .hops .s) (a .a .0)
           (d .end-at .result) (d .end-at .ensures) (i .4) (i .5) (w .1 .given .1) (w .7 .ensures (a .budget) (l .hops .kinds))) (not-false _ (w .16 .left))
           ∙ i .6))
           (λ w.
           rw (w .16, w .17, w .18, w .21)
-          (hops-go (now (a .facts)) (bodyIn (a .pause)) (a .budget) k q (a .a) (l .hops .h) test s
-          (hop-br (now (a .facts)) (bodyIn (a .pause)) (a .budget) k q (l .hops .work) (l .hops .table) (l .hops .kinds) (l .hops .s) (a .a)
+          (hops-go (now (a .facts)) (bodyIn (a .pause)) (a .budget) k q (a .a .0) (l .hops .h) test s
+          (hop-br (now (a .facts)) (bodyIn (a .pause)) (a .budget) k q (l .hops .work) (l .hops .table) (l .hops .kinds) (l .hops .s) (a .a .0)
           (d .end-at .result) (d .end-at .ensures) (w .1 .given .1) (w .6 .ensures k q)) (not-false _ (w .15 .left))
           ∙ i .6))
           (c .match .came),
@@ -67,7 +67,7 @@ returns c =
     let a = l .before .before .before .before .before .before .before .args in
     let k = length (now (a .known)) in
     let q = length (now (a .copy)) in
-    hops-end (now (a .facts)) (bodyIn (a .pause)) (a .budget) k q (a .a) (6 - l .hops .h)
+    hops-end (now (a .facts)) (bodyIn (a .pause)) (a .budget) k q (a .a .0) (6 - l .hops .h)
     (store (l .hops .work) (l .hops .table) (l .hops .kinds) (l .hops .s)) (omega arith)
     ∙ l .hops .inv .6
 
@@ -113,8 +113,8 @@ returns-2 c =
     let i = l .hops .inv in
     let s = store (l .hops .work) (l .hops .table) (l .hops .kinds) (l .hops .s) in
     let test = d .before .before .before .hops-test .taken in
-    hops-stop (now (a .facts)) (bodyIn (a .pause)) (a .budget) k q (a .a) (l .hops .h) test s
-    (hop-cond-br (now (a .facts)) (bodyIn (a .pause)) (a .budget) k q (l .hops .work) (l .hops .table) (l .hops .kinds) (l .hops .s) (a .a)
+    hops-stop (now (a .facts)) (bodyIn (a .pause)) (a .budget) k q (a .a .0) (l .hops .h) test s
+    (hop-cond-br (now (a .facts)) (bodyIn (a .pause)) (a .budget) k q (l .hops .work) (l .hops .table) (l .hops .kinds) (l .hops .s) (a .a .0)
     (d .end-at .result) (d .end-at .ensures) (i .4) (i .5) (x .c .given .1) (z .hop-cond-br .ensures (a .budget) (l .hops .kinds)))
     (not-true _ (c .if1 .taken))
     ∙ i .6
@@ -131,8 +131,8 @@ returns-3 c =
     let i = l .hops .inv in
     let s = store (l .hops .work) (l .hops .table) (l .hops .kinds) (l .hops .s) in
     let test = d .before .before .before .hops-test .taken in
-    hops-stop (now (a .facts)) (bodyIn (a .pause)) (a .budget) k q (a .a) (l .hops .h) test s
-    (hop-br (now (a .facts)) (bodyIn (a .pause)) (a .budget) k q (l .hops .work) (l .hops .table) (l .hops .kinds) (l .hops .s) (a .a)
+    hops-stop (now (a .facts)) (bodyIn (a .pause)) (a .budget) k q (a .a .0) (l .hops .h) test s
+    (hop-br (now (a .facts)) (bodyIn (a .pause)) (a .budget) k q (l .hops .work) (l .hops .table) (l .hops .kinds) (l .hops .s) (a .a .0)
     (d .end-at .result) (d .end-at .ensures) (x .l .given .1) (z .hop-br .ensures k q)) (not-true _ (c .if2 .taken))
     ∙ i .6
 
@@ -146,8 +146,8 @@ returns-4 c =
     let i = l .hops .inv in
     let s = store (l .hops .work) (l .hops .table) (l .hops .kinds) (l .hops .s) in
     let test = d .before .before .before .hops-test .taken in
-    hops-stop (now (a .facts)) (bodyIn (a .pause)) (a .budget) k q (a .a) (l .hops .h) test s
-    (hop-case (now (a .facts)) (bodyIn (a .pause)) (a .budget) k q (l .hops .work) (l .hops .table) (l .hops .kinds) (l .hops .s) (a .a)
+    hops-stop (now (a .facts)) (bodyIn (a .pause)) (a .budget) k q (a .a .0) (l .hops .h) test s
+    (hop-case (now (a .facts)) (bodyIn (a .pause)) (a .budget) k q (l .hops .work) (l .hops .table) (l .hops .kinds) (l .hops .s) (a .a .0)
     (d .end-at .result) (d .end-at .ensures) (c .enum-told .given .1)) refl
     ∙ i .6
 
@@ -161,8 +161,8 @@ returns-5 c =
     let i = l .hops .inv in
     let s = store (l .hops .work) (l .hops .table) (l .hops .kinds) (l .hops .s) in
     let test = d .before .before .before .hops-test .taken in
-    hops-stop (now (a .facts)) (bodyIn (a .pause)) (a .budget) k q (a .a) (l .hops .h) test s
-    (hop-other (now (a .facts)) (bodyIn (a .pause)) (a .budget) k q (l .hops .work) (l .hops .table) (l .hops .kinds) (l .hops .s) (a .a)
+    hops-stop (now (a .facts)) (bodyIn (a .pause)) (a .budget) k q (a .a .0) (l .hops .h) test s
+    (hop-other (now (a .facts)) (bodyIn (a .pause)) (a .budget) k q (l .hops .work) (l .hops .table) (l .hops .kinds) (l .hops .s) (a .a .0)
     (d .end-at .result) (d .end-at .ensures) (c .enum-told2 .given .1)) refl
     ∙ i .6
 

@@ -11,7 +11,7 @@ returns : tie.Need-returns
 returns c =
     let a = c .before .before .before .before .before .before .before .before .before .args in
     c .before .before .bump-reads .ensures
-    ∙ ap (λ (t : List ℕ). counted 2 cap (counted 2 cap t (a .l)) (a .h)) (c .before .before .before .before .before .before .bump-three .ensures)
+    ∙ ap (λ (t : List ℕ). counted 2 cap (counted 2 cap t (a .l .0)) (a .h .0)) (c .before .before .before .before .before .before .bump-three .ensures)
 
 pub bump-five-spec : {M : Type 1} → statement M
 bump-five-spec = tie.close (tie.spec (λ c κs. search needs) (λ c κs. search needs) (λ c. search needs) returns)

@@ -11,7 +11,7 @@ returns : tie.Need-returns
 returns c =
     let a = c .before .before .before .before .before .before .before .before .before .args in
     c .before .before .bump-reads .ensures
-    ∙ ap (λ (t : List ℕ). counted 2 cap (counted 2 cap t (a .b)) (a .e)) (c .before .before .before .before .before .before .bump-two .ensures)
+    ∙ ap (λ (t : List ℕ). counted 2 cap (counted 2 cap t (a .b .0)) (a .e .0)) (c .before .before .before .before .before .before .bump-two .ensures)
 
 pub bump-four-spec : {M : Type 1} → statement M
 bump-four-spec = tie.close (tie.spec (λ c κs. search needs) (λ c κs. search needs) (λ c. search needs) returns)

@@ -3,6 +3,8 @@ use Prim.Native.Nat.{_+_, _-_, _<_}
 use mathlib.Core.Path.{_≡_, refl, sym, ap, _∙_}
 use lib.ListN.{length, take, drop}
 use denote.Ref.{now}
+use Rattle.inst.specs.declared.Reg.{Reg}
+use Rattle.items.specs.Items.{operandOf}
 use Rattle.facts.specs.Storage.{operandsIn}
 use Rattle.fill.specs.Filling.{counted, over}
 use Rattle.fill.proofs.Laws.{over-again, over-done, operands-length, operand-at, part-at, part-in, part-short, part-over}
@@ -33,7 +35,8 @@ returns c =
 
 loop-again : tie.Need-loop-again Inv-loop μ-loop
 loop-again c =
-    let t = c .before .before .before .before .before .before in
+    let r = c .before .before .before .before .before in
+    let t = r .before .before in
     let l = t .before in
     let a = l .before .before .before .before .before .args in
     let b = now (a .operands) in
@@ -41,7 +44,8 @@ loop-again c =
     let part = take (a .list .len) (drop (a .list .start) ops) in
     let step = counted (a .j) (a .most) in
     let at = part-at ops (a .list .start) (a .list .len) (l .loop .k) (t .loop-test .taken) in
-    let there = ap (λ r. r .p1) (c .before .before .before .before .record-at .ensures) ∙ sym (operand-at b (a .list .start + l .loop .k)) ∙ sym at in
+    let read = ap (λ (x : Reg). x .0) (c .before .before .before .before .operand-of .ensures ∙ ap operandOf (r .record-at .ensures)) in
+    let there = read ∙ sym (operand-at b (a .list .start + l .loop .k)) ∙ sym at in
     let in-part = part-in ops (a .list .start) (a .list .len) (l .loop .k) (t .loop-test .taken) (rw (operands-length b) (omega arith)) in (
       over-again step part (l .loop .k) 0 in-part (c .before .before .bump .ensures ∙ ap (step (l .loop .table)) there) (l .loop .inv .0),
       (l .loop .inv .1 .0, (l .loop .inv .1 .1 .0, search needs)),
@@ -59,5 +63,5 @@ returns-2 c =
 pub bump-list-spec : {M : Type 1} → statement M
 bump-list-spec =
     tie.close (tie.spec Inv-loop μ-loop (λ c. search needs) (λ c. search needs) loop-holds (λ c. search needs)
-    (λ c. search needs) returns (λ c. search needs) (λ c κs. search needs) (λ c κs. search needs) (λ c. search needs)
+    (λ c. search needs) returns (λ c. search needs) (λ c κs. search needs) (λ c κs. search needs) (λ c κs. search needs) (λ c. search needs)
     (λ c. search needs) loop-again (λ c. search needs) returns-2)
