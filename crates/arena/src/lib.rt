@@ -1,3 +1,4 @@
+// The work storage of Thread: a block that is edited stands last and grows at the end.
 ghost use mathlib.Core.Path.{_≡_};
 ghost use Prim.Native.Nat.{ℕ, _+_, _≤_};
 ghost use lib.ListN.{length, take, drop};

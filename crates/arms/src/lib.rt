@@ -1,3 +1,4 @@
+// The equal-arms step: a CondBr whose arms meet becomes a Br.
 ghost use mathlib.Core.Path.{_≡_};
 ghost use mathlib.Core.Bool.{Bool, true, false};
 ghost use Prim.Native.Nat.{_-_, _/_, _≤_};

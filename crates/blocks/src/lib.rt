@@ -1,3 +1,4 @@
+// The blocks of a code by its block table: each is a part of the code's bytes.
 ghost use mathlib.Core.Path.{_≡_};
 ghost use mathlib.Core.List.{[]};
 ghost use Prim.Native.Nat.{ℕ, min};

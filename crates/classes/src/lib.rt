@@ -1,3 +1,4 @@
+// A file that is read, cut into the bytes of its classes.
 ghost use mathlib.Core.Path.{_≡_};
 ghost use Prim.Native.Nat.{min};
 ghost use Rattle.format.specs.Record.{recordsOf};

@@ -1,3 +1,4 @@
+// The instruction of a record, and the record of an instruction.
 ghost use mathlib.Core.Path.{_≡_};
 ghost use Rattle.inst.specs.declared.Inst.the-variants as i;
 ghost use Rattle.codec.specs.Codec.{wordOf, lowOf, highOf, rowOf, instOf, codeOf, instRecord, recordOf, rewrittenRecord};

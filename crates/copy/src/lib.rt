@@ -1,3 +1,4 @@
+// A target's code copied, with constants left out and registers given new numbers.
 ghost use mathlib.Core.Path.{_≡_};
 ghost use mathlib.Core.List.{[], _∷_};
 ghost use mathlib.Core.Option.{Option};

@@ -1,3 +1,4 @@
+// The parts of Emit: which blocks stay, what is rescued, and their records.
 ghost use Prim.Native.Nat.{_+_, _≤_};
 ghost use mathlib.Core.Path.{_≡_};
 ghost use mathlib.Core.Bool.{true, cond};

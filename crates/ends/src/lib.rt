@@ -1,3 +1,4 @@
+// How a block ends: Br, CondBr, Case or another terminator.
 ghost use mathlib.Core.Path.{_≡_};
 ghost use Rattle.codec.specs.Codec.{instOf};
 ghost use Rattle.procedure.specs.Procedure.{codesOf};

@@ -1,3 +1,4 @@
+// Registers of an instruction exchanged by their roles (`Inst::visit_mut`).
 ghost use mathlib.Core.Path.{_≡_};
 ghost use Prim.Native.Nat.{ℕ};
 ghost use Rattle.roles.specs.Exchange.{over, overOptional, boolSecond, checkLow, checkHigh, exchanged, through, written, firstPairs};

@@ -1,3 +1,4 @@
+// The table of facts about a file's registers: kind, definitions, uses, constant.
 ghost use mathlib.Core.Path.{_≡_};
 ghost use Prim.Native.Nat.{_<_};
 ghost use lib.ListN.{length, getD};

@@ -1,3 +1,4 @@
+// Fills the table of facts: definitions and uses are counted, constants noted.
 ghost use mathlib.Core.Path.{_≡_};
 ghost use Prim.Native.Nat.{_*_, _/_, _≤_, min};
 ghost use lib.ListN.{length};

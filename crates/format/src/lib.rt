@@ -1,3 +1,4 @@
+// A file's bytes as records of 32 bytes: the record at a place.
 ghost use mathlib.Core.Path.{_≡_};
 ghost use Prim.Native.Nat.{ℕ, _+_, _*_, _≤_, _<_};
 ghost use lib.ListN.{length};

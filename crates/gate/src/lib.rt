@@ -1,3 +1,4 @@
+// The gate of threading: `has_back_edge`, `may_thread`.
 ghost use mathlib.Core.Path.{_≡_};
 ghost use mathlib.Core.List.{[]};
 ghost use mathlib.Core.Bool.{Bool, false};

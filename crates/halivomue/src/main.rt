@@ -1,3 +1,4 @@
+// The program: read, tidy, list and shorten, over files and standard input.
 use answer::Question;
 use options::Options;
 use status::Status;

@@ -1,3 +1,4 @@
+// The instructions as values, with the tuple structs Reg, BlockId and StmtId.
 ghost use mathlib.Core.Path.{_≡_};
 ghost use Rattle.inst.specs.Inst.{kindOf};
 use real::Real;

@@ -1,3 +1,4 @@
+// The records of the other classes: registers, blocks, body, operands, arms.
 ghost use mathlib.Core.Path.{_≡_};
 ghost use Rattle.items.specs.Items.{rowOf, registerOf, registerRecord, blockOf, blockRecord, bodyOf, bodyRecord};
 ghost use Rattle.items.specs.Items.{operandOf, operandRecord, armOf, armRecord};

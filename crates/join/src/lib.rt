@@ -1,3 +1,4 @@
+// A hop over a Br: whether it stays, or gives way to its target's code.
 ghost use mathlib.Core.Path.{_≡_};
 ghost use mathlib.Core.List.{map};
 ghost use mathlib.Core.Bool.{_&&_};

@@ -1,3 +1,4 @@
+// Whether code names a register that one constant alone writes: `reads_konst`.
 ghost use mathlib.Core.Path.{_≡_};
 ghost use mathlib.Core.List.{_++_};
 ghost use Rattle.roles.specs.Roles.{defsOf, usesOf};

@@ -1,3 +1,4 @@
+// Where the classes of a file start, found in one walk that stops at the first wrong record.
 ghost use mathlib.Core.Path.{_≡_};
 ghost use mathlib.Core.Bool.{_&&_};
 ghost use Prim.Native.Nat.{_+_, _≤_};

@@ -1,3 +1,4 @@
+// What is known of registers before a block's last instruction: `note`.
 ghost use mathlib.Core.Path.{_≡_};
 ghost use mathlib.Core.Bool.{cond};
 ghost use mathlib.Core.Option.{none, some};

@@ -1,3 +1,4 @@
+// The numbers of the ops, and the ops of the numbers.
 ghost use mathlib.Core.Path.{_≡_};
 ghost use Rattle.ops.specs.Ops.{cmpOf, cmpNum, boolOf, boolNum, intOf, intNum, widthOf, widthNum, checkOf, checkNum, regTyOf, regTyNum};
 ghost use Rattle.ops.specs.Ops.{spaceOf, spaceNum, spaceArg, optOf, optNum, optArg};

@@ -1,3 +1,4 @@
+// The body: the block that a process pauses at, if there is one.
 ghost use mathlib.Core.Path.{_≡_};
 ghost use Rattle.procedure.specs.Lists.{present, holds};
 ghost use Rattle.pausing.specs.Storage.{bodyIn};

@@ -1,3 +1,4 @@
+// Which blocks Emit reaches from block 0.
 ghost use mathlib.Core.Path.{_≡_};
 ghost use Rattle.format.specs.Record.{recordsOf};
 ghost use Rattle.reach.specs.Reached.{targetsIn, leadsIn, seenIn};

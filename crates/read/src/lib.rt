@@ -1,3 +1,4 @@
+// Document 01's Read: a file is accepted, or refused with number and record.
 ghost use mathlib.Core.Path.{_≡_};
 ghost use mathlib.Core.Bool.{_||_};
 ghost use Prim.Native.Nat.{ℕ, _+_, _≤_};

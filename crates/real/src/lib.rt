@@ -1,3 +1,4 @@
+// The f64 of a ConstF, kept bit for bit.
 ghost use mathlib.Core.Path.{_≡_};
 ghost use Rattle.real.specs.Real.{realOf, bitsOf};
 

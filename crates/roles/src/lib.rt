@@ -1,3 +1,4 @@
+// Which registers an instruction writes and reads, as a list of roles (`Inst::visit`).
 ghost use mathlib.Core.Path.{_≡_};
 ghost use Rattle.roles.specs.Roles.{noList, rolesOf};
 ghost use Rattle.roles.specs.Work.{rowOf, boolRoles, checkRoles, callRoles, retRoles};

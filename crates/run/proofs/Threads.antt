@@ -150,8 +150,8 @@ module _ {p : Procedure} {x : Parts} {known copy : ℕ} {work kinds facts : List
 
   own-is : thread (factsIn counted (p .body) (N / 2 + 32)) (blocksOf after (x .heads)) ≡ workOf left
   own-is =
-      let long = o .heads-length in
-      let few = o .well-formed .blocks in
+      let long = o .parted .coded .heads-length in
+      let few = o .parted .well-formed .blocks in
       w.thread-is counted (p .body) (N / 2 + 32) known copy (countsIn p) N after (x .heads) kinds N
       stored-at inv-at refl space-there (h .registers) numbers (words (h .known-words)) (words (h .copy-words)) (omega arith)
 

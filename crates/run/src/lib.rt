@@ -1,3 +1,4 @@
+// `run` before Emit: equal arms, gate, counts, Thread.
 ghost use mathlib.Core.Path.{_≡_};
 ghost use mathlib.Core.Bool.{true};
 ghost use mathlib.Core.List.{List};

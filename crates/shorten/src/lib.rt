@@ -2,7 +2,7 @@
 ghost use mathlib.Core.Path.{_≡_};
 ghost use mathlib.Core.Bool.{true};
 ghost use mathlib.Core.List.{List, _++_};
-ghost use Prim.Native.Nat.{ℕ, _+_, _/_, _≤_};
+ghost use Prim.Native.Nat.{ℕ, _+_, _/_, _≤_, min};
 ghost use lib.ListN.{length, take, drop};
 ghost use Rattle.read.specs.Reading.{reading, answer};
 ghost use Rattle.tidy.specs.Tidy.{Tidy};
@@ -239,8 +239,8 @@ fn shorten_read(b: &[u8], l: Layout, out: &mut [u8]) -> Answer
     shorten_small(b, l, out)
 }
 
-// Shortens a file of at most so many registers and instructions into the output buffer, or refuses it.
-pub fn shorten_within(bytes: &[u8], out: &mut [u8], registers: usize, code: usize) -> Answer
+// The same where the limits are at most 480, for which there is storage.
+fn shorten_below(bytes: &[u8], out: &mut [u8], registers: usize, code: usize) -> Answer
     requires { ⌜ (registers ≤ 480) × (code ≤ 480) ⌝ }
     ensures is { λ r. ⌜ outcome r (now (out .exit)) ≡ spec.shortenWithin registers code (now (bytes .entry)) (now (out .entry)) ⌝ }
     ensures accepted { λ r. ⌜ (r .number ≡ 0 → reading (take (r .length) (now (out .exit))) ≡ answer 0 0) ⌝ }
@@ -264,6 +264,26 @@ pub fn shorten_within(bytes: &[u8], out: &mut [u8], registers: usize, code: usiz
         return refused(8, 0);
     }
     shorten_read(bytes, l, out)
+}
+
+// Shortens a file of at most so many registers and instructions, no more than 480, into the output buffer, or refuses it.
+pub fn shorten_within(bytes: &[u8], out: &mut [u8], registers: usize, code: usize) -> Answer
+    ensures is { λ r. ⌜ outcome r (now (out .exit)) ≡ spec.shortenWithin (min registers 480) (min code 480) (now (bytes .entry)) (now (out .entry)) ⌝ }
+    ensures accepted { λ r. ⌜ (r .number ≡ 0 → reading (take (r .length) (now (out .exit))) ≡ answer 0 0) ⌝ }
+    ensures room { λ r. ⌜ (61728 ≤ length (now (out .entry)) → r .number ≡ 9 → ⊥) ⌝ }
+    ensures unmoved { λ r. ⌜ (r .number ≡ 0 → r .moved ≡ 0
+        → now (out .exit) ≡ now (bytes .entry) ++ drop (length (now (bytes .entry))) (now (out .entry))) ⌝ }
+    ensures bound { λ r. ⌜ (r .number ≡ 0 → spec.instructions (take (r .length) (now (out .exit)))
+        ≤ spec.instructions (now (bytes .entry)) + spec.instructions (now (bytes .entry)) / 2 + 36) ⌝ }
+    ensures demand3 { λ r. ⌜ (r .number ≡ 0 → Tidy (held (now (bytes .entry)))
+        → Demand3 (held (now (bytes .entry))) (held (take (r .length) (now (out .exit)))) (r .rescued)) ⌝ }
+{
+    shorten_below(
+        bytes,
+        out,
+        blocks::least(registers, 480),
+        blocks::least(code, 480),
+    )
 }
 
 // Shortens a file into the output buffer, or refuses it.

@@ -1,3 +1,4 @@
+// Blocks that may be copied: `dupable`, `small`, `latch`.
 ghost use mathlib.Core.Path.{_≡_};
 ghost use mathlib.Core.Bool.{_&&_, _||_};
 ghost use Prim.Native.Nat.{ℕ, suc, _+_};

@@ -1,3 +1,4 @@
+// Thread: blocks ascending, six hops each at most.
 ghost use mathlib.Core.Path.{_≡_};
 ghost use mathlib.Core.List.{List};
 ghost use Prim.Native.Nat.{ℕ};

@@ -1,3 +1,4 @@
+// Document 01's Tidy: whether a file is tidy, or its lowest offending register.
 ghost use mathlib.Core.Path.{_≡_};
 ghost use Rattle.format.specs.Record.{recordsOf};
 ghost use Rattle.read.specs.Work.{LaidOut};

@@ -1,1 +1,1 @@
-// Definitions alone: document 01's procedure, as the steps and the machine see it.
+// What the machine computes with words: comparisons, Booleans, choices.

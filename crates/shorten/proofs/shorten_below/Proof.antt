@@ -7,8 +7,8 @@ use Rattle.opened.specs.Opened.{partsOf}
 use Rattle.shorten.specs.Storage.{Done}
 use Rattle.shorten.proofs.Answers.{refused-is, many-registers, much-code, shortened-is, clauses, by-part}
 use borrow.Author.Needs.{needs}
-use Rattle.shorten.proofs.shorten_within.Statement.{statement}
-use Rattle.shorten.proofs.shorten_within.Tie as tie
+use Rattle.shorten.proofs.shorten_below.Statement.{statement}
+use Rattle.shorten.proofs.shorten_below.Tie as tie
 
 returns : tie.Need-returns
 returns c =
@@ -90,8 +90,8 @@ returns-4 c =
     (by-part (λ x. x .code) b (l .starts .ensures) (p2 .part2 .ensures) (λ k. k / 32 ≤ n) (e .if3 .left))
     (subst (λ l. Done (partsOf b l) (q .shorten-read .result) o (q .shorten-read .last .1 .1 .0)) (l .starts .ensures) (q .shorten-read .ensures)))
 
-pub shorten-within-spec : {M : Type 1} → statement M
-shorten-within-spec =
+pub shorten-below-spec : {M : Type 1} → statement M
+shorten-below-spec =
     tie.close (tie.spec (λ c κs. search needs) (λ c κs. search needs) returns (λ c κs. search needs)
     (λ c κs. search needs) (λ c κs. search needs) returns-2 (λ c κs. search needs) (λ c κs. search needs) returns-3
     (λ c κs. search needs) (λ c. search needs) returns-4)
