@@ -14,8 +14,8 @@ import sys
 ROOT = os.path.dirname(os.path.dirname(os.path.abspath(__file__)))
 os.chdir(ROOT)
 KIT = ("check", "libc", "io", "os", "bytes")
-# An instruction holds a Real; the functions of ops and items take and give inst's types.
-HELD = {"ops": ("inst",), "items": ("inst",), "inst": ("real",)}
+# What the functions of a crate take or give, or a type holds, of another crate's types; each before what it leads to.
+HELD = {"shortening": {"pausing"}, "run": {"thread"}, "pausing": {"inst"}, "ops": {"inst"}, "items": {"inst"}, "inst": {"real"}}
 ROW = re.compile(r"^([a-z_0-9]+):(.*)$", re.M)
 
 
@@ -41,7 +41,7 @@ def main():
     for name, listed in ROW.findall(text):
         named = named_in(name)
         for outer, inner in HELD.items():
-            named |= set(inner) if outer in named else set()
+            named |= inner if outer in named else set()
         due = [n for n in order if n in named] + [n for n in KIT if n in named]
         if set(due) != set(listed.split()):
             faults.append(f"{name}: {' '.join(due)}")
