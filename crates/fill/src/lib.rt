@@ -1,6 +1,7 @@
 // Fills the table of facts: definitions and uses are counted, constants noted.
 ghost use mathlib.Core.Path.{_≡_};
-ghost use Prim.Native.Nat.{_*_, _/_, _≤_, min};
+ghost use mathlib.Core.List.{_++_};
+ghost use Prim.Native.Nat.{_*_, _/_, min};
 ghost use lib.ListN.{length};
 ghost use Rattle.procedure.specs.Procedure.{codesOf};
 ghost use Rattle.facts.specs.Storage.{rows, rowOf, tableOf, kindsOf, operandsIn};
@@ -19,23 +20,24 @@ fn least(a: usize, b: usize) -> usize
 }
 
 // A row for each register of the table.
-fn fill(code: &[u8], operands: &[u8], registers: &[u8], table: &mut [u64])
-    requires { ⌜ (length (now table) ≡ 5 * (length (now table) / 5)) × (length (now table) / 5 ≤ length (now registers) / 32) ⌝ }
+fn fill(code: &[u8], operands: &[u8], registers: &[u8], kinds: &[u8], table: &mut [u64])
+    requires { ⌜ length (now table) ≡ 5 * (length (now table) / 5) ⌝ }
     ensures { λ u. ⌜ now (table .exit)
         ≡ rows (length (now (table .entry)) / 5)
-        (rowOf (kindsOf (now (registers .entry))) (operandsIn (now (operands .entry))) (codesOf (now (code .entry)))) ⌝ }
+        (rowOf (kindsOf (now (registers .entry)) ++ now (kinds .entry)) (operandsIn (now (operands .entry))) (codesOf (now (code .entry)))) ⌝ }
 {
-    start::start(registers, table);
+    start::start(registers, kinds, table);
     count::count(code, operands, table);
     class::class(code, table);
 }
 
-// The facts of a file, from its code, operand and register records: five words for each register that the table
-// has room for. What stands behind them is left.
-pub fn facts(code: &[u8], operands: &[u8], registers: &[u8], table: &mut [u64])
+// The facts of a code, with its operand and register records and the kinds of new registers behind these: five words for
+// each register that the table has room for. What stands behind them is left.
+pub fn facts(code: &[u8], operands: &[u8], registers: &[u8], kinds: &[u8], table: &mut [u64])
     ensures { λ u. ⌜ now (table .exit)
-        ≡ tableOf (now (table .entry)) (kindsOf (now (registers .entry))) (operandsIn (now (operands .entry))) (codesOf (now (code .entry))) ⌝ }
+        ≡ tableOf (now (table .entry)) (kindsOf (now (registers .entry)) ++ now (kinds .entry)) (operandsIn (now (operands .entry)))
+        (codesOf (now (code .entry))) ⌝ }
 {
-    let n = least(registers.len() / 32, table.len() / 5);
-    fill(code, operands, registers, &mut table[..5 * n]);
+    let n = least(registers.len() / 32 + kinds.len(), table.len() / 5);
+    fill(code, operands, registers, kinds, &mut table[..5 * n]);
 }

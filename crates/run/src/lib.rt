@@ -40,7 +40,7 @@ fn counted(work: &[u8], facts: &mut [u64], operands: &[u8], registers: &[u8], n:
     ensures { λ u. ⌜ now (facts .exit) ≡ r.countedIn n (now (operands .entry)) (now (registers .entry)) (now (facts .entry)) (now (work .entry)) ⌝ }
 {
     let m = blocks::least(n, work.len() / 32);
-    fill::facts(&work[..32 * m], operands, registers, facts);
+    fill::facts(&work[..32 * m], operands, registers, &work[..0], facts);
 }
 
 // Some block leads back, and some hop may do something.

@@ -1,6 +1,7 @@
 use denote.Ref.{now}
 use Prim.Native.Nat.{_/_}
 use mathlib.Core.Path.{ap, _∙_}
+use mathlib.Core.List.{_++_}
 use lib.ListN.{length}
 use Rattle.procedure.specs.Procedure.{codesOf}
 use Rattle.facts.specs.Storage.{operandsIn, kindsOf}
@@ -12,15 +13,16 @@ use Rattle.fill.proofs.fill.Tie as tie
 
 returns : tie.Need-returns
 returns c =
-    let c5 = c .before .before .before .before .before in
-    let c10 = c5 .before .before .before .before .before in
-    let c15 = c10 .before .before .before .before .before in
-    let a = c15 .before .args in
+    let z : tie.After-class = search in
+    let n : tie.After-count = search in
+    let t : tie.After-start = search in
+    let s : tie.Start = search in
+    let a = s .args in
     let ops = operandsIn (now (a .operands)) in
     let codes = codesOf (now (a .code)) in
-    c .before .before .class .ensures
-    ∙ ap (λ t. over classCode t codes) (c5 .before .count .ensures ∙ ap (λ t. over (countCode ops) t codes) (c10 .start .ensures))
-    ∙ filled (kindsOf (now (a .registers))) ops codes (length (now (a .table)) / 5)
+    z .class .ensures
+    ∙ ap (λ t. over classCode t codes) (n .count .ensures ∙ ap (λ t. over (countCode ops) t codes) (t .start .ensures))
+    ∙ filled (kindsOf (now (a .registers)) ++ now (a .kinds)) ops codes (length (now (a .table)) / 5)
 
 pub fill-spec : {M : Type 1} → statement M
 fill-spec =
