@@ -1,11 +1,12 @@
 #!/usr/bin/env python3
 """Whole runs of the machine, computed by antt from the definitions, against the Rust machine's.
 
-    tests/machine/compare.py [--told FILE] [NAME...]
+    tests/machine/compare.py [NAME...]
+    tests/machine/compare.py --told FILE NAME...
 
 Has run-stored (tests/reference) carry out the runs of runs.txt, or those named, writes what it
 tells of each as a claim to be proved by `refl` into a scratch crate, has that checked, and says
-how many hold. With --told FILE it takes what is told from there. Without names, all that is due
+how many differ. With --told FILE it takes what is told from there. Without names, all that is due
 has to be met.
 """
 
@@ -75,8 +76,6 @@ def after_of(a, acts, label):
 
 def claim(run, seen, acts):
     """What is told of a run, to be computed; `acts` names the list of its acts."""
-    ended = [a.end != ["none"] for a in seen.after]
-    assert len(ended) == run.limit + 1 or ended[-3:] == [True] * 3, f"{run.name}: neither to the limit nor past the end"
     rule = " ".join(map(str, run.address))
     budgets = listing("\n    " + after_of(a, seen.acts, acts) for a in seen.after)
     computed = f"told {outside_of(run.outside)} (address {rule}) (held {bytes_of(run.data)}) {listing(run.words)}"
@@ -122,19 +121,23 @@ def differing(chosen):
         return [(chosen[int(label[1:])][1].name, said) for label, said in refused(scratch, r"r\d+")]
 
 
+def to_its_end(run, seen):
+    """Whether a run is told to its limit, or to the end and twice past it."""
+    ended = [a.end != ["none"] for a in seen.after]
+    return len(ended) == run.limit + 1 or ended[-3:] == [True] * 3
+
+
 def chosen_from(words):
     """The runs asked for with what is told of them, and what was met."""
-    text = None
-    if words[:1] == ["--told"]:
-        with open(words[1]) as stored:
-            text = stored.read()
-        words = words[2:]
-    text = text or subprocess.run([RUST, RUNS], check=True, capture_output=True, text=True).stdout
-    seen, met = told(text)
-    # a falsified run is named after the one that it was made of
     stored = {run.name: run for run in runs(RUNS)}
-    names = words or list(stored)
-    return [(stored[name.partition(":")[0]], seen[name]) for name in names], met
+    if words[:1] == ["--told"]:
+        with open(words[1]) as text:
+            seen, met = told(text.read())
+        # a falsified run is named after the one that it was made of
+        return [(stored[name.partition(":")[0]], seen[name]) for name in words[2:]], met
+    seen, met = told(subprocess.run([RUST, RUNS], check=True, capture_output=True, text=True).stdout)
+    assert all(to_its_end(run, seen[name]) for name, run in stored.items())
+    return [(stored[name], seen[name]) for name in words or stored], met
 
 
 def main(words):

@@ -5,7 +5,8 @@
 
 For each fault of faults.txt (or those from FIRST to before LAST, counted from 0) the definitions are
 copied into the scratch crate with the fault, and what the Rust tells is claimed of these: of some
-runs, and where none differs of all. It takes some minutes, so the gate leaves it out.
+runs, and where none differs of all. It takes some eight minutes of one core, so the gate leaves it
+out.
 """
 
 import os
@@ -18,7 +19,7 @@ from compare import write
 
 # What is copied; Loaded gives the start, with the single constants loaded.
 COPIED = "machine/specs/Act machine/specs/Machine machine/specs/Single machine/specs/Demand".split()
-COPIED += ["word/specs/Word", "machine/proofs/Loaded"]
+COPIED += "machine/proofs/Loaded word/specs/Word procedure/specs/Procedure roles/specs/Roles".split()
 AT_ONCE = 12  # faults in one scratch crate
 
 
@@ -32,10 +33,10 @@ def faults():
 
 def to_copies(text, suffix):
     """A module's text, with the copies used in place of what they are copies of."""
+    text = re.sub(r"^use Rattle·(\w+)·specs\.specs\.", r"use Rattle·\1.specs.", text, flags=re.M)
     for copied in [*COPIED, "tried/specs/Rules"]:
         crate, kind, module = copied.split("/")
-        for name in f"Rattle.{crate}.{kind}.{module}", f"Rattle.{crate}.{kind}.{module}":
-            text = text.replace(f"use {name}.", f"use Rattle.tried.specs.{module}{suffix}.")
+        text = text.replace(f"use Rattle.{crate}.{kind}.{module}.", f"use Rattle.tried.specs.{module}{suffix}.")
     return text
 
 
