@@ -85,7 +85,7 @@ class Tampered(Case):
 
     def test_3_a_sent_form_that_is_refused(self):
         self.write("b.call", sample("refused"))
-        self.named("b.call: altered: the sent form is refused 7 9 (record 9 names a register, block, table or list that does not exist)")
+        self.named("b.call: altered: the sent form is refused 7 9 (record 9: p1 (dst) names register 1, and there is 1 register)")
 
     def test_4_both_forms_exchanged_for_others_that_belong_together(self):
         self.write("b.call", self.read("a/three.call"))
@@ -163,7 +163,7 @@ class Tampered(Case):
         self.write("a/one.call", b"")
         self.write("a/two.call", self.read("a/two.call") + bytes(70_000))
         found = self.audit()
-        self.assertIn("a/one.call: altered: the sent form is refused 3 0 (the file has more records of a class than its limit, or no block)", found)
+        self.assertIn("a/one.call: altered: the sent form is refused 3 0 (the file has no block)", found)
         self.assertIn("b.call: altered: the shortened form is not what the sent form is shortened to", found)
         self.assertTrue(any(line.startswith("a/two.call: altered: the sent form is refused 1 0") for line in found), found)
 

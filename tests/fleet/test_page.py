@@ -253,8 +253,8 @@ class Made(Case):
                 b.click(f"#filters button[data-filter='{name}']")
                 self.assertEqual(b.run("[...document.querySelectorAll('tbody tr')].map(tr => tr.children[0].textContent)"), rows)
                 self.assertEqual(b.run("document.querySelector('#filters [aria-pressed=true]').dataset.filter"), name)
-            mark = b.run(f"[...document.querySelectorAll('tbody tr')].find(tr => tr.firstChild.textContent === 'printed.call').children[{at['filed']}].textContent")
-            self.assertEqual(mark, "altered")
+            find = "[...document.querySelectorAll('tbody tr')].find(tr => tr.firstChild.textContent === 'printed.call')"
+            self.assertEqual(b.run(f"{find}.children[{at['filed']}].textContent"), "altered")
 
     @unittest.skipUnless(browser.chromium(), "chromium isn't installed: the page wasn't opened in a browser")
     def test_layout(self):

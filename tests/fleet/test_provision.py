@@ -35,7 +35,7 @@ class Samples(Case):
         out, said = run("provision", self.sent, self.filed, status=1)
         self.assertEqual(said, "")
         self.assertEqual(out.splitlines(), [
-            "refused.call: refused 7 9 (record 9 names a register, block, table or list that does not exist)",
+            "refused.call: refused 7 9 (record 9: p1 (dst) names register 1, and there is 1 register)",
             "4 files: 3 accepted, 1 refused, 0 unreadable, 1 untidy",
             "instructions 63 to 63, bytes 4352 to 4352, moved 1, grown 2, fresh 0, rescued 0",
             f"3 filed; report: {self.filed}/report.csv",
@@ -299,7 +299,7 @@ class Odd(Case):
 
         with replaced(os, "read", counted):
             _, lines = provision_here(self.sent, self.filed)
-        why = "(the file is not a multiple of 32 bytes long, or is longer than 65536)"
+        why = "(the file is longer than 65536 bytes)"
         self.assertEqual(lines[0], f"huge.call: refused 1 0 {why}")
         self.assertIn("limit.call: refused 2 0", lines[1])
         self.assertEqual(lines[2], f"long.call: refused 1 0 {why}")
