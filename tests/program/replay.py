@@ -13,7 +13,7 @@ three kinds of block:
   $ COMMAND         is run by bash, and what it prints is held to the lines that follow: standard output,
                     then standard error. In a .txt each line of standard error starts with '! ', and
                     '= N' follows where the exit status is not 0
-  anything else     is passed over
+  anything else     is passed over, and so are blocks of a page that use the package, which tests/fleet runs
 
 --write puts what a .txt's commands printed in the place of what it has.
 """
@@ -76,6 +76,8 @@ def replay(path, write):
                              ("bin/stored", "tests/program/stored.py")):
             os.symlink(os.path.join(ROOT, target), os.path.join(folder, name))
         for block in blocks_of(path):
+            if path.endswith(".md") and any(line.startswith("$ python3 -m halivomue") for line in block):
+                continue
             if block[0].endswith(".call:"):
                 with open(os.path.join(folder, block[0][:-1]), "wb") as made:
                     made.write(b"".join(record(line) for line in block[1:]))
