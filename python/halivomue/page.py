@@ -42,7 +42,7 @@ class Options(NamedTuple):
 
     patterns: Sequence[str] = ("*",)
     most: int = 300
-    seconds: float = 60
+    seconds: float = 120
 
 
 class NotDrawn(Exception):
