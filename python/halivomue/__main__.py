@@ -90,7 +90,7 @@ def parser() -> argparse.ArgumentParser:
     show.add_argument("--out", required=True, metavar="FILE", help="the page")
     show.add_argument("--draw", action="append", metavar="P", help="names to be drawn (default: all)")
     show.add_argument("--most", type=_number(0, 1_000_000), default=300, metavar="N", help="files to be drawn at most (default: %(default)s)")
-    show.add_argument("--seconds", type=_number(0, 86_400), default=60, metavar="N", help="time for all drawings (default: %(default)s)")
+    show.add_argument("--seconds", type=_number(0, 86_400), default=120, metavar="N", help="time for all drawings (default: %(default)s)")
     for name, (what, example) in _LOOK.items():
         look_at = commands.add_parser(name, help=what, epilog=f"example:\n{example}\n\n{_LOOK_ENDS}", formatter_class=raw)
         look_at.add_argument("files", nargs="+", metavar="FILE", help="a procedure's file; - is standard input")

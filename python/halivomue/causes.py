@@ -100,22 +100,25 @@ def _others(of: int, kind: int) -> List[Place]:
 
 
 class Records:
-    """The records of a file, and how many there are of each class."""
+    """The records of a file, unpacked as they are asked for, and how many there are of each class."""
 
     def __init__(self, data: bytes) -> None:
-        whole = memoryview(data)[: min(len(data), LONGEST) // RECORD * RECORD]
-        self.all = [
-            Record(at, of, kind, op, zero, statement, tuple(p))
-            for at, (of, kind, op, zero, statement, *p) in enumerate(_RECORD.iter_unpack(whole))
-        ]
-        self.count = {of: sum(record.of == of for record in self.all) for of in CLASSES}
+        self.data = data
+        self.length = min(len(data), LONGEST) // RECORD
+        self.classes = data[: RECORD * self.length : RECORD]
+        self.count = {of: self.classes.count(of) for of in CLASSES}
+
+    def at(self, number: int) -> Record:
+        of, kind, op, zero, statement, *p = _RECORD.unpack_from(self.data, RECORD * number)
+        return Record(number, of, kind, op, zero, statement, tuple(p))
 
     def of(self, which: int) -> List[Record]:
-        return [record for record in self.all if record.of == which]
+        """The records of a class."""
+        return [self.at(number) for number, of in enumerate(self.classes) if of == which]
 
     def index(self, record: Record) -> int:
         """A record's number within its class."""
-        return sum(other.of == record.of for other in self.all[: record.at])
+        return self.classes[: record.at].count(record.of)
 
 
 class Cause(NamedTuple):
@@ -303,11 +306,11 @@ def causes(data: bytes, number: int, record: int) -> List[Cause]:
         return found if records.count[BLOCK] else [_cause(3, "no block", ("block",), "at least 1"), *found]
     if number == 8:
         return list(_of_limits(records, MOST, 8, "many"))
-    if record >= len(records.all):
+    if record >= records.length:
         return []
-    told = records.all[record]
+    told = records.at(record)
     if number == 2:
-        return list(_of_record(told, records.all[record - 1].of if record else 1))
+        return list(_of_record(told, records.classes[record - 1] if record else 1))
     if told.of != {4: BLOCK, 5: BLOCK, 6: ARM}.get(number, told.of):
         return []
     asked = {4: _of_tiling, 5: _of_terminator, 6: _of_arm, 7: _of_names}.get(number)

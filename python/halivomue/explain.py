@@ -92,7 +92,7 @@ def _refused(data: bytes, number: int, record: int, width: int) -> Iterator[Line
     if number in (3, 8):
         yield from _counts(records, found)
         return
-    told = records.all[record]
+    told = records.at(record)
     index = f", {CLASSES[told.of]} {records.index(told)} of the file" if told.of in CLASSES else ""
     yield [("title", f"record {record}, bytes {32 * record} to {32 * record + 31}{index}")]
     yield from _decoded(told, found)

@@ -42,7 +42,7 @@ class Options(NamedTuple):
 
     patterns: Sequence[str] = ("*",)
     most: int = 300
-    seconds: float = 60
+    seconds: float = 120
 
 
 class NotDrawn(Exception):
@@ -233,8 +233,8 @@ def _cards(totals: report.Totals) -> str:
 
 def _cells(row: Row, looked: Looked) -> List[Any]:
     """What the table shows of a file."""
-    number = "" if row.number is None else f" {row.number}"
-    shown = {"answer": row.answer + number, "reason": row.reason or looked.untidy}
+    number = f" {row.number}" if row.answer == "refused" and row.number is not None else ""
+    shown = {"answer": row.answer + number, "reason": looked.untidy or row.reason}
     return [shown[name] if name in shown else getattr(row, name) for name in _COLUMNS]
 
 
