@@ -15,7 +15,7 @@ from concurrent.futures import ThreadPoolExecutor
 from itertools import islice
 from typing import Any, Dict, Iterator, List, Optional, Sequence, Tuple
 
-from . import filing, flow, names, report, work
+from . import files, filing, flow, names, report, work
 from .answers import Refused
 from .filing import Failed, Unreadable
 from .procedure import Procedure
@@ -151,6 +151,7 @@ def _reason(row: Row) -> str:
 
 def write(filed: bytes, out: str, patterns: Sequence[str], most: int) -> str:
     """Writes the page and answers a line about it; raises `Failed`."""
+    files.check_out(out, apart=filed)
     lock = Lock(filed, shared=True)
     try:
         rows, totals = _rows(filed)
@@ -165,10 +166,5 @@ def write(filed: bytes, out: str, patterns: Sequence[str], most: int) -> str:
     title = html.escape(names.quote(os.path.basename(os.path.realpath(filed))))
     for mark, value in (("TITLE", title), ("CARDS", _cards(totals)), ("DATA", _script(data))):
         text = text.replace(f"<!--{mark}-->", value)
-    path = os.fsencode(out)
-    own = os.path.join(os.path.dirname(path), b".%s.tmp" % os.path.basename(path)[:200])
-    try:
-        filing.write([(path, own, text.encode("utf-8"))], flush=True)
-    except Unreadable as error:
-        raise Failed(f"{out}: {error}") from error
+    files.replace(out, text.encode("utf-8"))
     return f"{out}: {report.counted(len(rows))}, {drawn} drawn" + ("" if dot else "; dot isn't installed (Debian: graphviz)")

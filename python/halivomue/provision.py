@@ -10,7 +10,7 @@ import re
 import sys
 from typing import IO, Any, Callable, Iterator, List, NamedTuple, Optional, Set, Tuple, Union
 
-from . import _library, filing, names, report, work
+from . import _library, files, filing, names, report, work
 from .answers import reason, untidy_reason
 from .filing import Failed, Folder, Unreadable
 from .progress import Progress
@@ -327,30 +327,15 @@ class Lock:
             self.fd = -1
 
 
-def _within(inner: bytes, outer: bytes) -> bool:
-    """Is a folder, which need not be there yet, another or below it?"""
-    at = os.path.realpath(inner)
-    while True:
-        try:
-            if os.path.samefile(at, outer):
-                return True
-        except OSError:
-            pass
-        above = os.path.dirname(at)
-        if above == at:
-            return False
-        at = above
-
-
 def check_folders(sent: bytes, filed: bytes) -> None:
     """Raises `Failed` where the run can't be made between these two."""
     try:
         os.scandir(sent).close()
     except OSError as error:
         raise Failed(f"{os.fsdecode(sent)}: {filing.why(error)}") from error
-    if _within(filed, sent):
+    if files.within(filed, sent):
         raise Failed("FILED stands inside SENT: what is filed would be taken for sent files by the next run")
-    if _within(sent, filed):
+    if files.within(sent, filed):
         raise Failed("SENT stands inside FILED: the sent files would be taken for filed ones by the audit")
 
 
