@@ -59,11 +59,15 @@ class _Frozen:
 
 @dataclass(frozen=True)
 class Reading(_Frozen):
-    """The answer of `read`: 0 and 0 where the file is accepted, else the refusal and its record."""
+    """The answer of `read`: 0 and 0 where the file is accepted, else the refusal and its record. It is
+    true where the file is accepted."""
 
     __slots__ = ("number", "record")
     number: int
     record: int
+
+    def __bool__(self) -> bool:
+        return self.accepted
 
     @property
     def accepted(self) -> bool:
@@ -78,13 +82,17 @@ class Reading(_Frozen):
 @dataclass(frozen=True)
 class Tidiness(_Frozen):
     """The answer of `tidy`: number and record as `read` gives them, and of an accepted file
-    whether it is tidy; `reg` is the lowest register that offends where it isn't, else 0."""
+    whether it is tidy; `reg` is the lowest register that offends where it isn't, else 0. It is true
+    where the file is accepted and tidy."""
 
     __slots__ = ("number", "record", "tidy", "reg")
     number: int
     record: int
     tidy: bool
     reg: int
+
+    def __bool__(self) -> bool:
+        return self.tidy
 
     @property
     def accepted(self) -> bool:

@@ -228,6 +228,12 @@ def io_like():
 
 
 class Answers(unittest.TestCase):
+    def test_true_where_a_reader_expects_it(self):
+        """Before, every answer was true."""
+        self.assertEqual([bool(halivomue.read(sample(name))) for name in ("printed", "untidy", "refused")], [True, True, False])
+        self.assertEqual([bool(halivomue.tidy(sample(name))) for name in ("printed", "untidy", "refused")], [True, False, False])
+        self.assertTrue(halivomue.shorten(sample("forwarding")))
+
     def test_frozen(self):
         made = (Reading(0, 0), Tidiness(0, 0, True, 0), Shortening(b"", 0, 0, 0, 0))
         for answer in made:
