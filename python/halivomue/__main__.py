@@ -9,7 +9,7 @@ import signal
 import sys
 from typing import List, Optional
 
-from . import __version__, audit, filing, page, provision, report, work
+from . import __version__, audit, filing, page, provisioning, report, work
 from ._library import LibraryError
 from .filing import Failed
 
@@ -94,7 +94,7 @@ class _Lines:
 
 
 def _provision(arguments: argparse.Namespace) -> int:
-    options = provision.Options(
+    options = provisioning.Options(
         os.fsencode(arguments.sent).rstrip(b"/") or b"/",
         os.fsencode(arguments.filed).rstrip(b"/") or b"/",
         arguments.pattern,
@@ -105,7 +105,7 @@ def _provision(arguments: argparse.Namespace) -> int:
         arguments.json,
     )
     say = _Lines(sys.stderr if options.dry_run else sys.stdout)
-    outcome = provision.provision(options, say)
+    outcome = provisioning.run(options, provisioning.Told(say, progress=sys.stderr), sys.stdout)
     say(outcome.totals.answers_text())
     say(outcome.totals.sums_text())
     if outcome.passed_over:

@@ -17,10 +17,10 @@ from typing import Any, Dict, Iterator, List, Optional, Sequence, Tuple
 
 from . import files, filing, flow, names, report, work
 from .answers import Refused
-from .filing import Failed, Unreadable
+from .filing import Failed, Folder, Held, Unreadable
 from .procedure import Procedure
-from .provision import Lock, State
 from .report import Row
+from .state import Lock, State, open_top, whole_report
 
 #: Seconds after which a drawing is given up.
 _PATIENCE = 60
@@ -52,11 +52,19 @@ def _packed(text: str) -> str:
     return base64.b64encode(zlib.compress(text.encode("utf-8"), 9)).decode("ascii")
 
 
-def _drawing(filed: bytes, row: Row, dot: str) -> Dict[str, str]:
-    """A file's two drawings and listings, packed."""
-    path = os.path.join(filed, names.unquote(row.name))
+def _forms(filed: Folder, row: Row) -> Tuple[Optional[bytes], Optional[bytes]]:
+    """The two forms of a row, as far as they are filed; raises `Unreadable`."""
+    held, name = Held(filed), names.unquote(row.name)
     try:
-        sent, short = filing.read_if_there(path), filing.read_if_there(path + names.SHORT)
+        return held.read(name), held.read(name + names.SHORT)
+    finally:
+        held.leave()
+
+
+def _drawing(filed: Folder, row: Row, dot: str) -> Dict[str, str]:
+    """A file's two drawings and listings, packed."""
+    try:
+        sent, short = _forms(filed, row)
         if sent is None or short is None:
             raise NotDrawn("it is not filed any more")
         both = Procedure.parse(sent), Procedure.parse(short)
@@ -112,22 +120,7 @@ def _cards(totals: report.Totals) -> str:
     return "".join(cards)
 
 
-def _rows(filed: bytes) -> Tuple[List[Row], report.Totals]:
-    """All rows of the report, which the page holds too."""
-    state, totals = State(filed), report.Totals()
-    if not os.path.isfile(state.report):
-        raise Failed(f"{os.fsdecode(state.report)} isn't there: start the run first")
-    stream, wrong = report.checked(state.report)
-    rows = []
-    for row in stream:
-        totals.add(row)
-        rows.append(row)
-    if wrong:
-        raise Failed(f"{os.fsdecode(state.report)}: {wrong[0]}")
-    return rows, totals
-
-
-def _data(filed: bytes, rows: List[Row], patterns: Sequence[str], most: int, dot: Optional[str]) -> Tuple[Dict[str, Any], int]:
+def _data(filed: Folder, rows: List[Row], patterns: Sequence[str], most: int, dot: Optional[str]) -> Tuple[Dict[str, Any], int]:
     chosen = [number for number, row in enumerate(rows) if _wanted(row, patterns)][: most if dot else 0]
     calls = ((_drawing, filed, rows[number], dot) for number in chosen)
     drawn = dict(zip(chosen, _in_order(calls, work.default_jobs())))
@@ -152,15 +145,16 @@ def _reason(row: Row) -> str:
 def write(filed: bytes, out: str, patterns: Sequence[str], most: int) -> str:
     """Writes the page and answers a line about it; raises `Failed`."""
     files.check_out(out, apart=filed)
-    lock = Lock(filed, shared=True)
-    try:
-        rows, totals = _rows(filed)
-        dot = shutil.which("dot")
-        data, drawn = _data(filed, rows, patterns, most, dot)
-    except OSError as error:
-        raise Failed(str(error)) from error
-    finally:
-        lock.release()
+    with open_top(filed) as top:
+        lock = Lock(top, shared=True)
+        try:
+            rows, totals = whole_report(State(top))
+            dot = shutil.which("dot")
+            data, drawn = _data(top, rows, patterns, most, dot)
+        except OSError as error:
+            raise Failed(filing.told(error, filed)) from error
+        finally:
+            lock.release()
     with open(os.path.join(os.path.dirname(os.path.abspath(__file__)), "page.html"), encoding="utf-8") as file:
         text = file.read()
     title = html.escape(names.quote(os.path.basename(os.path.realpath(filed))))

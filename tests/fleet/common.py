@@ -20,7 +20,7 @@ sys.dont_write_bytecode = True
 sys.path[:0] = [str(HERE), str(ROOT / "python"), str(ROOT / "tests" / "vectors"), str(ROOT / "tests" / "reference")]
 
 import halivomue  # noqa: E402
-from halivomue import provision  # noqa: E402
+from halivomue import provisioning  # noqa: E402
 
 
 def run(*words, status=0, **more):
@@ -38,7 +38,8 @@ def provision_here(sent, filed, **options):
     """A run in this process; its outcome and the lines that it told."""
     lines = []
     options.setdefault("flush", False)
-    outcome = provision.provision(provision.Options(os.fsencode(sent), os.fsencode(filed), **options), lines.append)
+    told = provisioning.Told(lines.append)
+    outcome = provisioning.run(provisioning.Options(os.fsencode(sent), os.fsencode(filed), **options), told, sys.stdout)
     return outcome, lines
 
 
@@ -122,5 +123,5 @@ def in_child(work):
     return os.waitpid(child, 0)[1]
 
 
-__all__ = ["Case", "HERE", "PROGRAM", "REFERENCE", "ROOT", "SAMPLES", "halivomue", "in_child", "lines_of", "provision",
-           "provision_here", "replaced", "run", "sample", "tree", "unittest"]
+__all__ = ["Case", "HERE", "PROGRAM", "REFERENCE", "ROOT", "SAMPLES", "halivomue", "in_child", "lines_of", "provision_here",
+           "provisioning", "replaced", "run", "sample", "tree", "unittest"]

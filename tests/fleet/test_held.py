@@ -3,7 +3,7 @@
 import os
 import shutil
 
-from common import Case, provision, provision_here, replaced, run, sample, tree, unittest
+from common import Case, provision_here, replaced, run, sample, tree, unittest
 
 from halivomue import filing
 from halivomue.filing import Failed
@@ -18,7 +18,7 @@ class Sent(Case):
         for name in ("1.call", "2.call", "3.call"):
             self.put(f"a/{name}", sample("printed"))
             self.put(name, sample("forwarding"), outside)
-        read, enter = filing.read, provision.Filer.enter
+        read, below = filing.read, filing.Folder.below
         late = iter(range(1, 9))
 
         def swap():
@@ -31,18 +31,22 @@ class Sent(Case):
                 swap()
             return read(name, folder)
 
-        def entering(filer, folder):
-            if when == 0 and not os.path.islink(folder):
-                os.rename(folder, os.path.join(self.folder, "moved"))
-                os.symlink(outside, folder)
-            enter(filer, folder)
+        entered = []
 
-        with replaced(filing, "read", reading), replaced(provision.Filer, "enter", entering):
+        def entering(folder, name, make=False):
+            """The folder is listed first, and then entered to read its files."""
+            entered.append(name)
+            if when == 0 and entered.count(b"a") == 2 and not os.path.islink(os.path.join(self.sent, "a")):
+                os.rename(os.path.join(self.sent, "a"), os.path.join(self.folder, "moved"))
+                os.symlink(outside, os.path.join(self.sent, "a"))
+            return below(folder, name, make)
+
+        with replaced(filing, "read", reading), replaced(filing.Folder, "below", entering):
             return provision_here(self.sent, self.filed)
 
     def test_a_link_that_takes_a_folders_place_is_not_followed(self):
         outcome, lines = self.swapped(0)
-        self.assertEqual(lines, [f"a/{number}.call: unreadable: Not a directory" for number in (1, 2, 3)])
+        self.assertEqual(lines, [f"a/{number}.call: unreadable: a symbolic link, not followed" for number in (1, 2, 3)])
         self.assertEqual(outcome.done, 0)
 
     def test_nor_while_the_folder_is_held(self):
@@ -75,10 +79,10 @@ class Filed(Case):
 
         write = filing.write
         for jobs, move in ((1, gone), (2, another), (1, link)):
-            def late(files, flush, target, move=move):
+            def late(files, flush, target, *more, move=move):
                 if files[1][0] == b"2.call":
                     move()
-                write(files, flush, target)
+                write(files, flush, target, *more)
 
             with replaced(filing, "write", late), self.assertRaises(Failed) as caught:
                 provision_here(self.sent, self.filed, jobs=jobs)

@@ -15,7 +15,7 @@ import subprocess
 import sys
 import time
 
-from common import Case, ROOT, halivomue, in_child, lines_of, provision, provision_here, replaced, run, sample, tree, unittest
+from common import Case, ROOT, halivomue, in_child, lines_of, provision_here, provisioning, replaced, run, sample, tree, unittest
 
 import fleet
 from halivomue import filing, names, report
@@ -87,7 +87,7 @@ class Samples(Case):
         def never(*_):
             raise AssertionError("the library was asked again")
 
-        with replaced(provision._library, "tidied", never):
+        with replaced(provisioning._library, "tidied", never):
             outcome, _ = provision_here(self.sent, self.filed)
         self.assertEqual((outcome.done, outcome.kept), (0, 3))
         self.assertEqual(tree(self.filed), first)
@@ -207,8 +207,8 @@ class Options(Case):
         for name in made:
             self.put(name, b"")
         for batch in (1, 2, 7, 250, 499, 500, 501):
-            with replaced(names, "_BATCH", batch):
-                self.assertEqual([entry.name for entry in names.walk(os.fsencode(self.sent))], made)
+            with replaced(names, "_BATCH", batch), filing.Folder.top(os.fsencode(self.sent)) as top:
+                self.assertEqual([entry.name for entry in names.walk(top)], made)
 
 
 class Odd(Case):
@@ -779,15 +779,18 @@ class Parts(Case):
         run("provision", self.sent, self.filed, status=1)
         with open(os.path.join(self.filed, "report.csv"), "rb") as file:
             whole = file.read()
-        path = os.fsencode(os.path.join(self.folder, "cut.csv"))
+        path = os.path.join(self.folder, "cut.csv")
+        top = filing.Folder.top(os.fsencode(self.folder))
+        self.addCleanup(top.close)
+        cut = filing.File(top, b"cut.csv")
         ends = [at + 1 for at, byte in enumerate(whole) if byte == 10]
         for length in range(0, len(whole), 11):
             with open(path, "wb") as file:
                 file.write(whole[:length])
-            self.assertEqual(len(list(report.rows(path))), min(max(sum(end <= length for end in ends) - 1, 0), 4))
+            self.assertEqual(len(list(report.entries(cut))), min(max(sum(end <= length for end in ends) - 1, 0), 4))
             with open(path, "wb") as file:
                 file.write(whole[:length] + bytes(4096))
-            list(report.rows(path))
+            list(report.entries(cut))
 
     def test_modes_and_permissions(self):
         self.put("a.call", sample("printed"))
