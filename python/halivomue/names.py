@@ -11,7 +11,7 @@ import fnmatch
 import heapq
 import os
 import re
-from typing import Callable, Iterator, List, NamedTuple, Optional, Tuple
+from typing import Callable, Container, Iterator, List, NamedTuple, Optional, Tuple
 
 from .filing import Folder, why
 
@@ -71,7 +71,7 @@ def reserved(name: bytes) -> Optional[str]:
     """Why nothing can be filed under this name, if so."""
     if name.endswith(SHORT):
         return "a name that ends in .short is kept for shortened forms"
-    if name in (REPORT, REPORT_JSON):
+    if name.split(b"/", 1)[0] in (REPORT, REPORT_JSON):
         return "this name is kept for the report"
     if OWN in name and b"/" + OWN in b"/" + name:
         return "a name that starts with .halivomue is kept for the run's own files"
@@ -93,8 +93,8 @@ def matcher(pattern: str) -> Callable[[bytes], bool]:
 
 
 class Entry(NamedTuple):
-    """What a walk finds: `kind` is file, link, link to a folder, other, empty (a folder without
-    entries) or the reason why a folder can't be read."""
+    """What a walk finds: `kind` is file, link, link to a folder, folder (one that isn't entered), other,
+    empty (a folder without entries) or the reason why a folder can't be read."""
 
     name: bytes
     kind: str
@@ -156,9 +156,9 @@ def _entries(top: Folder, name: bytes, sorting: Sorting) -> Iterator[Tuple[bytes
         last = batch[-1][0]
 
 
-def walk(top: Folder, sorting: Sorting = by_name) -> Iterator[Entry]:
-    """Everything under a folder but folders, in name order. No symbolic link is followed; raises
-    OSError where the folder itself can't be read."""
+def walk(top: Folder, sorting: Sorting = by_name, kept_out: Container[bytes] = ()) -> Iterator[Entry]:
+    """Everything under a folder but folders, in name order. No symbolic link is followed, and a folder
+    whose name is kept out isn't entered; raises OSError where the folder itself can't be read."""
     open_folders = [(b"", _entries(top, b"", sorting))]
     entered = True
     while open_folders:
@@ -179,7 +179,7 @@ def walk(top: Folder, sorting: Sorting = by_name) -> Iterator[Entry]:
             yield Entry(below, why(error))
             continue
         path = below + b"/" + name if below else name
-        entered = kind == "folder"
+        entered = kind == "folder" and path not in kept_out
         if entered:
             open_folders.append((path, _entries(top, path, sorting)))
         else:

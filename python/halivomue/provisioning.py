@@ -82,7 +82,7 @@ class Walk:
 
     def __iter__(self) -> Iterator[Task]:
         due = next(self.earlier, None)
-        for entry in names.walk(self.sent):
+        for entry in names.walk(self.sent, kept_out=(names.REPORT, names.REPORT_JSON)):
             task = self.told(entry)
             if task is None:
                 continue

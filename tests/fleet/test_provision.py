@@ -180,6 +180,18 @@ class Options(Case):
         self.assertIn("report.csv: unreadable: this name is kept for the report", lines)
         self.assertTrue(os.path.exists(os.path.join(self.filed, "sub/report.csv.short")))
 
+    def test_a_folder_with_the_reports_name(self):
+        """Before, the run failed at its end, and every run after it."""
+        for name in ("report.csv/x.call", "report.csv/y/z.call", "report.jsonl/x.call", "a.call", "sub/report.csv/x.call"):
+            self.put(name, sample("printed"))
+        for _ in range(2):
+            out, said = run("provision", "--json", self.sent, self.filed, status=1)
+            self.assertEqual(said, "")
+            self.assertEqual(out.splitlines()[:3], ["report.csv: unreadable: this name is kept for the report",
+                                                    "report.jsonl: unreadable: this name is kept for the report",
+                                                    "4 files: 2 accepted, 0 refused, 2 unreadable"])
+            run("audit", self.filed)
+
     def test_memory_does_not_grow(self):
         """The largest process's memory with 300 and with 5,000 files."""
         data = sample("printed")
