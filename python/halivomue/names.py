@@ -26,28 +26,47 @@ REPORT, REPORT_JSON = b"report.csv", b"report.jsonl"
 _BATCH = 20_000
 #: Bytes of the longest name of a folder that is walked, as the system has it for paths.
 _LONGEST = 4096
-# Control characters (C0, DEL and C1), and bytes that are no UTF-8 (as surrogates).
-_UNSHOWN = "\x00-\x1f\x7f-\x9f\ud800-\udfff"
+# Control characters (C0, DEL and C1), bytes that are no UTF-8 (as surrogates), and characters that aren't
+# seen themselves but change what is: they turn the direction of writing round (U+202E and its like),
+# break the line, join, hide or tag. The list is fixed: a report reads alike with every Python.
+_UNSHOWN = (
+    "\x00-\x1f\x7f-\x9f\ud800-\udfff"
+    "\u00ad\u061c\u115f\u1160\u180b-\u180f\u200b-\u200f\u2028-\u202e\u2060-\u206f\u3164\ufe00-\ufe0f\ufeff\uffa0\ufff0-\ufffb"
+    "\U0001bca0-\U0001bca3\U0001d173-\U0001d17a\U000e0000-\U000e0fff"
+)
 #: What no line of a report has in it.
 UNSHOWN = re.compile(f"[{_UNSHOWN}]")
 _TO_QUOTE = re.compile(f"[{_UNSHOWN}\\\\]")
+# A sign that makes a spreadsheet take a cell for a formula, plain or wide, where a cell could start.
+_SIGN = re.compile("((?:^|;)\\s*)([=+@\uff1d\uff0b\uff0d\uff20-])")
+# Names that are shown and quoted as they are; most are.
+_PLAIN = re.compile(rb"[0-9A-Za-z_][0-9A-Za-z_ /.,+=@-]*")
 _QUOTED = re.compile(r"\\(\\|x[0-9a-f]{2})")
 
 
-def _quoted(found: "re.Match[str]") -> str:
-    if found[0] == "\\":
-        return "\\\\"
-    return "".join(f"\\x{byte:02x}" for byte in found[0].encode("utf-8", "surrogateescape"))
+def _hex(text: str) -> str:
+    return "".join(f"\\x{byte:02x}" for byte in text.encode("utf-8", "surrogateescape"))
+
+
+def shown(name: bytes) -> str:
+    """A name in one line of text: a backslash as two, and what a terminal would obey, what isn't seen
+    and what is no UTF-8 byte by byte as backslash, x and two digits."""
+    text = name.decode("utf-8", "surrogateescape")
+    return _TO_QUOTE.sub(lambda found: "\\\\" if found[0] == "\\" else _hex(found[0]), text)
 
 
 def quote(name: bytes) -> str:
-    """A name in one line of text: a backslash as two, and bytes that a terminal would obey or that
-    are no UTF-8 as backslash, x and two digits."""
-    return _TO_QUOTE.sub(_quoted, name.decode("utf-8", "surrogateescape"))
+    """A name as a report has it: as it is shown, and a sign that would start a formula in a
+    spreadsheet likewise as backslash, x and two digits."""
+    if _PLAIN.fullmatch(name):
+        return name.decode("ascii")
+    return _SIGN.sub(lambda found: found[1] + _hex(found[2]), shown(name))
 
 
 def unquote(text: str) -> bytes:
-    """The name that was quoted."""
+    """The name that was quoted, in either way."""
+    if "\\" not in text:
+        return text.encode("utf-8")
 
     def plain(found: "re.Match[str]") -> str:
         if found[1] == "\\":

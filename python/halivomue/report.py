@@ -107,7 +107,7 @@ def keyed(line: bytes) -> Tuple[bytes, Row]:
         text = line.decode("utf-8")
     except UnicodeDecodeError as error:
         raise Damaged("no row of a report") from error
-    if names.UNSHOWN.search(text, 0, len(text) - 1):
+    if not text[:-1].isprintable() and names.UNSHOWN.search(text[:-1]):
         raise Damaged("no row of a report")
     row = parse_line(text)
     name = names.unquote(row.name)

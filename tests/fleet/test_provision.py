@@ -265,6 +265,34 @@ class Odd(Case):
             self.assertTrue(quoted.isprintable() or "\xa0" in quoted, quoted)
             quoted.encode("utf-8")
 
+    def test_no_cell_of_a_name_is_a_formula(self):
+        """Whatever a spreadsheet takes for the separator; and the names are undone when the report is read."""
+        signs = "=+-@\uff1d\uff0b\uff0d\uff20"
+        made = [f"{before}{sign}cmd|'!A0.call" for sign in signs for before in ("", " ", "\u3000", "a;", "a; ", "a,", '"', "a\t")]
+        for name in made:
+            self.put(name, sample("printed"))
+        run("provision", "--json", self.sent, self.filed)
+        for separator in ",;\t":
+            for row in csv.reader(lines_of(self.filed), delimiter=separator):
+                self.assertEqual([cell for cell in row if cell.strip()[:1] in set(signs)], [], separator)
+        self.assertEqual({os.fsdecode(names.unquote(name)) for name in rows_of(self.filed) if name}, set(made))
+        run("audit", self.filed)
+        outcome, _ = provision_here(self.sent, self.filed)
+        self.assertEqual(outcome.kept, len(made))
+
+    def test_what_is_not_seen_is_quoted(self):
+        """A name that would be read from right to left, or that has another's look."""
+        hidden = "\u202e\u202a\u202c\u2066\u2069\u200e\u200f\u061c\u200b\u200d\u2060\ufeff\u00ad\u2028\u2029\u180e\u3164\U000e0041"
+        for character in hidden:
+            self.put(f"a{character}llac.call", sample("refused"))
+        out, _ = run("provision", self.sent, self.filed, status=1)
+        self.assertIn("a\\xe2\\x80\\xaellac.call: refused 7 9", out)
+        self.assertEqual(len(out.splitlines()), len(hidden) + 3)
+        with open(os.path.join(self.filed, "report.csv"), encoding="utf-8") as file:
+            self.assertEqual(set(file.read()) & set(hidden), set())
+        self.assertEqual({os.fsdecode(names.unquote(name)) for name in rows_of(self.filed) if name},
+                         {f"a{character}llac.call" for character in hidden})
+
     def test_a_link_is_not_followed(self):
         outside = self.put("outside.call", sample("printed"), self.folder)
         self.put("real.call", sample("printed"))
