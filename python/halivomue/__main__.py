@@ -7,7 +7,7 @@ import io
 import os
 import signal
 import sys
-from typing import List, Optional
+from typing import Callable, List, Optional
 
 from . import __version__, audit, filing, page, provisioning, report, work
 from ._library import LibraryError
@@ -46,11 +46,15 @@ examples:
 ends with 0, or 2 where the page could not be made"""
 
 
-def _jobs(text: str) -> int:
-    number = int(text)
-    if not 1 <= number <= 256:
-        raise argparse.ArgumentTypeError("from 1 to 256")
-    return number
+def _number(least: int, most: int) -> Callable[[str], int]:
+    """Reads an option's number."""
+
+    def read(text: str) -> int:
+        if text.isascii() and text.isdigit() and len(text) < 10 and least <= int(text) <= most:
+            return int(text)
+        raise argparse.ArgumentTypeError(f"a number from {least} to {most} expected, not {text!r}")
+
+    return read
 
 
 def parser() -> argparse.ArgumentParser:
@@ -70,13 +74,13 @@ def parser() -> argparse.ArgumentParser:
     check.add_argument("filed", metavar="FILED")
     for command in (run, check):
         command.add_argument(
-            "--jobs", type=_jobs, default=work.default_jobs(), metavar="N", help="processes (default: %(default)s, the processors)"
+            "--jobs", type=_number(1, 256), default=work.default_jobs(), metavar="N", help="processes (default: %(default)s, the processors)"
         )
     show = commands.add_parser("page", help="make a page of what is filed", epilog=_PAGE, formatter_class=raw)
     show.add_argument("filed", metavar="FILED")
     show.add_argument("--out", required=True, metavar="FILE", help="the page")
     show.add_argument("--draw", action="append", metavar="P", help="names to be drawn (default: all)")
-    show.add_argument("--most", type=int, default=300, metavar="N", help="files to be drawn at most (default: %(default)s)")
+    show.add_argument("--most", type=_number(0, 100_000), default=300, metavar="N", help="files to be drawn at most (default: %(default)s)")
     return top
 
 
@@ -150,12 +154,13 @@ def main(words: Optional[List[str]] = None) -> int:
     except (Failed, LibraryError) as error:
         why = str(error)
     except (KeyboardInterrupt, _Stopped):
-        why = "interrupted; the same command goes on where it stopped"
+        goes_on = arguments.command == "provision" and not arguments.dry_run
+        why = "interrupted" + ("; the same command goes on where it stopped" if goes_on else "")
     except BrokenPipeError as error:
         os.dup2(os.open(os.devnull, os.O_WRONLY), 1)
         why = filing.why(error)
     except OSError as error:
-        why = str(error)
+        why = filing.told(error)
     print(f"halivomue {arguments.command}: {why}", file=sys.stderr)
     return 2
 

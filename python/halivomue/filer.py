@@ -8,7 +8,7 @@ import os
 from typing import Any, List, NamedTuple, Optional, Set, Tuple, Union
 
 from . import _library, filing, names, report
-from .answers import reason, untidy_reason
+from .answers import is_by_addr_of, reason, untidy_reason
 from .filing import Failed, Folder, Form, Held, Unreadable
 from .report import Row
 
@@ -56,17 +56,18 @@ class Done(NamedTuple):
 
 
 class Both(NamedTuple):
-    """The two forms of a file that is accepted, and the library's answers."""
+    """The two forms of a file that is accepted, the library's answers, and the mode that the forms get."""
 
     sent: bytes
     short: bytes
     shortening: Any
     tidiness: Any
+    mode: int = 0o666
 
 
 def described(name: str, answer: str, filed: str, both: Both) -> Row:
     """The row of a filed file, from its two forms and the library's answers."""
-    sent, short, shortening, tidiness = both
+    sent, short, shortening, tidiness, _ = both
     return Row(
         name,
         answer,
@@ -188,7 +189,7 @@ class Filer:
         """The rows of some tasks. They take each step together, which keeps what a step uses in the
         processor's caches."""
         read = [self.read(task) for task in tasks]
-        shortened = [form if isinstance(form, Row) else self.shorten(task, form.data) for task, form in zip(tasks, read)]
+        shortened = [form if isinstance(form, Row) else self.shorten(task, form) for task, form in zip(tasks, read)]
         filed = [both if isinstance(both, Row) else self.file(task, both) for task, both in zip(tasks, shortened)]
         return [
             both if isinstance(both, Row) else described(names.quote(task.name), "accepted", "yes", both)
@@ -212,16 +213,18 @@ class Filer:
             return task.earlier
         return form
 
-    def shorten(self, task: Task, sent: bytes) -> Union[Row, Both]:
+    def shorten(self, task: Task, form: Form) -> Union[Row, Both]:
         """Both forms, or the row of a file that is refused."""
+        sent = form.data
         shortening, short = _library.shortened(sent)
         if shortening.number:
             number, record = shortening.number, shortening.record
             return self.unfiled(task.name, "refused", reason(number, record), number, record)
         tidiness = _library.tidied(sent)
         if self.strict and not tidiness.tidy:
-            return self.unfiled(task.name, "refused", untidy_reason(tidiness.reg) + " (--strict)")
-        return Both(sent, short, shortening, tidiness)
+            why = untidy_reason(tidiness.reg, is_by_addr_of(sent, tidiness.reg))
+            return self.unfiled(task.name, "refused", why + " (--strict)")
+        return Both(sent, short, shortening, tidiness, form.mode)
 
     def file(self, task: Task, both: Both) -> Union[Row, Both]:
         """Both forms, which are filed now, or the row of a file that can't be."""
@@ -229,7 +232,7 @@ class Filer:
             return both
         if not self.dry_run:
             try:
-                self.put(task.name, both.sent, both.short)
+                self.put(task.name, both)
             except Unreadable as error:
                 return self.unfiled(task.name, "unreadable", str(error))
         self.now += 1
@@ -254,14 +257,15 @@ class Filer:
         except Unreadable:
             return False
 
-    def put(self, name: bytes, sent: bytes, short: bytes) -> None:
-        """Puts both forms, each at once; the shortened one first, since its name is the longer."""
+    def put(self, name: bytes, both: Both) -> None:
+        """Puts both forms, each at once; the shortened one first, since its name is the longer. They have
+        the mode of the sent file, less what the umask takes away."""
         folder, base = self.target.at(name)
         of_short = base + names.SHORT
         if base in self.target.folders or of_short in self.target.folders:
             raise Unreadable("cannot be filed: " + os.strerror(errno.EISDIR))
         new_sent, new_short = self.temporary
-        filing.write(((of_short, new_short, short), (base, new_sent, sent)), self.flush, folder)
+        filing.write(((of_short, new_short, both.short), (base, new_sent, both.sent)), self.flush, folder, both.mode)
 
     def unfiled(
         self, name: bytes, answer: str, why: str = "", number: Optional[int] = None, record: Optional[int] = None

@@ -52,10 +52,10 @@ def why(error: OSError) -> str:
     return error.strerror or str(error)
 
 
-def told(error: OSError, otherwise: bytes) -> str:
+def told(error: OSError, otherwise: bytes = b"") -> str:
     """What an error of the system is about, or else what is given, and its reason."""
     name = error.filename if isinstance(error.filename, (str, bytes)) else otherwise
-    return f"{os.fsdecode(name)}: {why(error)}"
+    return f"{os.fsdecode(name)}: {why(error)}" if name else why(error)
 
 
 def _is_link(name: bytes, at: int) -> bool:

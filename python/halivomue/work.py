@@ -15,6 +15,7 @@ from collections import deque
 from multiprocessing.connection import wait
 from typing import Any, Callable, Deque, Dict, Iterable, Iterator, List, Tuple
 
+from . import filing
 from .filing import Failed
 
 CHUNK = 256
@@ -68,8 +69,10 @@ def _serve(link: Any, others: List[Any], parent: int, make: Callable[[int], Work
             return
         try:
             answer: Tuple[bool, Any] = True, work(chunk)
-        except (Failed, OSError) as error:
+        except Failed as error:
             answer = False, str(error)
+        except OSError as error:
+            answer = False, filing.told(error)
         try:
             link.send(answer)
         except OSError:

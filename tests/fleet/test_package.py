@@ -128,6 +128,29 @@ class Stored(unittest.TestCase):
         self.assertEqual(said, f"{Refused(8)}\n")
 
 
+class Words(unittest.TestCase):
+    """The reason of an untidy register, by what writes it."""
+
+    def untidy(self, *first):
+        make = halivomue.instruction
+        return bytes(halivomue.Procedure(["Ptr", "I64"], [[*first, make("Br", to=1)], [make("Load", "B8", dst=1, addr=0), make("Ret")]]))
+
+    def test_written_by_an_addr_of(self):
+        """Read in a block that doesn't lead to the write it is tidy; before, it was told as if it weren't."""
+        make = halivomue.instruction
+        self.assertTrue(halivomue.tidy(self.untidy(make("AddrOf", "Frame", dst=0, off=1))))
+        early = self.untidy(make("Load", "B8", dst=1, addr=0), make("AddrOf", "Frame", dst=0, off=1))
+        due = "register 0 is written once, by an AddrOf, and read before it in its block or in a block that leads there"
+        for data in (early, bytearray(early), memoryview(early), memoryview(array.array("I", early))):
+            answer = halivomue.tidy(data)
+            self.assertEqual((answer, answer.reason), (Tidiness(0, 0, False, 0), due))
+            self.assertEqual(pickle.loads(pickle.dumps(answer)).reason, due)
+
+    def test_written_by_another(self):
+        due = "register 0 is written once, and read elsewhere than later in the same block"
+        self.assertEqual(halivomue.tidy(self.untidy(halivomue.instruction("Alloc", dst=0, size=1))).reason, due)
+
+
 class Types(Case):
     """Every type of bytes, without a copy; other types are refused."""
 

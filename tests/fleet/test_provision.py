@@ -104,7 +104,12 @@ class Samples(Case):
         run("provision", self.sent, self.filed, status=1)
         run("provision", os.path.join(self.folder, "nowhere"), self.filed, status=2)
         run("provision", self.sent, status=2)
-        run("provision", "--jobs", "0", self.sent, self.filed, status=2)
+        for wrong in ("0", "x", "-1", "257", "1.5", "\u0663", "9" * 5000):
+            _, said = run("provision", "--jobs", wrong, self.sent, self.filed, status=2)
+            self.assertIn(f"argument --jobs: a number from 1 to 256 expected, not {wrong!r}\n", said)
+        for wrong in ("-1", "x"):
+            _, said = run("page", self.filed, "--out", self.folder + "/p.html", "--most", wrong, status=2)
+            self.assertIn(f"argument --most: a number from 0 to 100000 expected, not {wrong!r}\n", said)
         out, _ = run("provision", "--help")
         self.assertIn("examples:", out)
         for option in ("--jobs", "--dry-run", "--strict", "--json", "--pattern", "--no-flush"):
@@ -608,6 +613,20 @@ class Rights(Case):
         self.assertIn("Permission denied", told)
         self.assertEqual(self.as_nobody("audit", self.filed, status=0), "1 file compared: all as filed\n")
 
+    def test_a_report_without_rights(self):
+        """The system's reason, without its number."""
+        self.put("a.call", sample("printed"))
+        run("provision", self.sent, self.filed)
+        os.chmod(os.path.join(self.filed, "report.csv"), 0)
+        os.chmod(os.path.join(self.filed, ".halivomue/lock"), 0o666)
+        where = f"{self.filed}/report.csv: Permission denied\n"
+        self.assertEqual(self.as_nobody("provision", self.sent, self.filed, status=2), "halivomue provision: " + where)
+        self.assertEqual(self.as_nobody("page", self.filed, "--out", self.folder + "/p.html", status=2)[-len(where):], where)
+        self.assertIn("report.csv: altered: Permission denied\n", self.as_nobody("audit", self.filed, status=1))
+        os.chmod(self.filed, 0o711)
+        for words in (("audit", self.filed), ("provision", self.sent, self.filed)):
+            self.assertEqual(self.as_nobody(*words, status=2), f"halivomue {words[0]}: {self.filed}: Permission denied\n")
+
     def test_a_folder_of_filed_without_rights(self):
         self.put("a/a.call", sample("printed"))
         self.put("b/b.call", sample("printed"))
@@ -803,6 +822,28 @@ class Terminal(Case):
             self.assertEqual(tree(filed), tree(self.filed + "2"))
 
 
+class Interrupted(Case):
+    """What is said by a command that is interrupted: only the run goes on where it stopped."""
+
+    def test_the_others(self):
+        self.put("a.call", sample("printed"))
+        provision_here(self.sent, self.filed)
+
+        def interrupted(*_, **__):
+            raise KeyboardInterrupt
+
+        for owner, name, words, due in (
+            (report, "Checked", ["audit", self.filed], "interrupted"),
+            (report, "Checked", ["page", self.filed, "--out", self.folder + "/p.html"], "interrupted"),
+            (provisioning, "Walk", ["provision", "--dry-run", self.sent, self.filed], "interrupted"),
+            (provisioning, "Walk", ["provision", self.sent, self.filed], "interrupted; the same command goes on where it stopped"),
+        ):
+            out, said = io.StringIO(), io.StringIO()
+            with replaced(owner, name, interrupted), contextlib.redirect_stdout(out), contextlib.redirect_stderr(said):
+                self.assertEqual(main(words), 2)
+            self.assertEqual(said.getvalue(), f"halivomue {words[0]}: {due}\n")
+
+
 class Parts(Case):
     """Smaller things."""
 
@@ -832,14 +873,21 @@ class Parts(Case):
                 file.write(whole[:length] + bytes(4096))
             list(report.entries(cut))
 
-    def test_modes_and_permissions(self):
-        self.put("a.call", sample("printed"))
-        before = os.umask(0o027)
+    def modes(self, name, umask):
+        before = os.umask(umask)
         try:
             provision_here(self.sent, self.filed)
         finally:
             os.umask(before)
-        self.assertEqual(stat.S_IMODE(os.stat(os.path.join(self.filed, "a.call")).st_mode), 0o640)
+        return {stat.S_IMODE(os.stat(os.path.join(self.filed, name + end)).st_mode) for end in ("", ".short")}
+
+    def test_modes(self):
+        """Both forms have the mode of the sent file, less what the umask takes away. Before, 0600 became 0644."""
+        for number, (mode, umask, due) in enumerate(((0o644, 0o027, 0o640), (0o600, 0o022, 0o600), (0o640, 0, 0o640), (0o666, 0, 0o666),
+                                                     (0o444, 0o022, 0o444), (0o4755, 0o022, 0o755))):
+            path = self.put(f"{number}.call", sample("printed"))
+            os.chmod(path, mode)
+            self.assertEqual(self.modes(f"{number}.call", umask), {due}, oct(mode))
 
 
 if __name__ == "__main__":
