@@ -133,5 +133,46 @@ class Script(Case):
         self.assertTrue(os.path.exists(self.at("starts")))
 
 
+class Modes(Case):
+    """`shorten` gives OUT the mode of IN, less what the umask takes away."""
+
+    def shorten(self, *words, umask=0o022):
+        done = subprocess.run([ROOT / "halivomue", *words], cwd=self.sent, capture_output=True, stdin=subprocess.DEVNULL,
+                              preexec_fn=lambda: os.umask(umask), check=False)
+        self.assertEqual(done.returncode, 0, done.stderr)
+
+    def mode(self, name):
+        return stat.S_IMODE(os.stat(os.path.join(self.sent, name)).st_mode)
+
+    def test_modes(self):
+        """Before, 0600 became 0644."""
+        for mode, umask, due in ((0o600, 0o022, 0o600), (0o640, 0o022, 0o640), (0o644, 0o022, 0o644), (0o660, 0o007, 0o660),
+                                 (0o644, 0o077, 0o600), (0o444, 0o022, 0o444)):
+            os.chmod(self.put("in.call", sample("printed")), mode)
+            self.shorten("shorten", "in.call", "out.call", umask=umask)
+            self.assertEqual(self.mode("out.call"), due, oct(mode))
+            os.unlink(os.path.join(self.sent, "out.call"))
+            self.shorten("shorten", "in.call", "in.call", umask=umask)
+            self.assertEqual(self.mode("in.call"), due, oct(mode))
+            os.unlink(os.path.join(self.sent, "in.call"))
+
+    def test_how_it_is_named(self):
+        for words in (["--words", "shorten", "-in", "out"], ["shorten", "--words", "./-in", "out"], ["--", "shorten", "-in", "out"],
+                      ["shorten", "--", "-in", "out"], ["shorten", "new\nline\n", "out"]):
+            name = words[-2]
+            if words[:2] == ["--words", "shorten"]:
+                words.insert(2, "--")
+            os.chmod(self.put(name, sample("printed")), 0o600)
+            self.shorten(*words)
+            self.assertEqual(self.mode("out"), 0o600, words)
+            os.unlink(os.path.join(self.sent, "out"))
+
+    def test_standard_input(self):
+        with open(self.put("in.call", sample("printed"))) as file:
+            subprocess.run([ROOT / "halivomue", "shorten", "-", "out"], cwd=self.sent, stdin=file, capture_output=True,
+                           preexec_fn=lambda: os.umask(0o022), check=True)
+        self.assertEqual(self.mode("out"), 0o644)
+
+
 if __name__ == "__main__":
     unittest.main()
