@@ -7,11 +7,13 @@ import io
 import os
 import signal
 import sys
-from typing import Callable, List, Optional
+from typing import IO, Callable, List, Optional
 
 from . import __version__, audit, filing, page, provisioning, report, work
 from ._library import LibraryError
+from .filer import Options
 from .filing import Failed
+from .provisioning import trimmed
 
 _PROVISION = """\
 Every procedure under SENT is filed under FILED, in the same tree: the sent bytes under the same name and
@@ -87,7 +89,7 @@ def parser() -> argparse.ArgumentParser:
 class _Lines:
     """Lines on standard output, as long as somebody reads them."""
 
-    def __init__(self, out: object) -> None:
+    def __init__(self, out: IO[str]) -> None:
         self.out = out
 
     def __call__(self, line: str) -> None:
@@ -98,9 +100,9 @@ class _Lines:
 
 
 def _provision(arguments: argparse.Namespace) -> int:
-    options = provisioning.Options(
-        os.fsencode(arguments.sent).rstrip(b"/") or b"/",
-        os.fsencode(arguments.filed).rstrip(b"/") or b"/",
+    options = Options(
+        trimmed(arguments.sent),
+        trimmed(arguments.filed),
         arguments.pattern,
         arguments.jobs,
         arguments.strict,
@@ -124,13 +126,13 @@ def _provision(arguments: argparse.Namespace) -> int:
 
 def _audit(arguments: argparse.Namespace) -> int:
     say = _Lines(sys.stdout)
-    outcome = audit.audit(os.fsencode(arguments.filed).rstrip(b"/") or b"/", arguments.jobs, say)
+    outcome = audit.audit(trimmed(arguments.filed), arguments.jobs, say)
     say(outcome.text())
     return 1 if outcome.findings else 0
 
 
 def _page(arguments: argparse.Namespace) -> int:
-    told = page.write(os.fsencode(arguments.filed).rstrip(b"/") or b"/", arguments.out, arguments.draw or ["*"], arguments.most)
+    told = page.write(trimmed(arguments.filed), arguments.out, arguments.draw or ["*"], arguments.most)
     print(told)
     return 0
 

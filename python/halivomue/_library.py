@@ -11,7 +11,7 @@ import ctypes
 import mmap
 import os
 import threading
-from typing import Any, List, Tuple, Union
+from typing import Any, List, Optional, Tuple, Union
 
 from .answers import LONGEST, ROOM, Reading, Refused, Shortening, Tidiness, is_by_addr_of, tidiness
 
@@ -98,7 +98,7 @@ class _Functions:
 
 
 _functions_lock = threading.Lock()
-_functions: Any = None
+_functions: Optional[_Functions] = None
 
 
 def functions() -> _Functions:

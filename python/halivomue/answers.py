@@ -61,7 +61,7 @@ class Refused(ValueError):
 class _Frozen:
     """Lets a frozen class with slots be pickled and copied."""
 
-    __slots__ = ()
+    __slots__: Tuple[str, ...] = ()
 
     def __reduce__(self) -> Tuple[Any, ...]:
         return type(self), tuple(getattr(self, name) for name in self.__slots__)

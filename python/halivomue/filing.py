@@ -197,7 +197,7 @@ def _whole(fd: int, length: int) -> bytes:
 def read(name: bytes, folder: Optional[Folder] = None) -> Form:
     """A file as it stands; raises `Unreadable`, also where it changes meanwhile."""
     try:
-        fd = os.open(name, _READ, dir_fd=folder and folder.fd)
+        fd = os.open(name, _READ, dir_fd=folder.fd if folder is not None else None)
         try:
             before = os.fstat(fd)
             if not stat.S_ISREG(before.st_mode):

@@ -42,6 +42,7 @@ def _word(value: Any, what: str) -> int:
 
 
 def _number(value: Any, what: str) -> int:
+    """32 bits of an integer."""
     if isinstance(value, bool) or not isinstance(value, int) or not 0 <= value < _U32:
         raise ValueError(f"{what}: a number from 0 to 4294967295 expected, not {value!r}")
     return value
@@ -59,7 +60,7 @@ def _real_bits(value: Any, what: str) -> int:
         return value
     if isinstance(value, bool) or not isinstance(value, (int, float)):
         raise ValueError(f"{what}: a float, or the bits of a NaN, expected, not {value!r}")
-    return _NAN if math.isnan(value) else struct.unpack("<Q", struct.pack("<d", value))[0]
+    return _NAN if math.isnan(value) else int.from_bytes(struct.pack("<d", value), "little")
 
 
 def _real(bits: int) -> Union[int, float]:
@@ -112,9 +113,10 @@ class Instruction:
             return _real(_real_bits(value, what))
         if sort == "list":
             return _pair(value, what)
-        if _number(value, what) > 255 and (self.kind, self.op, name) in _BYTES:
+        number = _number(value, what)
+        if number > 255 and (self.kind, self.op, name) in _BYTES:
             raise ValueError(f"{what}: a number from 0 to 255 expected, not {value!r}")
-        return value
+        return number
 
     @property
     def shape(self) -> Kind:

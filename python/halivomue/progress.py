@@ -2,16 +2,17 @@
 
 from __future__ import annotations
 
+import importlib
 import time
 from typing import IO, Any, Callable, Optional
 
 
 def _bar(total: int, out: IO[str]) -> Optional[Any]:
     try:
-        from tqdm import tqdm  # type: ignore[import-untyped]
+        tqdm = importlib.import_module("tqdm")
     except ImportError:
         return None
-    return tqdm(total=total, unit=" files", file=out, dynamic_ncols=True, leave=False)
+    return tqdm.tqdm(total=total, unit=" files", file=out, dynamic_ncols=True, leave=False)
 
 
 def _duration(seconds: float) -> str:

@@ -38,7 +38,8 @@ class Told(NamedTuple):
 
 
 class Outcome(NamedTuple):
-    """What a run came to; `done` and `kept` count the files filed now and found filed already."""
+    """What a run came to; `done` and `kept` count the files filed now and found filed already, and
+    `passed_over` those whose name doesn't match the pattern."""
 
     totals: report.Totals
     done: int
@@ -67,18 +68,15 @@ class Walk:
     def told(self, entry: names.Entry) -> Optional[Task]:
         """The task of what is found under SENT; none where it is no procedure by its name."""
         name, kind = entry
-        if kind == "file":
-            if not self.wanted(name):
-                self.passed_over += 1
-                return None
-            why = names.reserved(name)
-            return Task(FILE, name) if why is None else Task(TOLD, name, None, why)
         if kind == "empty":
             return None
-        if kind in ("link", "other") and not self.wanted(name):
+        if kind in ("file", "link", "other") and not self.wanted(name):
             self.passed_over += 1
             return None
-        return Task(TOLD, name, None, names.reserved(name) or _KINDS.get(kind, kind))
+        why = names.reserved(name)
+        if why is None and kind == "file":
+            return Task(FILE, name)
+        return Task(TOLD, name, None, _KINDS.get(kind, kind) if why is None else why)
 
     def __iter__(self) -> Iterator[Task]:
         due = next(self.earlier, None)
@@ -174,6 +172,11 @@ def _filing(options: Options, sent: Folder, filed: Folder, told: Told) -> Outcom
         lock.release()
 
 
+def trimmed(path: files.Path) -> bytes:
+    """A folder's path without slashes at its end."""
+    return os.fsencode(path).rstrip(b"/") or b"/"
+
+
 def _open_or_make(path: bytes) -> Folder:
     try:
         return Folder.top(path)
@@ -194,3 +197,35 @@ def run(options: Options, told: Told, out: IO[str]) -> Outcome:
                 return _filing(options, sent, filed, told)
         except OSError as error:
             raise Failed(filing.told(error, options.filed)) from error
+
+
+def provision(
+    sent: files.Path,
+    filed: files.Path,
+    *,
+    pattern: str = "*.call",
+    jobs: int = 1,
+    strict: bool = False,
+    dry_run: bool = False,
+    flush: bool = True,
+    json: bool = False,
+    each: Optional[Callable[[Row], None]] = None,
+) -> Outcome:
+    """Files every procedure under `sent` under `filed`, as sent and shortened, with a report, as the
+    command `python3 -m halivomue provision` does; raises `Failed` where the run itself fails.
+
+    pattern   names that are procedures, as a shell has it
+    jobs      processes; more than one only in a program without threads, since they are forked
+    strict    refuse untidy files
+    dry_run   file nothing, and write no report
+    flush     wait for the disk, so that what is filed lasts through a power cut
+    json      write report.jsonl too
+    each      called with the row of each file, in name order, once it is in the report
+
+    Where `each` raises an exception the run ends with it, and the same call takes it up again.
+    """
+    options = Options(
+        trimmed(sent), trimmed(filed), pattern=pattern, jobs=jobs, strict=strict, dry_run=dry_run, flush=flush, json=json
+    )
+    with open(os.devnull, "w") as nowhere:
+        return run(options, Told(each=each), nowhere)

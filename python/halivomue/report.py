@@ -7,7 +7,7 @@ import heapq
 import io
 import json
 from itertools import groupby
-from typing import IO, Dict, Iterator, List, NamedTuple, Optional, Tuple
+from typing import IO, Dict, Iterator, List, NamedTuple, Optional, Sequence, Tuple
 
 from . import names
 from .filing import LINE, File, lines
@@ -117,7 +117,18 @@ def keyed(line: bytes) -> Tuple[bytes, Row]:
     return names.key(name), row
 
 
-_SUMMED_AT = slice(COLUMNS.index(SUMMED[0]), COLUMNS.index(SUMMED[-1]) + 1)
+def _summed(row: Row) -> Sequence[Optional[int]]:
+    """The columns of a row that are summed."""
+    return (
+        row.instructions_sent,
+        row.instructions_short,
+        row.bytes_sent,
+        row.bytes_short,
+        row.moved,
+        row.grown,
+        row.fresh,
+        row.rescued,
+    )
 
 
 class Totals:
@@ -133,7 +144,7 @@ class Totals:
         self.answers[row.answer] = self.answers.get(row.answer, 0) + 1
         if row.filed == "yes":
             self.untidy += row.tidy == "no"
-            self._sums = [total + (value or 0) for total, value in zip(self._sums, row[_SUMMED_AT])]
+            self._sums = [total + (value or 0) for total, value in zip(self._sums, _summed(row))]
         elif row.filed == "spoiled":
             self.spoiled += 1
 

@@ -8,11 +8,9 @@ from __future__ import annotations
 
 import ctypes
 import gc
-import multiprocessing
 import os
 import signal
 from collections import deque
-from multiprocessing.connection import wait
 from typing import Any, Callable, Deque, Dict, Iterable, Iterator, List, Tuple
 
 from . import filing
@@ -27,7 +25,7 @@ _AHEAD = 8
 _PR_SET_PDEATHSIG = 1
 
 #: Work on a chunk of tasks, made in each process from its number.
-Worker = Callable[[List[Any]], List[Any]]
+Worker = Callable[[List[Any]], Any]
 
 
 def default_jobs() -> int:
@@ -100,6 +98,8 @@ def _give(link: Any, chunk: List[Any]) -> None:
 
 def _results(links: List[Any], coming: Iterator[List[Any]]) -> Iterator[Any]:
     """The results of the chunks in their order, each done by the process that has least to do."""
+    from multiprocessing.connection import wait
+
     under_way: Dict[Any, Deque[int]] = {link: deque() for link in links}
     done: Dict[int, Any] = {}
     given = due = 0
@@ -130,6 +130,9 @@ def ordered(
         for chunk in chunks(tasks, size, most):
             yield work(chunk)
         return
+    # Imported where it is used: a script that only shortens doesn't wait for it.
+    import multiprocessing
+
     context = multiprocessing.get_context("fork")
     started: List[Tuple[Any, Any]] = []
     try:
