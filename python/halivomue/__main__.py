@@ -18,8 +18,10 @@ from .provisioning import trimmed
 _PROVISION = """\
 Every procedure under SENT is filed under FILED, in the same tree: the sent bytes under the same name and
 the shortened form beside them, with .short after the name. FILED/report.csv has a line for each file and the
-totals. A file that is refused or unreadable is told and files nothing; the others go on. A run that was
-interrupted is taken up again by the same command: what is filed and unchanged isn't done again.
+totals. A file that is untidy or too large to be shortened is filed without a shortened form: only that of a
+tidy file is promised to do what the file does. A file that is refused or unreadable is told and files
+nothing; the others go on. A run that was interrupted is taken up again by the same command: what is filed
+and unchanged isn't done again.
 
 examples:
   python3 -m halivomue provision sent filed
@@ -68,7 +70,9 @@ def parser() -> argparse.ArgumentParser:
     run.add_argument("sent", metavar="SENT", help="the folder of the files as sent")
     run.add_argument("filed", metavar="FILED", help="the folder to file them in; it is made where it isn't there")
     run.add_argument("--pattern", default="*.call", metavar="P", help="names that are procedures (default: %(default)s)")
-    run.add_argument("--strict", action="store_true", help="refuse untidy files")
+    of_untidy = run.add_mutually_exclusive_group()
+    of_untidy.add_argument("--strict", action="store_true", help="refuse untidy files")
+    of_untidy.add_argument("--untidy", action="store_true", help="file shortened forms of untidy files too, though they may act differently")
     run.add_argument("--dry-run", action="store_true", help="file nothing; the report goes to standard output")
     run.add_argument("--json", action="store_true", help="write FILED/report.jsonl too, a line of JSON for each file")
     run.add_argument("--no-flush", action="store_true", help="don't wait for the disk: faster, but not safe from a power cut")
@@ -106,6 +110,7 @@ def _provision(arguments: argparse.Namespace) -> int:
         arguments.pattern,
         arguments.jobs,
         arguments.strict,
+        arguments.untidy,
         arguments.dry_run,
         not arguments.no_flush,
         arguments.json,

@@ -8,7 +8,7 @@ from typing import Callable, Iterable, Iterator, List, NamedTuple, Optional
 
 from . import _library, filing, names, report, work
 from .answers import reason
-from .filer import Both, described
+from .filer import asked, described, is_refused
 from .filing import LINE, Failed, Folder, Held, NotAFile, Unreadable
 from .progress import Progress
 from .report import Row
@@ -16,6 +16,7 @@ from .state import Lock, State, open_top
 
 _FORMS = {"sha256_sent": "the sent form is not the one that was filed", "sha256_short": "the shortened form is not the one that was filed"}
 # What is compared of a row: the digests first, since where they differ the other columns are of another file.
+_REASON = ("number", "record", "reason")
 _COMPARED = (*_FORMS, *report.COLUMNS[report.COLUMNS.index("tidy") : report.COLUMNS.index("sha256_sent")])
 
 
@@ -57,15 +58,17 @@ def _size(task: Task) -> int:
     return len(task.name) + (report.ROW_BYTES if task.row else 0)
 
 
-def _form(filed: Held, name: bytes, what: str, found: List[str]) -> Optional[bytes]:
-    """A filed form's bytes; what is wrong with it is added to `found`."""
+def _form(filed: Held, name: bytes, what: str, found: List[str], due: bool = True) -> Optional[bytes]:
+    """A filed form's bytes; what is wrong with it, or that it is there where it isn't due, is added to `found`."""
     try:
         data = filed.read(name)
     except Unreadable as error:
         found.append(f"altered: the {what} form: {error}")
         return None
-    if data is None:
+    if data is None and due:
         found.append(f"missing: the {what} form")
+    if data is not None and not due:
+        found.append(f"altered: a {what} form stands there, and by the report there is none")
     return data
 
 
@@ -76,25 +79,35 @@ def findings(filed: Held, row: Row) -> List[str]:
     found: List[str] = []
     name = names.unquote(row.name)
     sent = _form(filed, name, "sent", found)
-    short = _form(filed, name + names.SHORT, "shortened", found)
+    short = _form(filed, name + names.SHORT, "shortened", found, due=row.sha256_short != "")
     if sent is None:
         return found
-    shortening, due = _library.shortened(sent)
-    if shortening.number:
-        why = reason(shortening.number, shortening.record)
-        return [*found, f"altered: the sent form is refused {shortening.number} {shortening.record} ({why})"]
-    if short is None:
+    both = asked(sent)
+    if is_refused(both):
+        number, record = both.shortening.number, both.shortening.record
+        return [*found, f"altered: the sent form is refused {number} {record} ({reason(number, record)})"]
+    if row.sha256_short == "":
+        if both.short is not None and both.tidiness.tidy:
+            return [*found, "report: it has no shortened form in the report and has one by the library"]
+        both = both._replace(short=None)
+    elif short is None:
         return found
-    now = described(row.name, row.answer, row.filed, Both(sent, short, shortening, _library.tidied(sent)))
-    if short != due:
+    elif short != both.short:
         found.append("altered: the shortened form is not what the sent form is shortened to")
-    for column in _COMPARED:
+        both = both._replace(short=short)
+    return found + _differences(row, described(row.name, row.answer, row.filed, both), bool(found))
+
+
+def _differences(row: Row, now: Row, altered: bool) -> List[str]:
+    """What a row says otherwise than the library; of altered forms only the digests."""
+    found: List[str] = []
+    for column in (*_COMPARED, *(_REASON if row.answer == "accepted" else ())):
         told, is_now = getattr(row, column), getattr(now, column)
         if told == is_now:
             continue
         if column in _FORMS:
             found.append(f"altered: {_FORMS[column]} (its digest is not the report's)")
-        elif not found:
+        elif not found and not altered:
             found.append(f"report: {column} is {_shown(told)} in the report and {_shown(is_now)} by the library")
     return found
 
@@ -107,7 +120,8 @@ def _wrong_row(row: Row) -> Optional[str]:
     """Why no run writes such a row, if so."""
     if row.answer not in ("accepted", "refused", "unreadable", "not sent"):
         return f"there is no answer {row.answer!r}"
-    if row.filed not in ("yes", "no", "earlier", "spoiled") or (row.answer == "accepted") != (row.filed == "yes"):
+    filed_now = row.filed in ("yes", "as sent")
+    if not filed_now and row.filed not in ("no", "earlier", "spoiled") or (row.answer == "accepted") != filed_now:
         return f"{row.answer} and filed {row.filed!r} don't go together"
     if row.answer == "refused" and row.number is not None and row.reason != _reason(row):
         return "number, record and reason of the refusal don't go together"

@@ -18,6 +18,8 @@ _sha256 = hashlib.sha256
 #: report whose file isn't sent any more.
 FILE, TOLD, GONE = range(3)
 
+#: The refusal of Shorten's own: Read accepts the file, and it is too large to be shortened.
+_TOO_LARGE = 8
 #: Files that take each step together.
 _TOGETHER = 32
 
@@ -39,6 +41,7 @@ class Options(NamedTuple):
     pattern: str = "*.call"
     jobs: int = 1
     strict: bool = False
+    untidy: bool = False
     dry_run: bool = False
     flush: bool = True
     json: bool = False
@@ -56,18 +59,65 @@ class Done(NamedTuple):
 
 
 class Both(NamedTuple):
-    """The two forms of a file that is accepted, the library's answers, and the mode that the forms get."""
+    """The two forms of a file that is accepted, the library's answers, and the mode that the forms get.
+    There is no shortened form of a file that is too large, or untidy where that is not wanted."""
 
     sent: bytes
-    short: bytes
+    short: Optional[bytes]
     shortening: Any
     tidiness: Any
     mode: int = 0o666
 
 
+def asked(sent: bytes) -> Both:
+    """What the library makes of a file; nothing of a refused one can be used but `shortening`."""
+    shortening, short = _library.shortened(sent)
+    if shortening.number not in (0, _TOO_LARGE):
+        return Both(sent, None, shortening, None)
+    return Both(sent, None if shortening.number else short, shortening, _library.tidied(sent))
+
+
+def is_refused(both: Both) -> bool:
+    """Does Read refuse it?"""
+    return both.tidiness is None
+
+
+def filed_as(sent: Optional[bytes], short: Optional[bytes]) -> Optional[Both]:
+    """What is filed, where a run files such forms: both, or the sent one alone if it is too large or untidy."""
+    if sent is None:
+        return None
+    both = asked(sent)
+    if is_refused(both):
+        return None
+    if short is None and not both.tidiness.tidy:
+        return both._replace(short=None)
+    return both if short == both.short else None
+
+
+def without_short(name: str, answer: str, filed: str, both: Both) -> Row:
+    """The row of a file that is filed as sent alone, with the reason."""
+    sent, tidiness, number = both.sent, both.tidiness, both.shortening.number or None
+    why = reason(_TOO_LARGE) if number else untidy_reason(tidiness.reg, is_by_addr_of(sent, tidiness.reg))
+    return Row(
+        name,
+        answer,
+        number,
+        0 if number else None,
+        why,
+        filed,
+        "yes" if tidiness.tidy else "no",
+        None if tidiness.tidy else tidiness.reg,
+        instructions_sent=sent[::32].count(4),
+        bytes_sent=len(sent),
+        sha256_sent=_sha256(sent).hexdigest(),
+    )
+
+
 def described(name: str, answer: str, filed: str, both: Both) -> Row:
-    """The row of a filed file, from its two forms and the library's answers."""
+    """The row of a filed file, from its forms and the library's answers."""
     sent, short, shortening, tidiness, _ = both
+    if short is None:
+        return without_short(name, answer, "as sent" if filed == "yes" else filed, both)
     return Row(
         name,
         answer,
@@ -91,9 +141,12 @@ def described(name: str, answer: str, filed: str, both: Both) -> Row:
 
 
 def line_of(row: Row) -> str:
-    """What is printed of a file; nothing of one that is filed now."""
+    """What is printed of a file; nothing of one that is filed with its shortened form."""
     if row.filed == "yes":
         return ""
+    if row.filed == "as sent":
+        numbers = "" if row.number is None else f", refused {row.number} {row.record}"
+        return f"{row.name}: filed without a shortened form{numbers} ({row.reason})"
     spoiled = "; what is filed under this name is not as a run files it" if row.filed == "spoiled" else ""
     if row.answer == "refused":
         numbers = "" if row.number is None else f" {row.number} {row.record}"
@@ -161,7 +214,8 @@ class Filer:
     """Does tasks, chunk after chunk, in one process."""
 
     def __init__(self, options: Options, sent: Folder, filed: Optional[Folder], number: int) -> None:
-        self.strict, self.dry_run, self.flush = options.strict, options.dry_run, options.flush
+        self.strict, self.untidy = options.strict, options.untidy
+        self.dry_run, self.flush = options.dry_run, options.flush
         self.resumed = options.resumed
         self.temporary = b"%s.%d.sent.tmp" % (names.OWN, number), b"%s.%d.short.tmp" % (names.OWN, number)
         self.source, self.kept, self.target = Held(sent), Held(filed), Target(filed, options.flush)
@@ -214,21 +268,22 @@ class Filer:
         return form
 
     def shorten(self, task: Task, form: Form) -> Union[Row, Both]:
-        """Both forms, or the row of a file that is refused."""
-        sent = form.data
-        shortening, short = _library.shortened(sent)
-        if shortening.number:
-            number, record = shortening.number, shortening.record
+        """What is to be filed, or the row of a file that is refused."""
+        both = asked(form.data)
+        if is_refused(both):
+            number, record = both.shortening.number, both.shortening.record
             return self.unfiled(task.name, "refused", reason(number, record), number, record)
-        tidiness = _library.tidied(sent)
-        if self.strict and not tidiness.tidy:
-            why = untidy_reason(tidiness.reg, is_by_addr_of(sent, tidiness.reg))
-            return self.unfiled(task.name, "refused", why + " (--strict)")
-        return Both(sent, short, shortening, tidiness, form.mode)
+        if not both.tidiness.tidy:
+            if self.strict:
+                why = untidy_reason(both.tidiness.reg, is_by_addr_of(form.data, both.tidiness.reg))
+                return self.unfiled(task.name, "refused", why + " (--strict)")
+            if not self.untidy:
+                both = both._replace(short=None)
+        return both._replace(mode=form.mode)
 
     def file(self, task: Task, both: Both) -> Union[Row, Both]:
-        """Both forms, which are filed now, or the row of a file that can't be."""
-        if self.resumed and self.there(task.name, both.sent, both.short):
+        """What is filed now, or the row of a file that can't be."""
+        if (self.resumed or task.earlier is not None and both.short is None) and self.there(task.name, both):
             return both
         if not self.dry_run:
             try:
@@ -239,8 +294,10 @@ class Filer:
         return both
 
     def stands(self, name: bytes, sent: bytes, earlier: Row) -> bool:
-        """Was this file filed before, and are both forms still there as they were filed?"""
-        if earlier.answer != "accepted" or self.strict and earlier.tidy != "yes":
+        """Was this file filed before as it would be now, and is it still there as it was filed?"""
+        if earlier.answer != "accepted" or earlier.filed != "yes":
+            return False
+        if earlier.tidy != "yes" and (self.strict or not self.untidy):
             return False
         if _sha256(sent).hexdigest() != earlier.sha256_sent:
             return False
@@ -250,22 +307,26 @@ class Filer:
         except Unreadable:
             return False
 
-    def there(self, name: bytes, sent: bytes, short: bytes) -> bool:
-        """Did an interrupted run file both forms, and not come to write their row?"""
+    def there(self, name: bytes, both: Both) -> bool:
+        """Is what would be filed there already?"""
         try:
-            return self.kept.read(name) == sent and self.kept.read(name + names.SHORT) == short
+            return self.kept.read(name) == both.sent and self.kept.read(name + names.SHORT) == both.short
         except Unreadable:
             return False
 
     def put(self, name: bytes, both: Both) -> None:
-        """Puts both forms, each at once; the shortened one first, since its name is the longer. They have
-        the mode of the sent file, less what the umask takes away."""
+        """Puts the forms, each at once; the shortened one first, since its name is the longer. They have
+        the mode of the sent file, less what the umask takes away. A shortened form that isn't due any
+        more is removed."""
         folder, base = self.target.at(name)
         of_short = base + names.SHORT
         if base in self.target.folders or of_short in self.target.folders:
             raise Unreadable("cannot be filed: " + os.strerror(errno.EISDIR))
         new_sent, new_short = self.temporary
-        filing.write(((of_short, new_short, both.short), (base, new_sent, both.sent)), self.flush, folder, both.mode)
+        if both.short is None:
+            filing.write(((base, new_sent, both.sent),), self.flush, folder, both.mode, (of_short,))
+        else:
+            filing.write(((of_short, new_short, both.short), (base, new_sent, both.sent)), self.flush, folder, both.mode)
 
     def unfiled(
         self, name: bytes, answer: str, why: str = "", number: Optional[int] = None, record: Optional[int] = None
@@ -280,9 +341,7 @@ class Filer:
                 return row
         except Unreadable:
             return row if self.kept.is_folder(name) else row._replace(filed="spoiled")
-        if sent is not None:
-            shortening, due = _library.shortened(sent)
-            if shortening.number == 0 and due == short:
-                of_filed = described(row.name, answer, "earlier", Both(sent, due, shortening, _library.tidied(sent)))
-                return of_filed._replace(number=number, record=record, reason=why)
-        return row._replace(filed="spoiled")
+        both = filed_as(sent, short)
+        if both is None:
+            return row._replace(filed="spoiled")
+        return described(row.name, answer, "earlier", both)._replace(number=number, record=record, reason=why)

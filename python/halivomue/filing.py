@@ -239,13 +239,18 @@ def _stage(temporary: bytes, data: bytes, flush: bool, at: int, mode: int) -> No
         os.close(fd)
 
 
-def write(files: Sequence[Tuple[bytes, bytes, bytes]], flush: bool, folder: Folder, mode: int = 0o666) -> None:
+def write(
+    files: Sequence[Tuple[bytes, bytes, bytes]], flush: bool, folder: Folder, mode: int = 0o666, gone: Sequence[bytes] = ()
+) -> None:
     """Puts files in their places in a folder, each at once: new files beside them (name, temporary name
-    and bytes of each), flushed, then renamed over them. Where one can't be written, none is put."""
+    and bytes of each), flushed, then renamed over them. Where one can't be written, none is put. Before
+    they are renamed, others are removed where they are there."""
     at = folder.fd
     try:
         for name, temporary, data in files:
             _stage(temporary, data, flush, at, mode)
+        for name in gone:
+            _unlink(name, at)
         for name, temporary, _ in files:
             os.replace(temporary, name, src_dir_fd=at, dst_dir_fd=at)
     except OSError as error:
@@ -254,6 +259,13 @@ def write(files: Sequence[Tuple[bytes, bytes, bytes]], flush: bool, folder: Fold
         if error.errno in _OF_A_NAME:
             raise Unreadable(f"cannot be filed: {why(error)}") from error
         raise Failed(f"{os.fsdecode(os.path.join(folder.path, name))}: {why(error)}") from error
+
+
+def _unlink(name: bytes, at: int) -> None:
+    try:
+        os.unlink(name, dir_fd=at)
+    except FileNotFoundError:
+        pass
 
 
 def cannot_make(path: bytes, error: OSError) -> Exception:

@@ -65,6 +65,8 @@ def _drawing(filed: Folder, row: Row, dot: str) -> Dict[str, str]:
     """A file's two drawings and listings, packed."""
     try:
         sent, short = _forms(filed, row)
+        if sent is not None and row.filed == "as sent":
+            raise NotDrawn("it is filed without a shortened form")
         if sent is None or short is None:
             raise NotDrawn("it is not filed any more")
         both = Procedure.parse(sent), Procedure.parse(short)
@@ -79,7 +81,7 @@ def _drawing(filed: Folder, row: Row, dot: str) -> Dict[str, str]:
 
 
 def _wanted(row: Row, patterns: Sequence[str]) -> bool:
-    return row.filed in ("yes", "earlier") and any(fnmatch.fnmatchcase(row.name, pattern) for pattern in patterns)
+    return row.filed in ("yes", "as sent", "earlier") and any(fnmatch.fnmatchcase(row.name, pattern) for pattern in patterns)
 
 
 def _in_order(calls: Iterator[Any], jobs: int) -> Iterator[Any]:

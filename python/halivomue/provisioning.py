@@ -206,6 +206,7 @@ def provision(
     pattern: str = "*.call",
     jobs: int = 1,
     strict: bool = False,
+    untidy: bool = False,
     dry_run: bool = False,
     flush: bool = True,
     json: bool = False,
@@ -217,6 +218,7 @@ def provision(
     pattern   names that are procedures, as a shell has it
     jobs      processes; more than one only in a program without threads, since they are forked
     strict    refuse untidy files
+    untidy    file shortened forms of untidy files too, though nothing is promised of what they do
     dry_run   file nothing, and write no report
     flush     wait for the disk, so that what is filed lasts through a power cut
     json      write report.jsonl too
@@ -224,8 +226,8 @@ def provision(
 
     Where `each` raises an exception the run ends with it, and the same call takes it up again.
     """
-    options = Options(
-        trimmed(sent), trimmed(filed), pattern=pattern, jobs=jobs, strict=strict, dry_run=dry_run, flush=flush, json=json
-    )
+    if strict and untidy:
+        raise ValueError("strict and untidy don't go together")
+    options = Options(trimmed(sent), trimmed(filed), pattern, jobs, strict, untidy, dry_run, flush, json)
     with open(os.devnull, "w") as nowhere:
         return run(options, Told(each=each), nowhere)

@@ -17,8 +17,10 @@ class Row(NamedTuple):
     """What the run did with a file; None where a column doesn't apply.
 
     answer   accepted, refused, unreadable, or `not sent` for what an earlier run filed
-    number   of a refusal by the library; none where the run refuses an untidy file (--strict)
-    filed    yes; no; earlier (what an earlier run filed stands there); spoiled (something else does)
+    number   of a refusal by the library; none where the run refuses an untidy file (--strict),
+             or where there is no shortened form since the file is too large (8)
+    filed    yes, with its shortened form; as sent, without one; no; earlier (what an earlier run filed
+             stands there); spoiled (something else does)
 
     From `tidy` on the columns are of what is filed.
     """
@@ -132,18 +134,20 @@ def _summed(row: Row) -> Sequence[Optional[int]]:
 
 
 class Totals:
-    """Sums over the rows of a report."""
+    """Sums over the rows of a report; the columns are summed over what is filed with its shortened form."""
 
     def __init__(self) -> None:
         self.answers: Dict[str, int] = {"accepted": 0, "refused": 0, "unreadable": 0, "not sent": 0}
         self._sums: List[int] = [0] * len(SUMMED)
         self.untidy = 0
+        self.as_sent = 0
         self.spoiled = 0
 
     def add(self, row: Row) -> None:
         self.answers[row.answer] = self.answers.get(row.answer, 0) + 1
+        self.untidy += row.tidy == "no" and row.answer == "accepted"
+        self.as_sent += row.filed == "as sent"
         if row.filed == "yes":
-            self.untidy += row.tidy == "no"
             self._sums = [total + (value or 0) for total, value in zip(self._sums, _summed(row))]
         elif row.filed == "spoiled":
             self.spoiled += 1
@@ -154,6 +158,7 @@ class Totals:
             self.answers[answer] = self.answers.get(answer, 0) + count
         self._sums = [total + value for total, value in zip(self._sums, other._sums)]
         self.untidy += other.untidy
+        self.as_sent += other.as_sent
         self.spoiled += other.spoiled
 
     @property
@@ -172,6 +177,7 @@ class Totals:
     def answers_text(self) -> str:
         told = [f"{self.answers[name]} {name}" for name in ("accepted", "refused", "unreadable")]
         told += [f"{self.untidy} untidy"] if self.untidy else []
+        told += [f"{self.as_sent} without a shortened form"] if self.as_sent else []
         told += [f"{self.answers['not sent']} not sent any more"] if self.answers["not sent"] else []
         told += [f"{self.spoiled} spoiled"] if self.spoiled else []
         return f"{counted(self.files)}: {', '.join(told)}"

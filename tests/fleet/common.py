@@ -1,6 +1,7 @@
 """What the tests of the fleet level share."""
 
 import contextlib
+import csv
 import hashlib
 import os
 import pathlib
@@ -66,6 +67,12 @@ def lines_of(folder, name="report.csv"):
         return file.read().splitlines()
 
 
+def rows_of(folder):
+    """The rows of a report by their names, the totals under none."""
+    with open(os.path.join(folder, "report.csv"), encoding="utf-8", newline="") as file:
+        return {row["name"]: row for row in csv.DictReader(file)}
+
+
 class Case(unittest.TestCase):
     """A test with a folder of its own."""
 
@@ -124,4 +131,4 @@ def in_child(work):
 
 
 __all__ = ["Case", "HERE", "PROGRAM", "REFERENCE", "ROOT", "SAMPLES", "halivomue", "in_child", "lines_of", "provision_here",
-           "provisioning", "replaced", "run", "sample", "tree", "unittest"]
+           "provisioning", "replaced", "rows_of", "run", "sample", "tree", "unittest"]

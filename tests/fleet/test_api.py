@@ -25,7 +25,7 @@ class Provision(Case):
             self.assertEqual(tree(self.filed + str(number)), tree(self.filed))
             self.assertEqual([tuple("" if value is None else str(value) for value in row) for row in rows],
                              [tuple(row) for row in csv.reader(lines_of(self.filed)[1:-1])])
-            self.assertEqual((outcome.done, outcome.totals.files, outcome.kept), (sum(row.filed == "yes" for row in rows), len(rows), 0))
+            self.assertEqual((outcome.done, outcome.totals.files, outcome.kept), (sum(row.answer == "accepted" for row in rows), len(rows), 0))
 
     def test_options(self):
         self.samples()
