@@ -1,4 +1,4 @@
-"""The commands: provision, audit and page."""
+"""The commands: provision, audit and page; read, tidy, list and shorten."""
 
 from __future__ import annotations
 
@@ -9,7 +9,7 @@ import signal
 import sys
 from typing import IO, Callable, List, Optional
 
-from . import __version__, audit, filing, page, provisioning, report, work
+from . import __version__, asking, audit, filing, page, provisioning, report, work
 from ._library import LibraryError
 from .filer import Options
 from .filing import Failed
@@ -50,6 +50,37 @@ examples:
 ends with 0, or 2 where the page could not be made"""
 
 
+_ASK = {
+    "read": "of each file: accepted, or refused, number and record",
+    "tidy": "of each file: yes, or no and the lowest offending register, or refused",
+    "list": "of each file: counts, registers, blocks and code of its shortened form, or refused",
+}
+_ASK_MORE = """\
+The answers are those of the program `halivomue {command}`. With --json each is a line of JSON: name, answer
+(accepted, refused or unreadable), number, record and reason of a refusal{more}. A name is quoted as in a report.
+
+example:
+  python3 -m halivomue {command} --json *.call
+
+ends with 0; 1 where a file is refused or can't be read; 2 where the command failed"""
+_ASK_JSON = {
+    "read": "",
+    "tidy": ", tidy (true or false), reg",
+    "list": ", the four counts, registers (types), blocks (start, end), code (kind, op, statement, p1 to p6)",
+}
+
+_SHORTEN = """\
+Writes the shortened form of IN to the file OUT, or of each IN into the folder OUT, under the same name: whole or
+not at all, with the mode of IN, less what the umask takes away. A symbolic link, a device or a pipe isn't
+replaced.
+
+examples:
+  python3 -m halivomue shorten lift-7.call short.call
+  python3 -m halivomue shorten --json north/*.call shortened/
+
+ends with 0; 1 where a file is refused, or can't be read or written; 2 where the command failed"""
+
+
 def _number(least: int, most: int) -> Callable[[str], int]:
     """Reads an option's number."""
 
@@ -87,7 +118,22 @@ def parser() -> argparse.ArgumentParser:
     show.add_argument("--out", required=True, metavar="FILE", help="the page")
     show.add_argument("--draw", action="append", metavar="P", help="names to be drawn (default: all)")
     show.add_argument("--most", type=_number(0, 100_000), default=300, metavar="N", help="files to be drawn at most (default: %(default)s)")
+    _add_asking(commands)
     return top
+
+
+def _add_asking(commands: "argparse._SubParsersAction[argparse.ArgumentParser]") -> None:
+    raw = argparse.RawDescriptionHelpFormatter
+    for name, what in _ASK.items():
+        more = _ASK_MORE.format(command=name, more=_ASK_JSON[name])
+        asking_for = commands.add_parser(name, help=what, epilog=more, formatter_class=raw)
+        asking_for.add_argument("files", nargs="*", metavar="FILE", help="- or none at all is standard input")
+    short = commands.add_parser("shorten", help="write shortened forms", epilog=_SHORTEN, formatter_class=raw)
+    short.add_argument("files", nargs="+", metavar="IN", help="a procedure's file; - is standard input")
+    short.add_argument("out", metavar="OUT", help="a file, or a folder")
+    for command in (*_ASK, "shorten"):
+        commands.choices[command].add_argument("--words", action="store_true", help="what the numbers mean, beside them")
+        commands.choices[command].add_argument("--json", action="store_true", help="a line of JSON for each file")
 
 
 class _Lines:
@@ -142,6 +188,13 @@ def _page(arguments: argparse.Namespace) -> int:
     return 0
 
 
+def _ask(arguments: argparse.Namespace) -> int:
+    asked = asking.Asked(arguments.command, arguments.words, arguments.json)
+    if arguments.command == "shorten":
+        return asking.shorten(asked, [*arguments.files, arguments.out])
+    return asking.ask(asked, arguments.files)
+
+
 class _Stopped(Exception):
     pass
 
@@ -157,7 +210,7 @@ def main(words: Optional[List[str]] = None) -> int:
             stream.reconfigure(encoding="utf-8", errors="backslashreplace")
     signal.signal(signal.SIGTERM, _stop)
     try:
-        return {"provision": _provision, "audit": _audit, "page": _page}[arguments.command](arguments)
+        return {"provision": _provision, "audit": _audit, "page": _page}.get(arguments.command, _ask)(arguments)
     except (Failed, LibraryError) as error:
         why = str(error)
     except (KeyboardInterrupt, _Stopped):

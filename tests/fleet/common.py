@@ -28,8 +28,9 @@ def run(*words, status=0, **more):
     """A command of the package in a process of its own; its output and what it said on standard error."""
     environment = dict(os.environ, PYTHONPATH=str(ROOT / "python"), PYTHONDONTWRITEBYTECODE="1", LC_ALL="C.UTF-8")
     environment.update(more.pop("env", {}))
-    done = subprocess.run([sys.executable, "-m", "halivomue", *words], stdin=subprocess.DEVNULL, capture_output=True,
-                          env=environment, timeout=120, check=False, **more)
+    more.setdefault("stdin", subprocess.DEVNULL)
+    done = subprocess.run([sys.executable, "-m", "halivomue", *words], capture_output=True, env=environment,
+                          timeout=120, check=False, **more)
     if done.returncode != status:
         raise AssertionError(f"{words}: status {done.returncode}, not {status}:\n{done.stdout.decode()}{done.stderr.decode()}")
     return done.stdout.decode("utf-8", "surrogateescape"), done.stderr.decode("utf-8", "surrogateescape")
