@@ -11,9 +11,9 @@ import ctypes
 import mmap
 import os
 import threading
-from typing import Any, List, Tuple, Union
+from typing import Any, List, Optional, Tuple, Union
 
-from .answers import LONGEST, ROOM, Reading, Refused, Shortening, Tidiness
+from .answers import LONGEST, ROOM, Reading, Refused, Shortening, Tidiness, is_by_addr_of, tidiness
 
 #: What a file's bytes may be given as.
 Data = Union[bytes, bytearray, memoryview, mmap.mmap]
@@ -98,7 +98,7 @@ class _Functions:
 
 
 _functions_lock = threading.Lock()
-_functions: Any = None
+_functions: Optional[_Functions] = None
 
 
 def functions() -> _Functions:
@@ -160,7 +160,9 @@ def tidied(data: Data) -> Any:
 def tidy(data: Data) -> Tidiness:
     """Is this procedure tidy, so that its shortened form is promised to do what it does?"""
     answer = tidied(data)
-    return Tidiness(answer.number, answer.record, answer.tidy == 1, answer.reg)
+    untidy = answer.number == 0 and answer.tidy == 0
+    by_addr_of = untidy and is_by_addr_of(memoryview(data).cast("B"), answer.reg)
+    return tidiness(answer.number, answer.record, answer.tidy == 1, answer.reg, by_addr_of)
 
 
 def shortened(data: Data) -> Tuple[Any, bytes]:

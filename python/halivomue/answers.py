@@ -3,6 +3,7 @@
 from __future__ import annotations
 
 from dataclasses import dataclass
+from typing import Any, Tuple
 
 #: Bytes of room in which every shortened form fits.
 ROOM = 61_728
@@ -30,9 +31,18 @@ def reason(number: int, record: int = 0) -> str:
     return _REASONS[number].format(record) if number else ""
 
 
-def untidy_reason(reg: int) -> str:
-    """What an untidy register means, in words."""
+def untidy_reason(reg: int, by_addr_of: bool = False) -> str:
+    """What an untidy register means, in the words of `halivomue --words`."""
+    if by_addr_of:
+        return f"register {reg} is written once, by an AddrOf, and read before it in its block or in a block that leads there"
     return f"register {reg} is written once, and read elsewhere than later in the same block"
+
+
+def is_by_addr_of(data: "bytes | memoryview", reg: int) -> bool:
+    """Is the register that offends in an accepted file written by an AddrOf? One field alone writes it."""
+    record = b"\x04\x03"
+    register = reg.to_bytes(4, "little")
+    return any(data[at : at + 2] == record and data[at + 8 : at + 12] == register for at in range(0, len(data), RECORD))
 
 
 class Refused(ValueError):
@@ -51,19 +61,23 @@ class Refused(ValueError):
 class _Frozen:
     """Lets a frozen class with slots be pickled and copied."""
 
-    __slots__ = ()
+    __slots__: Tuple[str, ...] = ()
 
-    def __reduce__(self):
+    def __reduce__(self) -> Tuple[Any, ...]:
         return type(self), tuple(getattr(self, name) for name in self.__slots__)
 
 
 @dataclass(frozen=True)
 class Reading(_Frozen):
-    """The answer of `read`: 0 and 0 where the file is accepted, else the refusal and its record."""
+    """The answer of `read`: 0 and 0 where the file is accepted, else the refusal and its record. It is
+    true where the file is accepted."""
 
     __slots__ = ("number", "record")
     number: int
     record: int
+
+    def __bool__(self) -> bool:
+        return self.accepted
 
     @property
     def accepted(self) -> bool:
@@ -78,13 +92,23 @@ class Reading(_Frozen):
 @dataclass(frozen=True)
 class Tidiness(_Frozen):
     """The answer of `tidy`: number and record as `read` gives them, and of an accepted file
-    whether it is tidy; `reg` is the lowest register that offends where it isn't, else 0."""
+    whether it is tidy; `reg` is the lowest register that offends where it isn't, else 0. It is true
+    where the file is accepted and tidy."""
 
-    __slots__ = ("number", "record", "tidy", "reg")
+    __slots__ = ("number", "record", "tidy", "reg", "_by_addr_of")
     number: int
     record: int
     tidy: bool
     reg: int
+
+    def __post_init__(self) -> None:
+        object.__setattr__(self, "_by_addr_of", False)
+
+    def __reduce__(self) -> Tuple[Any, ...]:
+        return tidiness, (self.number, self.record, self.tidy, self.reg, getattr(self, "_by_addr_of"))
+
+    def __bool__(self) -> bool:
+        return self.tidy
 
     @property
     def accepted(self) -> bool:
@@ -95,7 +119,14 @@ class Tidiness(_Frozen):
         """The refusal, or what offends, in words; empty where the file is tidy."""
         if self.number or self.tidy:
             return reason(self.number, self.record)
-        return untidy_reason(self.reg)
+        return untidy_reason(self.reg, getattr(self, "_by_addr_of"))
+
+
+def tidiness(number: int, record: int, tidy: bool, reg: int, by_addr_of: bool) -> Tidiness:
+    """An answer that knows for its `reason` whether an AddrOf writes the register that offends."""
+    answer = Tidiness(number, record, tidy, reg)
+    object.__setattr__(answer, "_by_addr_of", by_addr_of)
+    return answer
 
 
 @dataclass(frozen=True)

@@ -4,17 +4,29 @@ from __future__ import annotations
 
 import os
 import sys
-from typing import Callable, Iterator, List, NamedTuple, Optional
+from typing import Callable, Iterable, Iterator, List, NamedTuple, Optional
 
 from . import _library, causes, filing, names, report, work
-from .filing import Failed, Unreadable
+from .filer import asked, described, is_refused
+from .filing import LINE, Failed, Folder, Held, NotAFile, Unreadable
 from .progress import Progress
-from .provision import Lock, State, described
 from .report import Row
+from .state import Lock, State, open_top
 
 _FORMS = {"sha256_sent": "the sent form is not the one that was filed", "sha256_short": "the shortened form is not the one that was filed"}
 # What is compared of a row: the digests first, since where they differ the other columns are of another file.
+_REASON = ("number", "record", "reason")
 _COMPARED = (*_FORMS, *report.COLUMNS[report.COLUMNS.index("tidy") : report.COLUMNS.index("sha256_sent")])
+
+
+#: What is said of what no report has.
+_KINDS = {
+    "file": "no report has it",
+    "link": "a symbolic link",
+    "link to a folder": "a symbolic link",
+    "other": "no regular file",
+    "empty": "an empty folder",
+}
 
 
 class Task(NamedTuple):
@@ -45,44 +57,56 @@ def _size(task: Task) -> int:
     return len(task.name) + (report.ROW_BYTES if task.row else 0)
 
 
-def _form(path: bytes, what: str, found: List[str]) -> Optional[bytes]:
-    """A filed form's bytes; what is wrong with it is added to `found`."""
+def _form(filed: Held, name: bytes, what: str, found: List[str], due: bool = True) -> Optional[bytes]:
+    """A filed form's bytes; what is wrong with it, or that it is there where it isn't due, is added to `found`."""
     try:
-        data = filing.read_if_there(path)
+        data = filed.read(name)
     except Unreadable as error:
         found.append(f"altered: the {what} form: {error}")
         return None
-    if data is None:
+    if data is None and due:
         found.append(f"missing: the {what} form")
+    if data is not None and not due:
+        found.append(f"altered: a {what} form stands there, and by the report there is none")
     return data
 
 
-def findings(filed: bytes, row: Row) -> List[str]:
+def findings(filed: Held, row: Row) -> List[str]:
     """What is wrong with the files of a row, or with the row."""
     if row.filed == "spoiled":
         return ["altered: the run found there what no run had filed"]
     found: List[str] = []
-    path = os.path.join(filed, names.unquote(row.name))
-    sent = _form(path, "sent", found)
-    short = _form(path + names.SHORT, "shortened", found)
+    name = names.unquote(row.name)
+    sent = _form(filed, name, "sent", found)
+    short = _form(filed, name + names.SHORT, "shortened", found, due=row.sha256_short != "")
     if sent is None:
         return found
-    shortening, due = _library.shortened(sent)
-    if shortening.number:
-        why = causes.reason(sent, shortening.number, shortening.record)
-        return [*found, f"altered: the sent form is refused {shortening.number} {shortening.record} ({why})"]
-    if short is None:
+    both = asked(sent)
+    if is_refused(both):
+        number, record = both.shortening.number, both.shortening.record
+        return [*found, f"altered: the sent form is refused {number} {record} ({causes.reason(sent, number, record)})"]
+    if row.sha256_short == "":
+        if both.short is not None and both.tidiness.tidy:
+            return [*found, "report: it has no shortened form in the report and has one by the library"]
+        both = both._replace(short=None)
+    elif short is None:
         return found
-    now = described(row.name, row.answer, row.filed, sent, short, shortening, _library.tidied(sent))
-    if short != due:
+    elif short != both.short:
         found.append("altered: the shortened form is not what the sent form is shortened to")
-    for column in _COMPARED:
+        both = both._replace(short=short)
+    return found + _differences(row, described(row.name, row.answer, row.filed, both), bool(found))
+
+
+def _differences(row: Row, now: Row, altered: bool) -> List[str]:
+    """What a row says otherwise than the library; of altered forms only the digests."""
+    found: List[str] = []
+    for column in (*_COMPARED, *(_REASON if row.answer == "accepted" else ())):
         told, is_now = getattr(row, column), getattr(now, column)
         if told == is_now:
             continue
         if column in _FORMS:
             found.append(f"altered: {_FORMS[column]} (its digest is not the report's)")
-        elif not found:
+        elif not found and not altered:
             found.append(f"report: {column} is {_shown(told)} in the report and {_shown(is_now)} by the library")
     return found
 
@@ -93,12 +117,10 @@ def _shown(value: object) -> str:
 
 def _wrong_row(row: Row) -> Optional[str]:
     """Why no run writes such a row, if so."""
-    name = names.unquote(row.name)
-    if not names.proper(name) or names.quote(name) != row.name:
-        return "no name of a file"
     if row.answer not in ("accepted", "refused", "unreadable", "not sent"):
         return f"there is no answer {row.answer!r}"
-    if row.filed not in ("yes", "no", "earlier", "spoiled") or (row.answer == "accepted") != (row.filed == "yes"):
+    filed_now = row.filed in ("yes", "as sent")
+    if not filed_now and row.filed not in ("no", "earlier", "spoiled") or (row.answer == "accepted") != filed_now:
         return f"{row.answer} and filed {row.filed!r} don't go together"
     if row.answer == "refused" and row.number is not None and not causes.fits(row.number, row.record or 0, row.reason):
         return "number, record and reason of the refusal don't go together"
@@ -114,7 +136,7 @@ def _base(name: bytes) -> bytes:
     return name[: -len(names.SHORT)] if name.endswith(names.SHORT) else name
 
 
-def tasks(filed: bytes, rows: Iterator[Row]) -> Iterator[Task]:
+def tasks(filed: Folder, rows: Iterator[Row]) -> Iterator[Task]:
     """The rows and what else is found under FILED, in name order."""
     keyed = ((names.unquote(row.name), row) for row in rows)
     due = next(keyed, None)
@@ -136,77 +158,104 @@ def tasks(filed: bytes, rows: Iterator[Row]) -> Iterator[Task]:
 def _foreign(name: bytes, kind: str) -> str:
     if os.path.basename(name).startswith(names.OWN) or name.startswith(names.OWN + b"/"):
         return "foreign: left over by a run that was interrupted; start it again"
-    kinds = {"file": "no report has it", "link": "a symbolic link", "other": "no regular file", "empty": "an empty folder"}
-    return f"foreign: {kinds.get(kind, 'a folder that cannot be read: ' + kind)}"
+    return f"foreign: {_KINDS.get(kind, 'a folder that cannot be read: ' + kind)}"
 
 
-def _json_differs(state: State, rows: Iterator[Row], wrong: List[str]) -> Iterator[Row]:
+def _json_differs(state: State, rows: Iterable[Row], wrong: List[str]) -> Iterator[Row]:
     """Hands the rows on, and holds the report in JSON to them where there is one."""
     try:
-        file = open(state.report_json, encoding="utf-8", errors="surrogateescape", newline="\n")
-    except FileNotFoundError:
+        stream = state.report_json.open()
+    except (FileNotFoundError, NotAFile) as error:
+        wrong += [f"altered: {error.reason}"] if isinstance(error, NotAFile) else []
         yield from rows
         return
     totals = report.Totals()
-    with file:
-        differs = False
+
+    def due(row: Row) -> bool:
+        return stream.readline(LINE) == report.json_line(row).encode()
+
+    with stream:
+        same = True
         for row in rows:
             totals.add(row)
-            differs = differs or file.readline() != report.json_line(row)
+            same = same and due(row)
             yield row
-        differs = differs or file.readline() != report.json_line(totals.row()) or file.read(1) != ""
-    if differs:
-        wrong.append("report.jsonl: report: it differs from report.csv")
+        if not (same and due(totals.row()) and stream.read(1) == b""):
+            wrong.append("report: it differs from report.csv")
 
 
 def audit(filed: bytes, jobs: int, say: Callable[[str], None]) -> Outcome:
     """Compares everything under FILED; each finding is told by `say`. Raises `Failed`."""
-    try:
-        os.scandir(filed).close()
-    except OSError as error:
-        raise Failed(f"{os.fsdecode(filed)}: {filing.why(error)}") from error
-    _library.functions()
     outcome = Outcome()
-    lock = Lock(filed, shared=True)
-    try:
-        _compare(filed, jobs, outcome, say)
-    except OSError as error:
-        raise Failed(str(error)) from error
-    finally:
-        lock.release()
+    with open_top(filed) as top:
+        _library.functions()
+        lock = Lock(top, shared=True)
+        try:
+            _compare(top, jobs, outcome, say)
+        except OSError as error:
+            raise Failed(filing.told(error, filed)) from error
+        finally:
+            lock.release()
     return outcome
 
 
-def _compare(filed: bytes, jobs: int, outcome: Outcome, say: Callable[[str], None]) -> None:
+def _compare(filed: Folder, jobs: int, outcome: Outcome, say: Callable[[str], None]) -> None:
     def tell(name: str, finding: str) -> None:
         outcome.kinds[finding.partition(":")[0]] += 1
         progress.clear()
         say(f"{name}: {finding}")
 
     def make(number: int) -> work.Worker:
-        return lambda chunk: [_checked(filed, task) for task in chunk]
+        return lambda chunk: _checked_all(filed, chunk)
 
     state = State(filed)
-    with Progress(sys.stderr, lambda: sum(1 for _ in report.rows(state.report))) as progress:
-        if not os.path.isfile(state.report):
-            tell("report.csv", "missing: the report; start the run again")
+    with Progress(sys.stderr, lambda: _count(state)) as progress:
+        unusable = _unusable(state)
+        if unusable:
+            tell("report.csv", unusable)
             return
-        rows, wrong = report.checked(state.report)
+        checked = report.Checked(state.report)
         wrong_json: List[str] = []
-        all_tasks = tasks(filed, _json_differs(state, rows, wrong_json))
+        all_tasks = tasks(filed, _json_differs(state, checked, wrong_json))
         for chunk in work.ordered(all_tasks, make, jobs, _size):
             for name, compared, found in chunk:
                 outcome.compared += compared
                 for finding in found:
                     tell(name, finding)
             progress.add(len(chunk))
-        for text in wrong:
+        for text in checked.wrong:
             tell("report.csv", "report: " + text)
         for text in wrong_json:
-            tell(*text.split(": ", 1))
+            tell("report.jsonl", text)
 
 
-def _checked(filed: bytes, task: Task) -> "tuple[str, int, List[str]]":
+def _unusable(state: State) -> str:
+    """Why there is no report to hold anything to, if so."""
+    try:
+        os.close(state.report.descriptor())
+    except FileNotFoundError:
+        return "missing: the report; start the run again"
+    except NotAFile as error:
+        return f"altered: {error.reason}"
+    return ""
+
+
+def _count(state: State) -> int:
+    try:
+        return sum(1 for _ in report.entries(state.report))
+    except Failed:
+        return 0
+
+
+def _checked_all(filed: Folder, chunk: List[Task]) -> "List[tuple[str, int, List[str]]]":
+    held = Held(filed)
+    try:
+        return [_checked(held, task) for task in chunk]
+    finally:
+        held.leave()
+
+
+def _checked(filed: Held, task: Task) -> "tuple[str, int, List[str]]":
     if task.row is None:
         return names.quote(task.name), 0, [task.finding]
     wrong = _wrong_row(task.row)

@@ -50,6 +50,10 @@ def arrows(p: Procedure, block: Sequence[Instruction]) -> Iterator[Arrow]:
             yield Arrow(to, label if len(label) <= _LONGEST_LABEL else f"{len(texts)} arms", _CASE)
 
 
+def unmarked(p: Procedure) -> List[Marks]:
+    return [Marks(("",) * len(block)) for block in p.blocks]
+
+
 def count_arrows(p: Procedure) -> int:
     return sum(1 for block in p.blocks for _ in arrows(p, block))
 

@@ -63,7 +63,7 @@ def main(wanted: Wanted, files: Sequence[str]) -> int:
     width = shutil.get_terminal_size((_COLUMNS, 24)).columns if sys.stdout.isatty() else _COLUMNS
     status, printed = 0, False
     for file in files:
-        name = names.quote(os.fsencode(file))
+        name = names.shown(os.fsencode(file))
         try:
             lines, refused = told(wanted, _read(file), name, max(width, 60))
         except OSError as error:

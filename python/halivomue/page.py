@@ -15,16 +15,16 @@ import time
 import zlib
 from concurrent.futures import ThreadPoolExecutor
 from itertools import islice
-from typing import Any, Dict, Iterable, Iterator, List, NamedTuple, Optional, Sequence, Tuple
+from typing import Any, Callable, Dict, Iterable, Iterator, List, NamedTuple, Optional, Sequence, Tuple
 from urllib.parse import quote_from_bytes
 
-from . import __version__, audit, diff, explain, filing, flow, names, report, styled, work
+from . import __version__, audit, diff, explain, files, filing, flow, names, report, show, styled, work
 from .answers import Refused
-from .filing import Failed, Unreadable
+from .filing import Failed, Folder, Held, Unreadable
 from .procedure import Procedure
 from .progress import Progress
-from .provision import Lock, State
 from .report import Row
+from .state import Lock, State, open_top, whole_report
 
 #: Seconds after which a drawing is given up.
 _PATIENCE = 10
@@ -77,14 +77,19 @@ def _packed(text: str) -> str:
     return base64.b64encode(zlib.compress(text.encode("utf-8"), 9)).decode("ascii")
 
 
-def _forms(filed: bytes, row: Row) -> Tuple[bytes, bytes]:
-    """Both forms of a file as they are filed; raises `NotDrawn`."""
-    path = os.path.join(filed, names.unquote(row.name))
+def _text(lines: List[styled.Line]) -> str:
+    return _packed(styled.marked_up(lines))
+
+
+def _forms(filed: Held, row: Row) -> Tuple[bytes, Optional[bytes]]:
+    """A file's forms as they are filed, both, or the sent one where that is filed alone; raises `NotDrawn`."""
+    name = names.unquote(row.name)
     try:
-        sent, short = filing.read_if_there(path), filing.read_if_there(path + names.SHORT)
+        sent = filed.read(name)
+        short = filed.read(name + names.SHORT) if row.sha256_short else None
     except Unreadable as error:
         raise NotDrawn(f"what is filed can't be read: {error}") from error
-    if sent is None or short is None:
+    if sent is None or short is None and row.sha256_short:
         raise NotDrawn("it is not filed any more")
     return sent, short
 
@@ -92,44 +97,58 @@ def _forms(filed: bytes, row: Row) -> Tuple[bytes, bytes]:
 class Artist:
     """Makes the drawings and texts of files, with dot if it is there, until the time is up."""
 
-    def __init__(self, filed: bytes, dot: Optional[str], seconds: float) -> None:
+    def __init__(self, filed: Folder, dot: Optional[str], seconds: float) -> None:
         self.filed, self.dot, self.seconds = filed, dot, seconds
         self.end = time.monotonic() + seconds
 
-    def drawing(self, c: diff.Comparison) -> Dict[str, str]:
-        """Both drawings, packed; raises `NotDrawn`."""
+    def drawings(self, forms: Sequence[Procedure], texts: Callable[[], Sequence[str]]) -> Dict[str, str]:
+        """The drawings of one form or both, packed; raises `NotDrawn`."""
         if self.dot is None:
             raise NotDrawn("dot isn't installed where this page was made (Debian: graphviz)")
-        if len(c.sent.blocks) != len(c.short.blocks):
+        if len({len(form.blocks) for form in forms}) > 1:
             raise NotDrawn("the two forms don't belong together")
-        arrows = max(flow.count_arrows(c.sent), flow.count_arrows(c.short))
+        arrows = max(map(flow.count_arrows, forms))
         if arrows > flow.MOST_ARROWS:
             raise NotDrawn(f"it has {arrows} arrows, and at most {flow.MOST_ARROWS} are drawn")
         left = self.end - time.monotonic()
         if left <= 0:
             raise NotDrawn(f"the time for all drawings, {self.seconds:g} seconds, was used up (--seconds)")
-        sent, short = _dot(self.dot, flow.graphs(c), min(_PATIENCE, left))
-        return {"sent": _packed(sent), "short": _packed(short)}
+        return dict(zip(("sent", "short"), map(_packed, _dot(self.dot, texts(), min(_PATIENCE, left)))))
+
+    def both(self, row: Row, sent: Procedure, short: Procedure, made: Dict[str, str]) -> None:
+        counts = row.moved or 0, row.grown or 0, row.fresh or 0, row.rescued or 0
+        c = diff.compare(sent, short, counts)
+        told = "moved {} grown {} fresh {} rescued {}".format(*counts)
+        made["text"] = _text(diff.lines(c, told, _WIDTH))
+        made.update(self.drawings((sent, short), lambda: flow.graphs(c)))
+
+    def alone(self, row: Row, data: bytes, made: Dict[str, str]) -> None:
+        p = Procedure.parse(data)
+        made["text"] = _text(show.lines(data, row.name, False, _WIDTH))
+        made.update(self.drawings((p,), lambda: (flow.graph(p, flow.unmarked(p)),)))
 
     def make(self, row: Row) -> Dict[str, str]:
         """A file's texts and drawings, or why it has none."""
         made: Dict[str, str] = {}
+        held = Held(self.filed)
         try:
-            sent, short = _forms(self.filed, row)
-            counts = row.moved or 0, row.grown or 0, row.fresh or 0, row.rescued or 0
-            c = diff.compare(Procedure.parse(sent), Procedure.parse(short), counts)
-            told = "moved {} grown {} fresh {} rescued {}".format(*counts)
-            made["text"] = _packed(styled.marked_up(diff.lines(c, told, _WIDTH)))
+            sent, short = _forms(held, row)
             if row.tidy == "no":
-                made["untidy"] = _packed(styled.marked_up(explain.lines(sent, row.name, _WIDTH)[0]))
-            return {**made, **self.drawing(c)}
+                made["untidy"] = _text(explain.lines(sent, row.name, _WIDTH)[0])
+            if short is None:
+                self.alone(row, sent, made)
+            else:
+                self.both(row, Procedure.parse(sent), Procedure.parse(short), made)
         except Refused as error:
-            return {**made, "why": f"what is filed is {error}"}
+            made["why"] = f"what is filed is {error}"
         except NotDrawn as error:
-            return {**made, "why": str(error)}
+            made["why"] = str(error)
+        finally:
+            held.leave()
+        return made
 
 
-def _looked(filed: bytes, row: Row) -> Looked:
+def _looked(filed: Held, row: Row) -> Looked:
     """Holds a filed file to its row; of an untidy one, what offends."""
     found = [] if row.filed == "no" else audit.findings(filed, row)
     if row.tidy != "no" or row.reg is None or found:
@@ -166,9 +185,17 @@ def _told(results: Iterable[Any], total: int) -> Iterator[Any]:
             progress.add(1)
 
 
-def _look(filed: bytes, rows: List[Row]) -> List[Looked]:
+def _looked_all(filed: Folder, rows: List[Row]) -> List[Looked]:
+    held = Held(filed)
+    try:
+        return [_looked(held, row) for row in rows]
+    finally:
+        held.leave()
+
+
+def _look(filed: Folder, rows: List[Row]) -> List[Looked]:
     def make(number: int) -> work.Worker:
-        return lambda chunk: [_looked(filed, row) for row in chunk]
+        return lambda chunk: _looked_all(filed, chunk)
 
     chunks = work.ordered(iter(rows), make, work.default_jobs(), lambda row: len(row.name) + report.ROW_BYTES)
     return list(_told((one for chunk in chunks for one in chunk), len(rows)))
@@ -180,23 +207,8 @@ def natural(name: str) -> Tuple[List[List[Any]], str]:
     return [[int(text) if at % 2 else text for at, text in enumerate(part)] for part in parts], name
 
 
-def _rows(filed: bytes) -> Tuple[List[Row], report.Totals]:
-    """All rows of the report, which the page holds too."""
-    state, totals = State(filed), report.Totals()
-    if not os.path.isfile(state.report):
-        raise Failed(f"{os.fsdecode(state.report)} isn't there: start the run first")
-    stream, wrong = report.checked(state.report)
-    rows = []
-    for row in stream:
-        totals.add(row)
-        rows.append(row)
-    if wrong:
-        raise Failed(f"{os.fsdecode(state.report)}: {wrong[0]}")
-    return sorted(rows, key=lambda row: natural(row.name)), totals
-
-
 def _wanted(row: Row, patterns: Sequence[str]) -> bool:
-    return row.filed in ("yes", "earlier") and any(fnmatch.fnmatchcase(row.name, pattern) for pattern in patterns)
+    return row.filed in ("yes", "as sent", "earlier") and any(fnmatch.fnmatchcase(row.name, pattern) for pattern in patterns)
 
 
 # The page
@@ -243,12 +255,12 @@ def _links(rows: List[Row]) -> Dict[int, str]:
     return {n: quote_from_bytes(names.unquote(row.name)) for n, row in enumerate(rows) if "\\" in row.name}
 
 
-def _data(filed: bytes, out: str, rows: List[Row], options: Options, dot: Optional[str]) -> Dict[str, Any]:
+def _data(filed: Folder, out: str, rows: List[Row], options: Options, dot: Optional[str]) -> Dict[str, Any]:
     looked = _look(filed, rows)
     chosen = [n for n, row in enumerate(rows) if _wanted(row, options.patterns)][: options.most]
     artist = Artist(filed, dot, options.seconds)
     calls = ((artist.make, rows[n]) for n in chosen)
-    way = os.path.relpath(os.path.realpath(filed), os.path.dirname(os.path.realpath(os.fsencode(out))))
+    way = os.path.relpath(os.path.realpath(filed.path), os.path.dirname(os.path.realpath(os.fsencode(out))))
     return {
         "columns": _COLUMNS,
         "rows": [_cells(row, one) for row, one in zip(rows, looked)],
@@ -261,10 +273,12 @@ def _data(filed: bytes, out: str, rows: List[Row], options: Options, dot: Option
     }
 
 
-def _made(filed: bytes) -> str:
+def _made(filed: Folder) -> str:
     """When, by what and of what the page is made."""
-    folder = html.escape(names.quote(os.path.abspath(filed)))
-    times = [time.strftime("%Y-%m-%d %H:%M %z", time.localtime(at)) for at in (time.time(), os.stat(State(filed).report).st_mtime)]
+    folder = html.escape(names.shown(os.path.abspath(filed.path)))
+    with State(filed).report.open() as file:
+        written = os.fstat(file.fileno()).st_mtime
+    times = [time.strftime("%Y-%m-%d %H:%M %z", time.localtime(at)) for at in (time.time(), written)]
     return f"{folder}: page made {times[0]} by halivomue {__version__}, of the report of {times[1]}"
 
 
@@ -281,25 +295,23 @@ def _line(out: str, rows: List[Row], data: Dict[str, Any], dot: Optional[str]) -
 
 def write(filed: bytes, out: str, options: Options = Options()) -> str:
     """Writes the page and answers a line about it; raises `Failed`."""
-    lock = Lock(filed, shared=True)
-    try:
-        rows, totals = _rows(filed)
-        dot = shutil.which("dot")
-        data = _data(filed, out, rows, options, dot)
-        made = _made(filed)
-    except OSError as error:
-        raise Failed(str(error)) from error
-    finally:
-        lock.release()
+    files.check_out(out, apart=filed)
+    with open_top(filed) as top:
+        lock = Lock(top, shared=True)
+        try:
+            rows, totals = whole_report(State(top))
+            rows.sort(key=lambda row: natural(row.name))
+            dot = shutil.which("dot")
+            data = _data(top, out, rows, options, dot)
+            made = _made(top)
+        except OSError as error:
+            raise Failed(filing.told(error, filed)) from error
+        finally:
+            lock.release()
     with open(os.path.join(os.path.dirname(os.path.abspath(__file__)), "page.html"), encoding="utf-8") as file:
         text = file.read()
-    title = html.escape(names.quote(os.path.basename(os.path.realpath(filed))))
+    title = html.escape(names.shown(os.path.basename(os.path.realpath(filed))))
     for mark, value in (("TITLE", title), ("MADE", made), ("CARDS", _cards(totals)), ("DATA", _script(data))):
         text = text.replace(f"<!--{mark}-->", value)
-    path = os.fsencode(out)
-    own = os.path.join(os.path.dirname(path), b".%s.tmp" % os.path.basename(path)[:200])
-    try:
-        filing.write([(path, own, text.encode("utf-8"))], flush=True)
-    except Unreadable as error:
-        raise Failed(f"{out}: {error}") from error
+    files.replace(out, text.encode("utf-8"))
     return _line(out, rows, data, dot)

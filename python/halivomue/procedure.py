@@ -18,6 +18,9 @@ _NAN = 0x7FF8_0000_0000_0000
 
 Value = Union[int, float, Tuple[int, int]]
 
+#: Fields that hold a number of one byte.
+_BYTES = frozenset((("DopeLen", "", "dim"), ("AddrOf", "Up", "space")))
+
 
 def _is_nan(bits: int) -> bool:
     return bits >> 52 & 0x7FF == 0x7FF and bits & (1 << 52) - 1 != 0
@@ -39,9 +42,16 @@ def _word(value: Any, what: str) -> int:
 
 
 def _number(value: Any, what: str) -> int:
+    """32 bits of an integer."""
     if isinstance(value, bool) or not isinstance(value, int) or not 0 <= value < _U32:
         raise ValueError(f"{what}: a number from 0 to 4294967295 expected, not {value!r}")
     return value
+
+
+def _pair(value: Any, what: str) -> Tuple[int, int]:
+    if not isinstance(value, (tuple, list)) or len(value) != 2:
+        raise ValueError(f"{what}: a pair of start and length expected, not {value!r}")
+    return _number(value[0], what), _number(value[1], what)
 
 
 def _real_bits(value: Any, what: str) -> int:
@@ -50,11 +60,21 @@ def _real_bits(value: Any, what: str) -> int:
         return value
     if isinstance(value, bool) or not isinstance(value, (int, float)):
         raise ValueError(f"{what}: a float, or the bits of a NaN, expected, not {value!r}")
-    return _NAN if math.isnan(value) else struct.unpack("<Q", struct.pack("<d", value))[0]
+    return _NAN if math.isnan(value) else int.from_bytes(struct.pack("<d", value), "little")
 
 
 def _real(bits: int) -> Union[int, float]:
     return bits if _is_nan(bits) else struct.unpack("<d", struct.pack("<Q", bits))[0]
+
+
+def _shape(kind: str, op: str) -> Kind:
+    """The kind of that name; ValueError where there is none, or it has no such op."""
+    shape = BY_NAME.get(kind)
+    if shape is None:
+        raise ValueError(f"there is no kind {kind!r}")
+    if op not in shape.ops:
+        raise ValueError(f"{kind} has no op {op!r}: {', '.join(filter(None, shape.ops)) or 'it has none'}")
+    return shape
 
 
 @dataclass(frozen=True)
@@ -63,13 +83,40 @@ class Instruction:
 
     `instruction("Bin", "Add", 10, dst=2, a=0, b=1)` makes one by field names; fields are read as
     attributes: `i.dst`. A list of operands is a pair of start and length, a Const's `v` a signed
-    number, a ConstF's a float (or the bits, where they are those of a NaN).
+    number, a ConstF's a float (or the bits, where they are those of a NaN). ValueError where kind, op
+    and fields don't go together or a value isn't one that its field can hold.
     """
 
     kind: str
     op: str
     statement: int
     values: Tuple[Value, ...]
+
+    def __post_init__(self) -> None:
+        fields, values = _shape(self.kind, self.op).fields_of(self.op), tuple(self.values)
+        _number(self.statement, "statement")
+        if len(values) != len(fields):
+            names = ", ".join(name for name, _ in fields)
+            raise ValueError(f"{self.kind} {self.op}: the fields are {names or 'none'}, not {len(values)} values")
+        plain = tuple(self._plain(name, sort, value) for (name, sort), value in zip(fields, values))
+        object.__setattr__(self, "values", plain)
+
+    def __reduce__(self) -> Tuple[Any, ...]:
+        return Instruction, (self.kind, self.op, self.statement, self.values)
+
+    def _plain(self, name: str, sort: str, value: Any) -> Value:
+        """A field's value as parsing gives it."""
+        what = f"{self.kind} {name}"
+        if sort == "word":
+            return _signed(_word(value, what))
+        if sort == "real":
+            return _real(_real_bits(value, what))
+        if sort == "list":
+            return _pair(value, what)
+        number = _number(value, what)
+        if number > 255 and (self.kind, self.op, name) in _BYTES:
+            raise ValueError(f"{what}: a number from 0 to 255 expected, not {value!r}")
+        return number
 
     @property
     def shape(self) -> Kind:
@@ -83,10 +130,11 @@ class Instruction:
         return tuple((name, sort, value) for (name, sort), value in zip(shape, self.values))
 
     def __getattr__(self, name: str) -> Value:
-        if not name.startswith("_"):
-            for field_name, _, value in self.fields:
-                if field_name == name:
-                    return value
+        if name.startswith("_") or "values" not in self.__dict__:
+            raise AttributeError(name)
+        for field_name, _, value in self.fields:
+            if field_name == name:
+                return value
         raise AttributeError(f"{self.kind} has no field {name}")
 
     @property
@@ -120,35 +168,15 @@ class Instruction:
 
 def instruction(kind: str, op: str = "", statement: int = 0, **fields: Value) -> Instruction:
     """An instruction by the names of its kind, op and fields; ValueError for a name that isn't there."""
-    shape = BY_NAME.get(kind)
-    if shape is None:
-        raise ValueError(f"there is no kind {kind!r}")
-    if op == "" and shape.ops == ("", "dst") and "dst" in fields:
-        op = "dst"
-    if op == "" and shape.ops == ("", "v") and "v" in fields:
+    # Of these two the op says whether the field is there.
+    if kind == "Ret" and op == "" and "v" in fields:
         op = "v"
-    if op not in shape.ops:
-        raise ValueError(f"{kind} has no op {op!r}: {', '.join(filter(None, shape.ops)) or 'it has none'}")
-    names = [name for name, _ in shape.fields_of(op)]
+    if kind == "CallNative" and op == "" and "dst" in fields:
+        op = "dst"
+    names = [name for name, _ in _shape(kind, op).fields_of(op)]
     if sorted(names) != sorted(fields):
         raise ValueError(f"{kind} {op}: the fields are {', '.join(names) or 'none'}, not {', '.join(fields) or 'none'}")
-    made = Instruction(kind, op, statement, tuple(_plain(shape, name, fields[name]) for name in names))
-    made.record()
-    return made
-
-
-def _plain(shape: Kind, name: str, value: Any) -> Value:
-    """A value as parsing gives it."""
-    sort = dict(shape.fields)[name]
-    what = f"{shape.name} {name}"
-    if sort == "word":
-        return _signed(_word(value, what))
-    if sort == "real":
-        return _real(_real_bits(value, what))
-    if sort == "list":
-        start, length = value
-        return _number(start, what), _number(length, what)
-    return _number(value, what)
+    return Instruction(kind, op, statement, tuple(fields[name] for name in names))
 
 
 def _parsed(kind: int, op: int, statement: int, places: Sequence[int]) -> Instruction:

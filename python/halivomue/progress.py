@@ -2,16 +2,17 @@
 
 from __future__ import annotations
 
+import importlib
 import time
 from typing import IO, Any, Callable, Optional
 
 
 def _bar(total: int, out: IO[str]) -> Optional[Any]:
     try:
-        from tqdm import tqdm  # type: ignore[import-untyped]
+        tqdm = importlib.import_module("tqdm")
     except ImportError:
         return None
-    return tqdm(total=total, unit=" files", file=out, dynamic_ncols=True, leave=False)
+    return tqdm.tqdm(total=total, unit=" files", file=out, dynamic_ncols=True, leave=False)
 
 
 def _duration(seconds: float) -> str:
@@ -22,13 +23,12 @@ def _duration(seconds: float) -> str:
 class Progress:
     """tqdm's bar where it is installed, else a line that is written anew."""
 
-    def __init__(self, out: IO[str], count: Callable[[], int]) -> None:
-        self.out = out
-        self.shown = out is not None and out.isatty()
-        self.total = count() if self.shown else 0
+    def __init__(self, out: Optional[IO[str]], count: Callable[[], int]) -> None:
+        self.out = out if out is not None and out.isatty() else None
+        self.total = count() if self.out is not None else 0
         self.done = 0
-        self.started = self.told = time.monotonic()
-        self.bar = _bar(self.total, out) if self.shown else None
+        self.started, self.told = time.monotonic(), 0.0
+        self.bar = _bar(self.total, self.out) if self.out is not None else None
 
     def __enter__(self) -> "Progress":
         return self
@@ -43,20 +43,20 @@ class Progress:
         self.done += count
         if self.bar is not None:
             self.bar.update(count)
-        elif self.shown and time.monotonic() - self.told > 0.1:
-            self._tell()
+        elif self.out is not None and time.monotonic() - self.told > 0.1:
+            self._tell(self.out)
 
-    def _tell(self) -> None:
+    def _tell(self, out: IO[str]) -> None:
         self.told = time.monotonic()
         rate = self.done / max(self.told - self.started, 1e-9)
         left = _duration(max(self.total - self.done, 0) / rate) if rate else "?"
-        self.out.write(f"\r\x1b[K{self.done} of {self.total} files, {rate:.0f} a second, {left} left")
-        self.out.flush()
+        out.write(f"\r\x1b[K{self.done} of {self.total} files, {rate:.0f} a second, {left} left")
+        out.flush()
 
     def clear(self) -> None:
         """Makes the line free for another."""
         if self.bar is not None:
             self.bar.clear()
-        elif self.shown:
+        elif self.out is not None:
             self.out.write("\r\x1b[K")
             self.out.flush()

@@ -7,17 +7,20 @@ import heapq
 import io
 import json
 from itertools import groupby
-from typing import IO, Dict, Iterator, List, NamedTuple, Optional, Tuple
+from typing import IO, Dict, Iterator, List, NamedTuple, Optional, Sequence, Tuple
 
 from . import names
+from .filing import LINE, File, lines
 
 
 class Row(NamedTuple):
     """What the run did with a file; None where a column doesn't apply.
 
     answer   accepted, refused, unreadable, or `not sent` for what an earlier run filed
-    number   of a refusal by the library; none where the run refuses an untidy file (--strict)
-    filed    yes; no; earlier (what an earlier run filed stands there); spoiled (something else does)
+    number   of a refusal by the library; none where the run refuses an untidy file (--strict),
+             or where there is no shortened form since the file is too large (8)
+    filed    yes, with its shortened form; as sent, without one; no; earlier (what an earlier run filed
+             stands there); spoiled (something else does)
 
     From `tidy` on the columns are of what is filed.
     """
@@ -47,10 +50,13 @@ SUMMED = COLUMNS[COLUMNS.index("instructions_sent") : COLUMNS.index("sha256_sent
 _NUMBERS = frozenset(("number", "record", "reg", *SUMMED))
 _IS_NUMBER = tuple(name in _NUMBERS for name in COLUMNS)
 HEADER = ",".join(COLUMNS)
+_HEADER = (HEADER + "\n").encode()
 #: About the bytes of a row without its name.
 ROW_BYTES = 512
 #: The answer of the last row.
 TOTAL = "total"
+#: Lines that are wrong after which no more of a report is read.
+_MOST_WRONG = 1000
 
 
 def counted(files: int) -> str:
@@ -58,7 +64,11 @@ def counted(files: int) -> str:
 
 
 class Damaged(ValueError):
-    """A line that is no row of a report."""
+    """A line that is no row of a report, with the reason."""
+
+
+class TooLong(Damaged):
+    """A line that no row is as long as."""
 
 
 def csv_line(row: Row) -> str:
@@ -81,37 +91,64 @@ def parse_line(line: str) -> Row:
     try:
         (fields,) = csv.reader([line], strict=True)
         if not line.endswith("\n") or len(fields) != len(COLUMNS):
-            raise Damaged(line)
+            raise ValueError(line)
         values = [(int(f) if f else None) if number else f for f, number in zip(fields, _IS_NUMBER)]
     except (ValueError, csv.Error) as error:
-        raise Damaged(line) from error
+        raise Damaged("no row of a report") from error
     row = Row(*values)  # type: ignore[arg-type]
     if csv_line(row) != line:
-        raise Damaged(line)
+        raise Damaged("no row of a report")
     return row
 
 
-def row_key(row: Row) -> bytes:
-    return names.key(names.unquote(row.name))
+def keyed(line: bytes) -> Tuple[bytes, Row]:
+    """The row of a line as it stands in a report, and its name's key; raises `Damaged`."""
+    if len(line) == LINE and not line.endswith(b"\n"):
+        raise TooLong("longer than a row can be")
+    try:
+        text = line.decode("utf-8")
+    except UnicodeDecodeError as error:
+        raise Damaged("no row of a report") from error
+    if not text[:-1].isprintable() and names.UNSHOWN.search(text[:-1]):
+        raise Damaged("no row of a report")
+    row = parse_line(text)
+    name = names.unquote(row.name)
+    right = name == b"" if row.answer == TOTAL else names.proper(name) and names.quote(name) == row.name
+    if not right:
+        raise Damaged("no name of a file")
+    return names.key(name), row
 
 
-_SUMMED_AT = slice(COLUMNS.index(SUMMED[0]), COLUMNS.index(SUMMED[-1]) + 1)
+def _summed(row: Row) -> Sequence[Optional[int]]:
+    """The columns of a row that are summed."""
+    return (
+        row.instructions_sent,
+        row.instructions_short,
+        row.bytes_sent,
+        row.bytes_short,
+        row.moved,
+        row.grown,
+        row.fresh,
+        row.rescued,
+    )
 
 
 class Totals:
-    """Sums over the rows of a report."""
+    """Sums over the rows of a report; the columns are summed over what is filed with its shortened form."""
 
     def __init__(self) -> None:
         self.answers: Dict[str, int] = {"accepted": 0, "refused": 0, "unreadable": 0, "not sent": 0}
         self._sums: List[int] = [0] * len(SUMMED)
         self.untidy = 0
+        self.as_sent = 0
         self.spoiled = 0
 
     def add(self, row: Row) -> None:
         self.answers[row.answer] = self.answers.get(row.answer, 0) + 1
+        self.untidy += row.tidy == "no" and row.answer == "accepted"
+        self.as_sent += row.filed == "as sent"
         if row.filed == "yes":
-            self.untidy += row.tidy == "no"
-            self._sums = [total + (value or 0) for total, value in zip(self._sums, row[_SUMMED_AT])]
+            self._sums = [total + (value or 0) for total, value in zip(self._sums, _summed(row))]
         elif row.filed == "spoiled":
             self.spoiled += 1
 
@@ -121,6 +158,7 @@ class Totals:
             self.answers[answer] = self.answers.get(answer, 0) + count
         self._sums = [total + value for total, value in zip(self._sums, other._sums)]
         self.untidy += other.untidy
+        self.as_sent += other.as_sent
         self.spoiled += other.spoiled
 
     @property
@@ -139,6 +177,7 @@ class Totals:
     def answers_text(self) -> str:
         told = [f"{self.answers[name]} {name}" for name in ("accepted", "refused", "unreadable")]
         told += [f"{self.untidy} untidy"] if self.untidy else []
+        told += [f"{self.as_sent} without a shortened form"] if self.as_sent else []
         told += [f"{self.answers['not sent']} not sent any more"] if self.answers["not sent"] else []
         told += [f"{self.spoiled} spoiled"] if self.spoiled else []
         return f"{counted(self.files)}: {', '.join(told)}"
@@ -156,91 +195,102 @@ class Totals:
         return Row("", TOTAL, reason=self.answers_text(), filed="", **self.sums)  # type: ignore[arg-type]
 
 
-def rows(path: bytes) -> Iterator[Row]:
-    """The rows of a report or of a part of one, as far as they are whole and in order."""
+def entries(file: File) -> Iterator[Tuple[bytes, Row]]:
+    """The rows of a report or of a part of one that are whole and in order, with their names' keys."""
     try:
-        file = open(path, encoding="utf-8", newline="\n")
+        stream = file.open()
     except FileNotFoundError:
         return
-    with file:
-        try:
-            if file.readline() != HEADER + "\n":
-                return
-            last = b""
-            for line in file:
-                row = parse_line(line)
-                at = row_key(row)
-                if row.answer == TOTAL or at <= last:
-                    return
-                last = at
-                yield row
-        except (Damaged, UnicodeDecodeError):
+    with stream:
+        if stream.readline(LINE) != _HEADER:
             return
+        last = b""
+        for line in lines(stream):
+            try:
+                at, row = keyed(line)
+            except TooLong:
+                return
+            except Damaged:
+                continue
+            if row.answer == TOTAL:
+                return
+            if at > last:
+                last = at
+                yield at, row
 
 
-def _stream(path: bytes, at: int) -> Iterator[Tuple[bytes, int, Row]]:
-    for row in rows(path):
-        yield row_key(row), at, row
+def _stream(file: File, number: int) -> Iterator[Tuple[bytes, int, Row]]:
+    for at, row in entries(file):
+        yield at, number, row
 
 
-def merged(*paths: bytes) -> Iterator[Tuple[bytes, int, Row]]:
+def merged(*files: File) -> Iterator[Tuple[bytes, int, Row]]:
     """The rows of several reports in order, with their keys and which report has them; of a name's
     rows that of the first report."""
-    streams = [_stream(path, at) for at, path in enumerate(paths)]
+    streams = [_stream(file, number) for number, file in enumerate(files)]
     for _, same in groupby(heapq.merge(*streams), key=lambda item: item[0]):
         yield next(same)
 
 
-def sound(path: bytes) -> bool:
-    """Is this a whole report, with the totals of its rows?"""
-    try:
-        stream, wrong = checked(path)
-        for _ in stream:
-            pass
-        return not wrong
-    except OSError:
-        return False
-
-
-def write_json(source: bytes, out: IO[str]) -> None:
+def write_json(source: File, out: IO[str]) -> None:
     """Writes a whole report as JSON lines."""
-    with open(source, encoding="utf-8", newline="\n") as file:
-        file.readline()
-        for line in file:
-            out.write(json_line(parse_line(line)))
+    with source.open() as stream:
+        stream.readline(LINE)
+        for line in lines(stream):
+            out.write(json_line(keyed(line)[1]))
 
 
-def checked(path: bytes) -> Tuple[Iterator[Row], List[str]]:
-    """The rows of a whole report, and a list to which is added what is wrong with it."""
-    wrong: List[str] = []
+class Checked:
+    """The rows of a whole report; as they are read, what is wrong with it is added to `wrong`."""
 
-    def read() -> Iterator[Row]:
-        totals, last, ended = Totals(), b"", False
-        with open(path, encoding="utf-8", errors="surrogateescape", newline="\n") as file:
-            if file.readline() != HEADER + "\n":
-                wrong.append("line 1: not the columns of a report")
+    def __init__(self, file: File) -> None:
+        self.file = file
+        self.wrong: List[str] = []
+        self.totals = Totals()
+        self._last, self._ended = b"", False
+
+    def __iter__(self) -> Iterator[Row]:
+        with self.file.open() as stream:
+            if stream.readline(LINE) != _HEADER:
+                self.wrong.append("line 1: not the columns of a report")
                 return
-            for number, line in enumerate(file, 2):
+            for number, line in enumerate(lines(stream), 2):
                 try:
-                    row = parse_line(line)
-                    at = row_key(row)
-                except (Damaged, UnicodeEncodeError):
-                    wrong.append(f"line {number}: no row of a report")
-                    continue
-                if ended:
-                    wrong.append(f"line {number}: after the totals")
-                elif row.answer == TOTAL:
-                    ended = True
-                    if row != totals.row():
-                        wrong.append(f"line {number}: the totals are not those of the rows")
-                elif at <= last:
-                    wrong.append(f"line {number}: out of order, or a name twice")
+                    row = self._row(line)
+                except Damaged as error:
+                    self.wrong.append(f"line {number}: {error}")
+                    if isinstance(error, TooLong) or len(self.wrong) == _MOST_WRONG:
+                        self.wrong.append("what follows was not read")
+                        return
                 else:
-                    last = at
-                    totals.add(row)
-                    yield row
-            if not ended:
-                wrong.append("the totals are missing")
+                    if row.answer != TOTAL:
+                        yield row
+            if not self._ended:
+                self.wrong.append("the totals are missing")
 
-    return read(), wrong
+    def _row(self, line: bytes) -> Row:
+        """The row of the next line; raises `Damaged` where it can't stand there."""
+        at, row = keyed(line)
+        if self._ended:
+            raise Damaged("after the totals")
+        if row.answer == TOTAL:
+            self._ended = True
+            if row != self.totals.row():
+                raise Damaged("the totals are not those of the rows")
+        elif at <= self._last:
+            raise Damaged("out of order, or a name twice")
+        else:
+            self._last = at
+            self.totals.add(row)
+        return row
 
+
+def sound(file: File) -> bool:
+    """Is this a whole report, with the totals of its rows?"""
+    checked = Checked(file)
+    try:
+        for _ in checked:
+            pass
+    except FileNotFoundError:
+        return False
+    return not checked.wrong

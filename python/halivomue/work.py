@@ -8,13 +8,12 @@ from __future__ import annotations
 
 import ctypes
 import gc
-import multiprocessing
 import os
 import signal
 from collections import deque
-from multiprocessing.connection import wait
 from typing import Any, Callable, Deque, Dict, Iterable, Iterator, List, Tuple
 
+from . import filing
 from .filing import Failed
 
 CHUNK = 256
@@ -26,7 +25,7 @@ _AHEAD = 8
 _PR_SET_PDEATHSIG = 1
 
 #: Work on a chunk of tasks, made in each process from its number.
-Worker = Callable[[List[Any]], List[Any]]
+Worker = Callable[[List[Any]], Any]
 
 
 def default_jobs() -> int:
@@ -68,8 +67,10 @@ def _serve(link: Any, others: List[Any], parent: int, make: Callable[[int], Work
             return
         try:
             answer: Tuple[bool, Any] = True, work(chunk)
-        except (Failed, OSError) as error:
+        except Failed as error:
             answer = False, str(error)
+        except OSError as error:
+            answer = False, filing.told(error)
         try:
             link.send(answer)
         except OSError:
@@ -97,6 +98,8 @@ def _give(link: Any, chunk: List[Any]) -> None:
 
 def _results(links: List[Any], coming: Iterator[List[Any]]) -> Iterator[Any]:
     """The results of the chunks in their order, each done by the process that has least to do."""
+    from multiprocessing.connection import wait
+
     under_way: Dict[Any, Deque[int]] = {link: deque() for link in links}
     done: Dict[int, Any] = {}
     given = due = 0
@@ -127,6 +130,9 @@ def ordered(
         for chunk in chunks(tasks, size, most):
             yield work(chunk)
         return
+    # Imported where it is used: a script that only shortens doesn't wait for it.
+    import multiprocessing
+
     context = multiprocessing.get_context("fork")
     started: List[Tuple[Any, Any]] = []
     try:

@@ -1,6 +1,7 @@
 """What the tests of the fleet level share."""
 
 import contextlib
+import csv
 import hashlib
 import os
 import pathlib
@@ -20,15 +21,16 @@ sys.dont_write_bytecode = True
 sys.path[:0] = [str(HERE), str(ROOT / "python"), str(ROOT / "tests" / "vectors"), str(ROOT / "tests" / "reference")]
 
 import halivomue  # noqa: E402
-from halivomue import provision  # noqa: E402
+from halivomue import provisioning  # noqa: E402
 
 
 def run(*words, status=0, **more):
     """A command of the package in a process of its own; its output and what it said on standard error."""
     environment = dict(os.environ, PYTHONPATH=str(ROOT / "python"), PYTHONDONTWRITEBYTECODE="1", LC_ALL="C.UTF-8")
     environment.update(more.pop("env", {}))
-    done = subprocess.run([sys.executable, "-m", "halivomue", *words], stdin=subprocess.DEVNULL, capture_output=True,
-                          env=environment, timeout=120, check=False, **more)
+    more.setdefault("stdin", subprocess.DEVNULL)
+    done = subprocess.run([sys.executable, "-m", "halivomue", *words], capture_output=True, env=environment,
+                          timeout=120, check=False, **more)
     if done.returncode != status:
         raise AssertionError(f"{words}: status {done.returncode}, not {status}:\n{done.stdout.decode()}{done.stderr.decode()}")
     return done.stdout.decode("utf-8", "surrogateescape"), done.stderr.decode("utf-8", "surrogateescape")
@@ -38,7 +40,8 @@ def provision_here(sent, filed, **options):
     """A run in this process; its outcome and the lines that it told."""
     lines = []
     options.setdefault("flush", False)
-    outcome = provision.provision(provision.Options(os.fsencode(sent), os.fsencode(filed), **options), lines.append)
+    told = provisioning.Told(lines.append)
+    outcome = provisioning.run(provisioning.Options(os.fsencode(sent), os.fsencode(filed), **options), told, sys.stdout)
     return outcome, lines
 
 
@@ -63,6 +66,12 @@ def tree(folder):
 def lines_of(folder, name="report.csv"):
     with open(os.path.join(folder, name), encoding="utf-8", newline="") as file:
         return file.read().splitlines()
+
+
+def rows_of(folder):
+    """The rows of a report by their names, the totals under none."""
+    with open(os.path.join(folder, "report.csv"), encoding="utf-8", newline="") as file:
+        return {row["name"]: row for row in csv.DictReader(file)}
 
 
 class Case(unittest.TestCase):
@@ -122,5 +131,5 @@ def in_child(work):
     return os.waitpid(child, 0)[1]
 
 
-__all__ = ["Case", "HERE", "PROGRAM", "REFERENCE", "ROOT", "SAMPLES", "halivomue", "in_child", "lines_of", "provision",
-           "provision_here", "replaced", "run", "sample", "tree", "unittest"]
+__all__ = ["Case", "HERE", "PROGRAM", "REFERENCE", "ROOT", "SAMPLES", "halivomue", "in_child", "lines_of", "provision_here",
+           "provisioning", "replaced", "rows_of", "run", "sample", "tree", "unittest"]

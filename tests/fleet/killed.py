@@ -11,9 +11,9 @@ import random
 import signal
 import time
 
-from common import halivomue, in_child, provision, provision_here, tree
+from common import halivomue, in_child, provision_here, provisioning, tree
 
-CALLS = ("open", "read", "write", "close", "fsync", "replace", "unlink", "makedirs", "fstat", "scandir", "ftruncate")
+CALLS = ("open", "read", "write", "close", "fsync", "replace", "unlink", "mkdir", "fstat", "stat", "scandir", "ftruncate")
 MOMENTS = ("before", "after", "half")
 
 
@@ -179,4 +179,4 @@ def campaign(trial, points, seed=1, say=lambda line: None):
     return tally, faults
 
 
-__all__ = ["Killer", "Trial", "campaign", "halivomue", "provision"]
+__all__ = ["Killer", "Trial", "campaign", "halivomue", "provisioning"]

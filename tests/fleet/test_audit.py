@@ -101,10 +101,11 @@ class Tampered(Case):
     def test_6_a_form_is_missing(self):
         os.unlink(self.at("b.call.short"))
         os.unlink(self.at("a/one.call"))
+        os.unlink(self.at("a/two.call"))
+        os.unlink(self.at("a/two.call.short"))
         os.unlink(self.at("untidy.call"))
-        os.unlink(self.at("untidy.call.short"))
-        self.named("a/one.call: missing: the sent form", "b.call: missing: the shortened form",
-                   "untidy.call: missing: the sent form", "untidy.call: missing: the shortened form")
+        self.named("a/one.call: missing: the sent form", "a/two.call: missing: the sent form", "a/two.call: missing: the shortened form",
+                   "b.call: missing: the shortened form", "untidy.call: missing: the sent form")
 
     def test_7_a_foreign_file(self):
         self.write("a/five.call", sample("printed"))
@@ -207,6 +208,28 @@ class Tampered(Case):
             self.assertEqual(len(told), 1, name)
             provision_here(self.sent, self.filed)
             self.assertEqual(tree(self.filed), before)
+
+    def test_20_a_file_that_is_filed_without_a_shortened_form(self):
+        short = halivomue.shorten(sample("untidy")).data
+        self.write("untidy.call.short", short)
+        self.named("untidy.call: altered: a shortened form stands there, and by the report there is none")
+        os.unlink(self.at("untidy.call.short"))
+        self.column("untidy.call", "reason", "")
+        self.assertEqual(self.audit()[0], "untidy.call: report: reason is nothing in the report and register 5 is written once, "
+                         "and read elsewhere than later in the same block by the library")
+        provision_here(self.sent, self.filed)
+        self.write("untidy.call", sample("printed"))
+        self.named("untidy.call: report: it has no shortened form in the report and has one by the library")
+
+    def test_21_a_row_without_its_shortened_form(self):
+        """A shortened form taken away, and out of the report too."""
+        os.unlink(self.at("b.call.short"))
+        for column in ("instructions_short", "bytes_short", "moved", "grown", "fresh", "rescued", "sha256_short"):
+            self.column("b.call", column, "")
+        self.column("b.call", "filed", "as sent")
+        self.assertIn("b.call: report: it has no shortened form in the report and has one by the library", self.audit())
+        provision_here(self.sent, self.filed)
+        self.assertEqual(tree(self.filed), self.before)
 
     def test_17_the_report_in_json(self):
         provision_here(self.sent, self.filed, json=True)

@@ -33,18 +33,18 @@ class Killed(Case):
         for at in range(1, trial.calls()):
             filed = trial.fresh()
 
-            def in_place(files, flush, folder):
+            def in_place(files, flush, folder, *_):
                 for name, _, data in files:
                     fd = os.open(name, os.O_WRONLY | os.O_CREAT | os.O_TRUNC, dir_fd=folder.fd)
                     os.write(fd, data)
                     os.close(fd)
 
-            before = killed.provision.filing.write
-            killed.provision.filing.write = in_place
+            before = killed.provisioning.filing.write
+            killed.provisioning.filing.write = in_place
             try:
                 trial.kill_at(filed, at, "half", jobs=1)
             finally:
-                killed.provision.filing.write = before
+                killed.provisioning.filing.write = before
             seen += bool(trial.half_written(filed))
         self.assertGreater(seen, 2)
 

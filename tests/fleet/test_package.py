@@ -128,6 +128,29 @@ class Stored(unittest.TestCase):
         self.assertEqual(said, f"{Refused(8)}\n")
 
 
+class Words(unittest.TestCase):
+    """The reason of an untidy register, by what writes it."""
+
+    def untidy(self, *first):
+        make = halivomue.instruction
+        return bytes(halivomue.Procedure(["Ptr", "I64"], [[*first, make("Br", to=1)], [make("Load", "B8", dst=1, addr=0), make("Ret")]]))
+
+    def test_written_by_an_addr_of(self):
+        """Read in a block that doesn't lead to the write it is tidy; before, it was told as if it weren't."""
+        make = halivomue.instruction
+        self.assertTrue(halivomue.tidy(self.untidy(make("AddrOf", "Frame", dst=0, off=1))))
+        early = self.untidy(make("Load", "B8", dst=1, addr=0), make("AddrOf", "Frame", dst=0, off=1))
+        due = "register 0 is written once, by an AddrOf, and read before it in its block or in a block that leads there"
+        for data in (early, bytearray(early), memoryview(early), memoryview(array.array("I", early))):
+            answer = halivomue.tidy(data)
+            self.assertEqual((answer, answer.reason), (Tidiness(0, 0, False, 0), due))
+            self.assertEqual(pickle.loads(pickle.dumps(answer)).reason, due)
+
+    def test_written_by_another(self):
+        due = "register 0 is written once, and read elsewhere than later in the same block"
+        self.assertEqual(halivomue.tidy(self.untidy(halivomue.instruction("Alloc", dst=0, size=1))).reason, due)
+
+
 class Types(Case):
     """Every type of bytes, without a copy; other types are refused."""
 
@@ -228,6 +251,12 @@ def io_like():
 
 
 class Answers(unittest.TestCase):
+    def test_true_where_a_reader_expects_it(self):
+        """Before, every answer was true."""
+        self.assertEqual([bool(halivomue.read(sample(name))) for name in ("printed", "untidy", "refused")], [True, True, False])
+        self.assertEqual([bool(halivomue.tidy(sample(name))) for name in ("printed", "untidy", "refused")], [True, False, False])
+        self.assertTrue(halivomue.shorten(sample("forwarding")))
+
     def test_frozen(self):
         made = (Reading(0, 0), Tidiness(0, 0, True, 0), Shortening(b"", 0, 0, 0, 0))
         for answer in made:

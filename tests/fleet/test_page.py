@@ -15,7 +15,7 @@ from common import Case, halivomue, provision_here, replaced, run, sample, unitt
 
 import browser
 import fleet
-from halivomue import Arm, Procedure, Table, diff, explain, filing, instruction, names, page, styled, work
+from halivomue import Arm, Procedure, Table, diff, explain, instruction, names, page, show, styled, work
 
 
 class Made(Case):
@@ -144,7 +144,7 @@ class Made(Case):
         for n, row in enumerate(data["rows"]):
             if str(n) in data["digests"]:
                 way = data["links"].get(str(n)) or "/".join(map(quote, row[0].split("/")))
-                for short, digest in zip(("", ".short"), data["digests"][str(n)]):
+                for short, digest in zip(("", ".short"), filter(None, data["digests"][str(n)])):
                     path = os.path.join(os.path.dirname(self.out).encode(), unquote_to_bytes(data["base"] + way + short))
                     with open(path, "rb") as file:
                         self.assertEqual(hashlib.sha256(file.read()).hexdigest(), digest)
@@ -171,10 +171,14 @@ class Made(Case):
         data = self.data()
         for n, made in data["drawings"].items():
             name = data["rows"][int(n)][0]
-            sent = filing.read(os.path.join(os.fsencode(self.filed), names.unquote(name)))
+            with open(os.path.join(os.fsencode(self.filed), names.unquote(name)), "rb") as file:
+                sent = file.read()
             short = halivomue.shorten(sent)
             compared = diff.compare(Procedure.parse(sent), Procedure.parse(short.data))
-            self.assertEqual(self.unpacked(made["text"]), styled.plain(diff.lines(compared, short.counts, page._WIDTH)))
+            alone = data["rows"][int(n)][4] == "as sent"
+            due = show.lines(sent, name, False, page._WIDTH) if alone else diff.lines(compared, short.counts, page._WIDTH)
+            self.assertEqual(self.unpacked(made["text"]), styled.plain(due))
+            self.assertEqual(alone, "untidy" in made)
             if "untidy" in made:
                 self.assertEqual(self.unpacked(made["untidy"]), styled.plain(explain.lines(sent, name, page._WIDTH)[0]))
         self.assertEqual(sum("untidy" in made for made in data["drawings"].values()), sum(row[5] == "no" for row in data["rows"]))

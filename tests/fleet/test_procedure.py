@@ -1,14 +1,18 @@
 """Procedure: parsed, built, listed."""
 
+import copy
 import math
+import multiprocessing
+import pickle
 import re
 import struct
+from concurrent.futures import ProcessPoolExecutor
 
 from common import ROOT, halivomue, sample, unittest
 
 import fleet
 import replay
-from halivomue import Arm, Procedure, Refused, Table, instruction
+from halivomue import Arm, Instruction, Procedure, Refused, Table, instruction
 from halivomue.kinds import KINDS
 
 
@@ -151,6 +155,49 @@ class Built(unittest.TestCase):
             lambda: bytes(Procedure(tables=[Table((Arm(2**64, 0, 0),), 0)])),
         ):
             self.assertRaises(ValueError, wrong)
+
+    def test_wrong_fields_are_refused_when_it_is_made(self):
+        """Before, Br without its field was a Br to block 0."""
+        for wrong in (
+            ("Br", "", 1, ()),
+            ("Br", "", 1, (1, 2)),
+            ("Br", "", 1, ("1",)),
+            ("Br", "", -1, (1,)),
+            ("Br", "", "1", (1,)),
+            ("Br", "v", 1, (1,)),
+            ("Jump", "", 1, (1,)),
+            ("Ret", "", 1, (0,)),
+            ("Ret", "v", 1, ()),
+            ("Const", "", 1, (0, 1.5)),
+            ("ConstF", "", 1, (0, "1")),
+            ("CallNative", "", 1, (7, 0)),
+            ("CallNative", "", 1, (7, (0, -1))),
+            ("CallNative", "", 1, (7, (0, 1, 2))),
+            ("DopeLen", "", 1, (0, 0, 256)),
+            ("AddrOf", "Up", 1, (0, 256, 0)),
+        ):
+            with self.assertRaises(ValueError, msg=wrong):
+                Instruction(*wrong)
+        self.assertEqual(Instruction("AddrOf", "Pkg", 1, (0, 256, 0)).space, 256)
+        self.assertEqual(Instruction("Const", "", 1, [0, 2**64 - 1]), instruction("Const", statement=1, dst=0, v=-1))
+
+    def test_pickled_and_copied(self):
+        """Before, a RecursionError."""
+        whole = Procedure.parse(sample("forwarding"))
+        for made in (whole, *whole.code, self.ring(), instruction("ConstF", dst=0, v=0x7FF8000000000123)):
+            for protocol in range(2, pickle.HIGHEST_PROTOCOL + 1):
+                self.assertEqual(pickle.loads(pickle.dumps(made, protocol)), made)
+            for copied in (copy.copy(made), copy.deepcopy(made)):
+                self.assertEqual(copied, made)
+                self.assertEqual(hash(copied), hash(made))
+
+    def test_in_a_pool_of_processes(self):
+        with ProcessPoolExecutor(2, multiprocessing.get_context("spawn")) as pool:
+            self.assertEqual(list(pool.map(bytes, [self.ring()] * 3)), [bytes(self.ring())] * 3)
+
+    def test_an_unfinished_one_has_no_fields(self):
+        with self.assertRaises(AttributeError):
+            Instruction.__new__(Instruction).dst
 
     def test_names_are_for_read(self):
         p = Procedure(["I64"], [[instruction("Br", to=9)]])

@@ -1,32 +1,24 @@
 """The provisioning run: what it files, reports and says; its options; taken up again; odd files and folders."""
 
-import contextlib
 import csv
 import errno
 import fcntl
 import io
 import json
 import os
-import pty
 import resource
-import signal
 import stat
 import subprocess
 import sys
 import time
 
-from common import Case, ROOT, halivomue, in_child, lines_of, provision, provision_here, replaced, run, sample, tree, unittest
+from common import Case, ROOT, halivomue, in_child, lines_of, provision_here, provisioning, replaced, rows_of, run, sample, tree, unittest
 
 import fleet
 from halivomue import filing, names, report
 from halivomue.__main__ import main
 
 NOBODY = 65534
-
-
-def rows_of(filed):
-    with open(os.path.join(filed, "report.csv"), encoding="utf-8", newline="") as file:
-        return {row["name"]: row for row in csv.DictReader(file)}
 
 
 class Samples(Case):
@@ -36,15 +28,19 @@ class Samples(Case):
         self.assertEqual(said, "")
         self.assertEqual(out.splitlines(), [
             "refused.call: refused 7 9 (record 9: p1 (dst) names register 1, and there is 1 register)",
-            "4 files: 3 accepted, 1 refused, 0 unreadable, 1 untidy",
-            "instructions 63 to 63, bytes 4352 to 4352, moved 1, grown 2, fresh 0, rescued 0",
+            "untidy.call: filed without a shortened form (register 5 is written once, and read elsewhere than later in the same block)",
+            "4 files: 3 accepted, 1 refused, 0 unreadable, 1 untidy, 1 without a shortened form",
+            "instructions 34 to 34, bytes 2336 to 2336, moved 1, grown 2, fresh 0, rescued 0",
             f"3 filed; report: {self.filed}/report.csv",
         ])
         due = {".halivomue", ".halivomue/lock", "report.csv"}
         for name in ("forwarding", "printed", "untidy"):
-            due |= {f"{name}.call", f"{name}.call.short"}
+            due |= {f"{name}.call"}
             with open(os.path.join(self.filed, f"{name}.call"), "rb") as file:
                 self.assertEqual(file.read(), sample(name))
+            if name == "untidy":
+                continue
+            due |= {f"{name}.call.short"}
             with open(os.path.join(self.filed, f"{name}.call.short"), "rb") as file:
                 self.assertEqual(file.read(), halivomue.shorten(sample(name)).data)
         self.assertEqual({os.fsdecode(name) for name in tree(self.filed)}, due)
@@ -84,10 +80,12 @@ class Samples(Case):
         before = {name: os.stat(os.path.join(os.fsencode(self.filed), name)).st_mtime_ns for name in tree(self.filed) if b".call" in name}
         first = tree(self.filed)
 
-        def never(*_):
-            raise AssertionError("the library was asked again")
+        def untidy_alone(data, before=provisioning._library.tidied):
+            """What is filed without a shortened form is asked for the reason again."""
+            self.assertEqual(data, sample("untidy"))
+            return before(data)
 
-        with replaced(provision._library, "tidied", never):
+        with replaced(provisioning._library, "tidied", untidy_alone):
             outcome, _ = provision_here(self.sent, self.filed)
         self.assertEqual((outcome.done, outcome.kept), (0, 3))
         self.assertEqual(tree(self.filed), first)
@@ -104,7 +102,12 @@ class Samples(Case):
         run("provision", self.sent, self.filed, status=1)
         run("provision", os.path.join(self.folder, "nowhere"), self.filed, status=2)
         run("provision", self.sent, status=2)
-        run("provision", "--jobs", "0", self.sent, self.filed, status=2)
+        for wrong in ("0", "x", "-1", "257", "1.5", "\u0663", "9" * 5000):
+            _, said = run("provision", "--jobs", wrong, self.sent, self.filed, status=2)
+            self.assertIn(f"argument --jobs: a number from 1 to 256 expected, not {wrong!r}\n", said)
+        for wrong in ("-1", "x"):
+            _, said = run("page", self.filed, "--out", self.folder + "/p.html", "--most", wrong, status=2)
+            self.assertIn(f"argument --most: a number from 0 to 100000 expected, not {wrong!r}\n", said)
         out, _ = run("provision", "--help")
         self.assertIn("examples:", out)
         for option in ("--jobs", "--dry-run", "--strict", "--json", "--pattern", "--no-flush"):
@@ -180,6 +183,18 @@ class Options(Case):
         self.assertIn("report.csv: unreadable: this name is kept for the report", lines)
         self.assertTrue(os.path.exists(os.path.join(self.filed, "sub/report.csv.short")))
 
+    def test_a_folder_with_the_reports_name(self):
+        """Before, the run failed at its end, and every run after it."""
+        for name in ("report.csv/x.call", "report.csv/y/z.call", "report.jsonl/x.call", "a.call", "sub/report.csv/x.call"):
+            self.put(name, sample("printed"))
+        for _ in range(2):
+            out, said = run("provision", "--json", self.sent, self.filed, status=1)
+            self.assertEqual(said, "")
+            self.assertEqual(out.splitlines()[:3], ["report.csv: unreadable: this name is kept for the report",
+                                                    "report.jsonl: unreadable: this name is kept for the report",
+                                                    "4 files: 2 accepted, 0 refused, 2 unreadable"])
+            run("audit", self.filed)
+
     def test_memory_does_not_grow(self):
         """The largest process's memory with 300 and with 5,000 files."""
         data = sample("printed")
@@ -207,8 +222,8 @@ class Options(Case):
         for name in made:
             self.put(name, b"")
         for batch in (1, 2, 7, 250, 499, 500, 501):
-            with replaced(names, "_BATCH", batch):
-                self.assertEqual([entry.name for entry in names.walk(os.fsencode(self.sent))], made)
+            with replaced(names, "_BATCH", batch), filing.Folder.top(os.fsencode(self.sent)) as top:
+                self.assertEqual([entry.name for entry in names.walk(top)], made)
 
 
 class Odd(Case):
@@ -252,6 +267,34 @@ class Odd(Case):
             self.assertEqual(names.unquote(quoted), name)
             self.assertTrue(quoted.isprintable() or "\xa0" in quoted, quoted)
             quoted.encode("utf-8")
+
+    def test_no_cell_of_a_name_is_a_formula(self):
+        """Whatever a spreadsheet takes for the separator; and the names are undone when the report is read."""
+        signs = "=+-@\uff1d\uff0b\uff0d\uff20"
+        made = [f"{before}{sign}cmd|'!A0.call" for sign in signs for before in ("", " ", "\u3000", "a;", "a; ", "a,", '"', "a\t")]
+        for name in made:
+            self.put(name, sample("printed"))
+        run("provision", "--json", self.sent, self.filed)
+        for separator in ",;\t":
+            for row in csv.reader(lines_of(self.filed), delimiter=separator):
+                self.assertEqual([cell for cell in row if cell.strip()[:1] in set(signs)], [], separator)
+        self.assertEqual({os.fsdecode(names.unquote(name)) for name in rows_of(self.filed) if name}, set(made))
+        run("audit", self.filed)
+        outcome, _ = provision_here(self.sent, self.filed)
+        self.assertEqual(outcome.kept, len(made))
+
+    def test_what_is_not_seen_is_quoted(self):
+        """A name that would be read from right to left, or that has another's look."""
+        hidden = "\u202e\u202a\u202c\u2066\u2069\u200e\u200f\u061c\u200b\u200d\u2060\ufeff\u00ad\u2028\u2029\u180e\u3164\U000e0041"
+        for character in hidden:
+            self.put(f"a{character}llac.call", sample("refused"))
+        out, _ = run("provision", self.sent, self.filed, status=1)
+        self.assertIn("a\\xe2\\x80\\xaellac.call: refused 7 9", out)
+        self.assertEqual(len(out.splitlines()), len(hidden) + 3)
+        with open(os.path.join(self.filed, "report.csv"), encoding="utf-8") as file:
+            self.assertEqual(set(file.read()) & set(hidden), set())
+        self.assertEqual({os.fsdecode(names.unquote(name)) for name in rows_of(self.filed) if name},
+                         {f"a{character}llac.call" for character in hidden})
 
     def test_a_link_is_not_followed(self):
         outside = self.put("outside.call", sample("printed"), self.folder)
@@ -568,6 +611,20 @@ class Rights(Case):
         self.assertIn("Permission denied", told)
         self.assertEqual(self.as_nobody("audit", self.filed, status=0), "1 file compared: all as filed\n")
 
+    def test_a_report_without_rights(self):
+        """The system's reason, without its number."""
+        self.put("a.call", sample("printed"))
+        run("provision", self.sent, self.filed)
+        os.chmod(os.path.join(self.filed, "report.csv"), 0)
+        os.chmod(os.path.join(self.filed, ".halivomue/lock"), 0o666)
+        where = f"{self.filed}/report.csv: Permission denied\n"
+        self.assertEqual(self.as_nobody("provision", self.sent, self.filed, status=2), "halivomue provision: " + where)
+        self.assertEqual(self.as_nobody("page", self.filed, "--out", self.folder + "/p.html", status=2)[-len(where):], where)
+        self.assertIn("report.csv: altered: Permission denied\n", self.as_nobody("audit", self.filed, status=1))
+        os.chmod(self.filed, 0o711)
+        for words in (("audit", self.filed), ("provision", self.sent, self.filed)):
+            self.assertEqual(self.as_nobody(*words, status=2), f"halivomue {words[0]}: {self.filed}: Permission denied\n")
+
     def test_a_folder_of_filed_without_rights(self):
         self.put("a/a.call", sample("printed"))
         self.put("b/b.call", sample("printed"))
@@ -670,99 +727,6 @@ class Together(Case):
         self.assertEqual(tree(self.filed), tree(self.filed + "2"))
 
 
-def heed_interrupts():
-    """A shell's background jobs, as a gate may be, are started with SIGINT ignored, and so are their children."""
-    signal.signal(signal.SIGINT, signal.SIG_DFL)
-
-
-class Terminal(Case):
-    def on_terminal(self, *words):
-        """What a run writes to a terminal on standard error, with the modules of this test's folder."""
-        here, there = pty.openpty()
-        path = self.folder + os.pathsep + str(ROOT / "python")
-        process = subprocess.Popen([sys.executable, "-m", "halivomue", *words], stdout=subprocess.PIPE, stderr=there,
-                                   env=dict(os.environ, PYTHONPATH=path, TERM="xterm"))
-        os.close(there)
-        shown = b""
-        with contextlib.suppress(OSError):
-            more = os.read(here, 4096)
-            while more:
-                shown += more
-                more = os.read(here, 4096)
-        os.close(here)
-        process.communicate()
-        return shown.decode()
-
-    def test_a_line_without_tqdm(self):
-        fleet.write(self.sent, 120, 40)
-        self.put("tqdm.py", b"raise ImportError", self.folder)
-        shown = self.on_terminal("provision", self.sent, self.filed)
-        self.assertRegex(shown, r"\d+ of 120 files, \d+ a second, \d+:\d\d left")
-        self.assertTrue(shown.endswith("\r\x1b[K"))
-
-    def test_tqdm_where_it_is_installed(self):
-        """A stand-in of tqdm's is asked with the total, and told of every file."""
-        fleet.write(self.sent, 50, 40)
-        self.put("tqdm.py", b"""class tqdm:
-    def __init__(self, total, unit, file, dynamic_ncols, leave): self.file = file; self.n = 0; file.write('BAR %d' % total)
-    def update(self, n): self.n += n
-    def clear(self): pass
-    def close(self): self.file.write('DONE %d' % self.n)
-""", self.folder)
-        shown = self.on_terminal("provision", self.sent, self.filed)
-        self.assertIn("BAR 50", shown)
-        self.assertIn("DONE 50", shown)
-
-    def test_none_in_a_log(self):
-        fleet.write(self.sent, 30, 40)
-        done = subprocess.run([sys.executable, "-m", "halivomue", "provision", self.sent, self.filed], capture_output=True,
-                              env=dict(os.environ, PYTHONPATH=str(ROOT / "python")), check=False)
-        self.assertEqual(done.stderr, b"")
-        self.assertNotIn(b"\r", done.stdout)
-
-    def test_nobody_reads_the_dry_run(self):
-        fleet.write(self.sent, 40, 40)
-        words = [sys.executable, "-m", "halivomue", "provision", "--dry-run", self.sent, self.filed]
-        process = subprocess.Popen(words, stdout=subprocess.PIPE, stderr=subprocess.PIPE, env=dict(os.environ, PYTHONPATH=str(ROOT / "python")))
-        process.stdout.close()
-        said = process.stderr.read().decode()
-        process.stderr.close()
-        self.assertEqual((process.wait(), said.splitlines()[-1]), (2, "halivomue provision: Broken pipe"))
-
-    def test_nobody_reads_the_output(self):
-        """The run goes on where its output is closed."""
-        fleet.write(self.sent, 40, 40)
-        words = [sys.executable, "-m", "halivomue", "provision", self.sent, self.filed]
-        process = subprocess.Popen(words, stdout=subprocess.PIPE, stderr=subprocess.PIPE, env=dict(os.environ, PYTHONPATH=str(ROOT / "python")))
-        process.stdout.close()
-        said = process.stderr.read()
-        process.stderr.close()
-        self.assertIn(process.wait(), (0, 1))
-        self.assertEqual(said, b"")
-        self.assertTrue(os.path.exists(os.path.join(self.filed, "report.csv")))
-
-    def test_stopped_by_a_signal(self):
-        for number in range(1500):
-            self.put(f"{number % 10}/{number:04d}.call", sample("printed" if number % 500 else "refused"))
-        run("provision", "--no-flush", self.sent, self.filed + "2", status=1)
-        for number in (signal.SIGINT, signal.SIGTERM):
-            filed = self.filed + str(int(number))
-            words = [sys.executable, "-m", "halivomue", "provision", "--jobs", "2", self.sent, filed]
-            process = subprocess.Popen(words, stdout=subprocess.PIPE, stderr=subprocess.PIPE, preexec_fn=heed_interrupts,
-                                       env=dict(os.environ, PYTHONPATH=str(ROOT / "python")))
-            part = os.path.join(filed, ".halivomue/part.csv")
-            end = time.monotonic() + 20
-            while not (os.path.exists(part) and os.path.getsize(part) > 4000) and time.monotonic() < end:
-                time.sleep(0.005)
-            process.send_signal(number)
-            _, said = process.communicate()
-            self.assertEqual(process.returncode, 2, said)
-            self.assertEqual(said, b"halivomue provision: interrupted; the same command goes on where it stopped\n")
-            out, _ = run("provision", "--no-flush", self.sent, filed, status=1)
-            self.assertIn("were filed already", out)
-            self.assertEqual(tree(filed), tree(self.filed + "2"))
-
-
 class Parts(Case):
     """Smaller things."""
 
@@ -779,24 +743,34 @@ class Parts(Case):
         run("provision", self.sent, self.filed, status=1)
         with open(os.path.join(self.filed, "report.csv"), "rb") as file:
             whole = file.read()
-        path = os.fsencode(os.path.join(self.folder, "cut.csv"))
+        path = os.path.join(self.folder, "cut.csv")
+        top = filing.Folder.top(os.fsencode(self.folder))
+        self.addCleanup(top.close)
+        cut = filing.File(top, b"cut.csv")
         ends = [at + 1 for at, byte in enumerate(whole) if byte == 10]
         for length in range(0, len(whole), 11):
             with open(path, "wb") as file:
                 file.write(whole[:length])
-            self.assertEqual(len(list(report.rows(path))), min(max(sum(end <= length for end in ends) - 1, 0), 4))
+            self.assertEqual(len(list(report.entries(cut))), min(max(sum(end <= length for end in ends) - 1, 0), 4))
             with open(path, "wb") as file:
                 file.write(whole[:length] + bytes(4096))
-            list(report.rows(path))
+            list(report.entries(cut))
 
-    def test_modes_and_permissions(self):
-        self.put("a.call", sample("printed"))
-        before = os.umask(0o027)
+    def modes(self, name, umask):
+        before = os.umask(umask)
         try:
             provision_here(self.sent, self.filed)
         finally:
             os.umask(before)
-        self.assertEqual(stat.S_IMODE(os.stat(os.path.join(self.filed, "a.call")).st_mode), 0o640)
+        return {stat.S_IMODE(os.stat(os.path.join(self.filed, name + end)).st_mode) for end in ("", ".short")}
+
+    def test_modes(self):
+        """Both forms have the mode of the sent file, less what the umask takes away. Before, 0600 became 0644."""
+        for number, (mode, umask, due) in enumerate(((0o644, 0o027, 0o640), (0o600, 0o022, 0o600), (0o640, 0, 0o640), (0o666, 0, 0o666),
+                                                     (0o444, 0o022, 0o444), (0o4755, 0o022, 0o755))):
+            path = self.put(f"{number}.call", sample("printed"))
+            os.chmod(path, mode)
+            self.assertEqual(self.modes(f"{number}.call", umask), {due}, oct(mode))
 
 
 if __name__ == "__main__":

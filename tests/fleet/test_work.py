@@ -3,7 +3,7 @@
 import os
 import time
 
-from common import Case, provision, provision_here, replaced, unittest
+from common import Case, provisioning, provision_here, replaced, unittest
 
 import fleet
 from halivomue import work
@@ -17,7 +17,7 @@ class Work(Case):
         def ends(*_):
             os._exit(3)
 
-        with replaced(provision.Filer, "chunk", ends):
+        with replaced(provisioning.Filer, "chunk", ends):
             with self.assertRaises(Failed) as caught:
                 provision_here(self.sent, self.filed, jobs=2)
         self.assertIn("ended by itself", str(caught.exception))
