@@ -54,8 +54,7 @@ pub fn stays(b: &[u8], l: Layout) -> bool
 }
 
 // Code, block table and new registers hold a result: it is written with the other parts of the file, where it fits.
-// Steps behind Emit go here, each over the storage in place.
-fn finish(
+fn put(
     out: &mut [u8],
     b: &[u8],
     l: Layout,
@@ -90,7 +89,7 @@ fn finish(
 pub fn put_sent(out: &mut [u8], b: &[u8], l: Layout) -> Answer
     ensures { λ z. ⌜ ((p : Procedure) → Parted p (partsOf (now (b .entry)) l) → outcome z (now (out .exit)) ≡ shortened (unchanged p) (now (out .entry))) ⌝ }
 {
-    finish(
+    put(
         out,
         b,
         l,
@@ -103,13 +102,34 @@ pub fn put_sent(out: &mut [u8], b: &[u8], l: Layout) -> Answer
     )
 }
 
+// Code, block table and new registers hold what Emit leaves, or what there is where nothing is threaded. Steps behind Emit go
+// here, each over the storage in place; then the result is written.
+fn finish(
+    out: &mut [u8],
+    b: &[u8],
+    l: Layout,
+    code: &mut [u8],
+    heads: &mut [u8],
+    kinds: &[u8],
+    moved: bool,
+    grown: u32,
+    rescued: u32,
+) -> Answer
+    ensures { λ z. ⌜ ((s : Shortened)
+        → Holds (s .procedure) (recoded (partsOf (now (b .entry)) l) (now (code .entry)) (now (heads .entry))) (now (kinds .entry))
+        → Tells s moved grown (length (now (kinds .entry))) rescued
+        → outcome z (now (out .exit)) ≡ shortened s (now (out .entry))) ⌝ }
+{
+    put(out, b, l, code, heads, kinds, moved, grown, rescued)
+}
+
 // Nothing is threaded: the storage holds the result already, the code with its equal arms joined.
 fn write_same(
     out: &mut [u8],
     b: &[u8],
     l: Layout,
-    work: &[u8],
-    table: &[u8],
+    work: &mut [u8],
+    table: &mut [u8],
     kinds: &[u8],
     facts: &[u64],
     r: Ran,
@@ -123,7 +143,7 @@ fn write_same(
         out,
         b,
         l,
-        &work[..32 * m],
+        &mut work[..32 * m],
         table,
         &kinds[..0],
         r.joined,
@@ -164,7 +184,7 @@ fn write_emitted(
         out,
         b,
         l,
-        &code[..32 * n],
+        &mut code[..32 * n],
         heads,
         &kinds[..m],
         true,
@@ -178,8 +198,8 @@ fn write(
     out: &mut [u8],
     b: &[u8],
     l: Layout,
-    work: &[u8],
-    table: &[u8],
+    work: &mut [u8],
+    table: &mut [u8],
     kinds: &[u8],
     facts: &[u64],
     code: &mut [u8],

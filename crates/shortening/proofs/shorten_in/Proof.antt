@@ -38,13 +38,13 @@ same-length-2 : tie.Need-same-length-2
 same-length-2 c =
     let w : tie.After-write = search in
     let r = ran-of (first-of w) in
-    r .run .kept .0 ∙ code-of (heads-of (operands-of r)) .put-front .kept .0
+    w .write .kept .1 .1 .1 .0 ∙ r .run .kept .0 ∙ code-of (heads-of (operands-of r)) .put-front .kept .0
 
 same-length-3 : tie.Need-same-length-3
 same-length-3 c =
     let w : tie.After-write = search in
     let r = ran-of (first-of w) in
-    r .run .kept .1 .0 ∙ heads-of (operands-of r) .put-front2 .kept .0
+    w .write .kept .1 .1 .1 .1 .0 ∙ r .run .kept .1 .0 ∙ heads-of (operands-of r) .put-front2 .kept .0
 
 returns : tie.Need-returns
 returns c p o e g =

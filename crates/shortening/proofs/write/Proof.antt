@@ -16,5 +16,6 @@ returns-2 c p h g =
 
 pub write-spec : {M : Type 1} → statement M
 write-spec =
-    tie.close (tie.spec (λ c κs. search needs) (λ c. search needs) (λ c. search needs) (λ c. search needs) returns
-    (λ c κs. search needs) (λ c. search needs) returns-2)
+    tie.close (tie.spec (λ c κs. search needs) (λ c. search needs) (λ c. search needs) (λ c. search needs)
+    (λ c. search needs) (λ c. search needs) returns (λ c κs. search needs) (λ c. search needs) (λ c. search needs)
+    (λ c. search needs) returns-2)

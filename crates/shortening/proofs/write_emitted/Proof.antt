@@ -15,6 +15,12 @@ use borrow.Author.Needs.{needs}
 use Rattle.shortening.proofs.write_emitted.Statement.{statement}
 use Rattle.shortening.proofs.write_emitted.Tie as tie
 
+abbrev joined-of : tie.After-finish → tie.Joined1
+joined-of f = search
+
+abbrev least-of : tie.Joined1 → tie.After-least
+least-of i = search
+
 abbrev emitted-of : tie.After-least → tie.After-emit-into
 emitted-of m = search
 
@@ -49,8 +55,8 @@ slice-aggregate-finish-2 c =
 returns : tie.Need-returns
 returns c p h g on =
     let f : tie.After-finish = search in
-    let i : tie.Joined1 = search in
-    let m : tie.After-least = search in
+    let i = joined-of f in
+    let m = least-of i in
     let q = emitted-of m in
     let y = arms-of q in
     let a = start-of y .args in

@@ -17,14 +17,17 @@ slice-aggregate-finish c =
     let e = m .least .ensures in
     simp length-take (omega arith)
 
+abbrev least-of : tie.After-finish → tie.After-least
+least-of q = search
+
 abbrev start-of : tie.After-part → tie.Start
 start-of p = search
 
 returns : tie.Need-returns
 returns c p h off =
     let q : tie.After-finish = search in
-    let m : tie.After-least = search in
-    let p1 : tie.After-part = search in
+    let m = least-of q in
+    let p1 = m .before in
     let a = start-of p1 .args in
     let x = partsOf (now (a .b)) (a .l) in
     let n = m .least .ensures ∙ ap (λ (y : List ℕ). min (length y / 32) (length (now (a .work)) / 32)) (p1 .part .ensures) in
@@ -34,5 +37,6 @@ returns c p h off =
 
 pub write-same-spec : {M : Type 1} → statement M
 write-same-spec =
-    tie.close (tie.spec (λ c κs. search needs) (λ c κs. search needs) (λ c. search needs) slice-aggregate-finish
-    (λ c. search needs) (λ c κs. search needs) (λ c. search needs) returns)
+    tie.close (tie.spec (λ c κs. search needs) (λ c κs. search needs) (λ c. search needs) (λ c. search needs)
+    slice-aggregate-finish (λ c. search needs) (λ c κs. search needs) (λ c. search needs) (λ c. search needs)
+    (λ c. search needs) returns)

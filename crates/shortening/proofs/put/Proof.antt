@@ -1,8 +1,8 @@
 use denote.Ref.{now}
 use Rattle.shortening.proofs.Written.{held-written}
 use borrow.Author.Needs.{needs}
-use Rattle.shortening.proofs.finish.Statement.{statement}
-use Rattle.shortening.proofs.finish.Tie as tie
+use Rattle.shortening.proofs.put.Statement.{statement}
+use Rattle.shortening.proofs.put.Tie as tie
 
 abbrev start-of : tie.After-part → tie.Start
 start-of p = search
@@ -17,7 +17,7 @@ returns c s h t =
     let a = start-of p .args in
     held-written (now (a .b)) (a .l) (now (a .out)) (p .part .ensures) (p2 .part2 .ensures) (p3 .part3 .ensures) (p4 .part4 .ensures) (q .put-form .ensures) s h t
 
-pub finish-spec : {M : Type 1} → statement M
-finish-spec =
+pub put-spec : {M : Type 1} → statement M
+put-spec =
     tie.close (tie.spec (λ c κs. search needs) (λ c κs. search needs) (λ c κs. search needs) (λ c κs. search needs)
     (λ c κs. search needs) (λ c. search needs) returns)
