@@ -7,6 +7,7 @@ import sys
 from typing import Callable, Iterable, Iterator, List, NamedTuple, Optional
 
 from . import _library, causes, filing, names, report, work
+from .answers import reason
 from .filer import asked, described, is_refused
 from .filing import LINE, Failed, Folder, Held, NotAFile, Unreadable
 from .progress import Progress
@@ -122,9 +123,17 @@ def _wrong_row(row: Row) -> Optional[str]:
     filed_now = row.filed in ("yes", "as sent")
     if not filed_now and row.filed not in ("no", "earlier", "spoiled") or (row.answer == "accepted") != filed_now:
         return f"{row.answer} and filed {row.filed!r} don't go together"
-    if row.answer == "refused" and row.number is not None and not causes.fits(row.number, row.record or 0, row.reason):
+    if row.answer == "refused" and row.number is not None and row.reason != _reason(row):
         return "number, record and reason of the refusal don't go together"
     return None
+
+
+def _reason(row: Row) -> str:
+    """What a run writes of a refusal: the words of its number, so that none of them can be changed unseen."""
+    try:
+        return reason(row.number or 0, row.record or 0)
+    except KeyError:
+        return ""
 
 
 def _own(name: bytes) -> bool:

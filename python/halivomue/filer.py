@@ -7,8 +7,8 @@ import hashlib
 import os
 from typing import Any, List, NamedTuple, Optional, Set, Tuple, Union
 
-from . import _library, causes, filing, names, report
-from .answers import is_by_addr_of, untidy_reason
+from . import _library, filing, names, report
+from .answers import is_by_addr_of, reason, untidy_reason
 from .filing import Failed, Folder, Form, Held, Unreadable
 from .report import Row
 
@@ -97,7 +97,7 @@ def filed_as(sent: Optional[bytes], short: Optional[bytes]) -> Optional[Both]:
 def without_short(name: str, answer: str, filed: str, both: Both) -> Row:
     """The row of a file that is filed as sent alone, with the reason."""
     sent, tidiness, number = both.sent, both.tidiness, both.shortening.number or None
-    why = causes.reason(sent, number, 0) if number else untidy_reason(tidiness.reg, is_by_addr_of(sent, tidiness.reg))
+    why = reason(number, 0) if number else untidy_reason(tidiness.reg, is_by_addr_of(sent, tidiness.reg))
     return Row(
         name,
         answer,
@@ -272,7 +272,7 @@ class Filer:
         both = asked(form.data)
         if is_refused(both):
             number, record = both.shortening.number, both.shortening.record
-            return self.unfiled(task.name, "refused", causes.reason(form.data, number, record), number, record)
+            return self.unfiled(task.name, "refused", reason(number, record), number, record)
         if not both.tidiness.tidy:
             if self.strict:
                 why = untidy_reason(both.tidiness.reg, is_by_addr_of(form.data, both.tidiness.reg))

@@ -27,7 +27,7 @@ class Samples(Case):
         out, said = run("provision", self.sent, self.filed, status=1)
         self.assertEqual(said, "")
         self.assertEqual(out.splitlines(), [
-            "refused.call: refused 7 9 (record 9: p1 (dst) names register 1, and there is 1 register)",
+            "refused.call: refused 7 9 (record 9 names a register, block, table or list that does not exist)",
             "untidy.call: filed without a shortened form (register 5 is written once, and read elsewhere than later in the same block)",
             "4 files: 3 accepted, 1 refused, 0 unreadable, 1 untidy, 1 without a shortened form",
             "instructions 34 to 34, bytes 2336 to 2336, moved 1, grown 2, fresh 0, rescued 0",
@@ -342,7 +342,7 @@ class Odd(Case):
 
         with replaced(os, "read", counted):
             _, lines = provision_here(self.sent, self.filed)
-        why = "(the file is longer than 65536 bytes)"
+        why = "(the file is not a multiple of 32 bytes long, or is longer than 65536)"
         self.assertEqual(lines[0], f"huge.call: refused 1 0 {why}")
         self.assertIn("limit.call: refused 2 0", lines[1])
         self.assertEqual(lines[2], f"long.call: refused 1 0 {why}")
