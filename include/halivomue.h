@@ -35,7 +35,7 @@ extern "C" {
 /* Bytes of stack that suffice for a call. tests/stack/run measures them. */
 #define HALIVOMUE_READ_STACK 1024
 #define HALIVOMUE_TIDY_STACK 8192
-#define HALIVOMUE_SHORTEN_STACK 98304
+#define HALIVOMUE_SHORTEN_STACK 131072
 
 /* Bytes of output buffer that suffice for the shortened form of every file. */
 #define HALIVOMUE_ROOM 61728
