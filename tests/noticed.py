@@ -93,6 +93,7 @@ IMPORTS = [
 ]
 
 # What takes something without proof, in files that the theorem doesn't import.
+SHORTEN = "pub fn shorten(bytes: &[u8], out: &mut [u8]) -> Answer\n"
 SCANNED = [
     ("crates/note/proofs/Lib.antt", "pub mod ", "pub mod Axioms\npub mod ", None),
     ("crates/note/proofs/Axioms.antt", None, "axiom pub never : ⊥\n",
@@ -108,10 +109,11 @@ SCANNED = [
     ("crates/emit/proofs/Lib.antt", "pub mod ", "pub mod Lost\npub mod ", None),
     ("crates/emit/proofs/Lost.antt", None, "use Rattle.emit.proofs.Nowhere.{law}\n",
      "crates/emit/proofs/Lost.antt:1: `Rattle.emit.proofs.Nowhere.law` leads nowhere"),
-    ("crates/shorten/src/lib.rt", "    ensures is {", "    requires { ⌜ ⊥ ⌝ }\n    ensures is {",
-     "the clause `requires` isn't stated here"),
-    ("crates/shorten/src/lib.rt", "    ensures room {", "    ensures more { λ r. ⌜ r ≡ r ⌝ }\n    ensures room {",
-     "the clause `ensures more` isn't stated here"),
+    ("crates/shorten/src/lib.rt", SHORTEN, SHORTEN + "    requires { ⌜ ⊥ ⌝ }\n", "the clause `requires` isn't stated here"),
+    ("crates/shorten/src/lib.rt", SHORTEN, SHORTEN + "    ensures more { λ r. ⌜ r ≡ r ⌝ }\n", "the clause `ensures more` isn't stated here"),
+    ("crates/halivomue_c/src/lib.rt", "    ensures place { λ r. ⌜ r .place ≡ reading",
+     "    ensures other { λ r. ⌜ r .place ≡ r .place ⌝ }\n    ensures place { λ r. ⌜ r .place ≡ reading",
+     "the clause `ensures other` isn't stated here"),
 ]
 
 # A hypothesis more.
