@@ -5,8 +5,7 @@
 
 For each fault of faults.txt (or those from FIRST to before LAST, counted from 0) the definitions are
 copied into the scratch crate with the fault, and what the Rust tells is claimed of these: of some
-runs, and where none differs of all. It takes some eight minutes of one core, so the gate leaves it
-out.
+runs, and where none differs of all. It takes some minutes, so the gate leaves it out.
 """
 
 import os
