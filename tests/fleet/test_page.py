@@ -138,7 +138,7 @@ class Made(Case):
         data = self.data()
         rows = {row[0]: dict(zip(data["columns"], row)) for row in data["rows"]}
         self.assertEqual((rows["refused.call"]["answer"], rows["refused.call"]["record"]), ("refused 7", 9))
-        self.assertEqual(rows["refused.call"]["reason"], "record 9: p1 (dst) names register 1, and there is 1 register")
+        self.assertEqual(rows["refused.call"]["reason"], "record 9 names a register, block, table or list that does not exist")
         (odd,) = (name for name in rows if name.startswith("odd"))
         self.assertEqual(rows[odd]["reason"], "register 5 is written once, by CallNative in block 2, and read in another block (block 3)")
         for n, row in enumerate(data["rows"]):
@@ -213,10 +213,10 @@ class Made(Case):
             self.assertEqual(again, sorted(numbers))
             b.click("th:nth-child(1) button")
             self.assertEqual(b.run(column % 0), shown)
-            b.run("find.value = 'names register 1'; find.oninput()")
+            b.run("find.value = 'names a register'; find.oninput()")
             self.assertEqual(b.run(column % 0), ["refused.call"])
             b.click("tbody tr:last-child")
-            self.assertIn("refused 7 9: record 9: p1 (dst) names", b.until("document.getElementById('file').textContent"))
+            self.assertIn("refused 7 9: record 9 names a register", b.until("document.getElementById('file').textContent"))
             b.run("find.value = 'printed'; find.oninput()")
             b.click("tbody tr")
             told = b.until("document.querySelector('#file h2').textContent === 'printed.call' && document.getElementById('file').textContent")
