@@ -28,7 +28,7 @@ use Rattle.read.specs.declared.Reading.{Reading}
 abbrev pub other : List ℕ → Reading
 other b = reading b
 """
-READING = "ghost use Rattle.format.specs.Record.{recordsOf};"
+READING = "ghost use Rattle.records.specs.Record.{recordsOf};"
 CONTRACT = "λ r. ⌜ r ≡ reading (now (b .entry)) ⌝"
 ADDED = {"crates/read/specs/Other.antt": OTHER}
 TOLD = "read/specs/Other.antt isn't listed as believed, and the contract of read::read names its `other`"
@@ -61,18 +61,18 @@ PAGE = [
     ("crates/tidy/specs/Least.antt", None,
      "use Prim.Native.Nat.{ℕ}\n\nabbrev pub lesser : ℕ → ℕ → ℕ\nlesser r s = r\n",
      "tidy/specs/Least.antt isn't listed as believed, and `lesser` in it is reached from"),
-    ("crates/format/specs/Record.antt", "firstRecords zero b = []", "firstRecords zero b = drop 1 (blank ∷ [])",
-     "`blank` of format/specs/Record.antt has a row as reached from nothing public, and is reached"),
-    ("crates/format/specs/Kinds.antt", "abbrev pub zeros ", "abbrev pub spare : ℕ\nspare = 0\n\nabbrev pub zeros ",
-     "`spare` of format/specs/Kinds.antt is reached from nothing public, and no row says why it stands there"),
+    ("crates/records/specs/Record.antt", "firstRecords zero b = []", "firstRecords zero b = drop 1 (blank ∷ [])",
+     "`blank` of records/specs/Record.antt has a row as reached from nothing public, and is reached"),
+    ("crates/records/specs/Kinds.antt", "abbrev pub zeros ", "abbrev pub spare : ℕ\nspare = 0\n\nabbrev pub zeros ",
+     "`spare` of records/specs/Kinds.antt is reached from nothing public, and no row says why it stands there"),
     ("crates/read/src/lib.rt", READING,
      f"{READING}\nghost use Rattle.layout.proofs.layout_of.Statement.{{statement}};", None),
     ("crates/read/src/lib.rt", CONTRACT, "λ r. ⌜ (r ≡ reading (now (b .entry))) × statement ⌝",
      "Rattle.layout.proofs.layout_of.Statement.statement, which is made of a function's code, is reached from"),
     ("docs/MAP.md", "| `terminatorOf` |", "| `terminates` |",
      "`terminates` of ends/specs/Ends.antt has a row as reached from nothing public, and isn't there"),
-    ("docs/MAP.md", "| `shape/specs/Exist.antt` | 28 |", "| `shape/specs/Exist.antt` | 29 |",
-     "shape/specs/Exist.antt has 28 lines, not 29"),
+    ("docs/MAP.md", "| `record_rules/specs/Exist.antt` | 28 |", "| `record_rules/specs/Exist.antt` | 29 |",
+     "record_rules/specs/Exist.antt has 28 lines, not 29"),
     ("docs/MAP.md", "| `paths/specs/Paths.antt` | 44 | 4 of 7 |", "| `paths/specs/Paths.antt` | 44 | 7 |",
      "of paths/specs/Paths.antt 4 of 7 definitions are reached, not 7"),
     ("crates/steps/src/lib.rt", "pub struct Answer {", "pub struct Answer {\n    pub more: layout::Layout,",
@@ -82,8 +82,8 @@ PAGE = [
 IMPORTS = [
     ("crates/machine/specs/Act.antt", "use Rattle.inst.specs.Inst.{kindOf}", "use Rattle.inst.specs.Nowhere.{kindOf}",
      "crates/machine/specs/Act.antt:4: `Rattle.inst.specs.Nowhere.kindOf` leads nowhere"),
-    ("crates/blocks/specs/Blocks.antt", "use Rattle.format.specs.Record.{", "use Rattle.format.specs.Record.{absent, ",
-     "`Rattle.format.specs.Record.absent` leads nowhere"),
+    ("crates/blocks/specs/Blocks.antt", "use Rattle.records.specs.Record.{", "use Rattle.records.specs.Record.{absent, ",
+     "`Rattle.records.specs.Record.absent` leads nowhere"),
     ("crates/word/specs/Word.antt", "use mathlib.Core.Bool.{",
      "use mathlib.Core.Bool hiding (true)\nuse mathlib.Core.Bool.{", "a `use` line of a shape that isn't known"),
     ("crates/small/src/lib.rt", "ghost use mathlib.Core.Path.{_≡_};", "ghost use mathlib.Core.Nowhere.{_≡_};",
@@ -98,7 +98,7 @@ SCANNED = [
     ("crates/note/proofs/Lib.antt", "pub mod ", "pub mod Axioms\npub mod ", None),
     ("crates/note/proofs/Axioms.antt", None, "axiom pub never : ⊥\n",
      "crates/note/proofs/Axioms.antt:1: an axiom is declared"),
-    ("crates/fill/proofs/Laws.antt", "use mathlib.Core.List.{", "use Prim.{\n  Axiom.{lem}\n}\nuse mathlib.Core.List.{",
+    ("crates/count_facts/proofs/Laws.antt", "use mathlib.Core.List.{", "use Prim.{\n  Axiom.{lem}\n}\nuse mathlib.Core.List.{",
      "an axiom is named: Axiom"),
     ("crates/gate/proofs/Lib.antt", "pub mod ", "pub mod Open\npub mod ", None),
     ("crates/gate/proofs/Open.antt", None, "use Prim.Native.Nat.{ℕ}\n\nopen-number : ℕ\nopen-number = ?here\n",
@@ -106,9 +106,9 @@ SCANNED = [
     ("crates/facts/src/lib.rt", "ghost use mathlib.Core.Path.{_≡_};",
      'ghost use mathlib.Core.Path.{_≡_};\n\nextern "C" {\n    fn assumed();\n}\n',
      "C functions are declared, and nothing proves"),
-    ("crates/emit/proofs/Lib.antt", "pub mod ", "pub mod Lost\npub mod ", None),
-    ("crates/emit/proofs/Lost.antt", None, "use Rattle.emit.proofs.Nowhere.{law}\n",
-     "crates/emit/proofs/Lost.antt:1: `Rattle.emit.proofs.Nowhere.law` leads nowhere"),
+    ("crates/emit_records/proofs/Lib.antt", "pub mod ", "pub mod Lost\npub mod ", None),
+    ("crates/emit_records/proofs/Lost.antt", None, "use Rattle.emit_records.proofs.Nowhere.{law}\n",
+     "crates/emit_records/proofs/Lost.antt:1: `Rattle.emit_records.proofs.Nowhere.law` leads nowhere"),
     ("crates/shorten/src/lib.rt", SHORTEN, SHORTEN + "    requires { ⌜ ⊥ ⌝ }\n", "the clause `requires` isn't stated here"),
     ("crates/shorten/src/lib.rt", SHORTEN, SHORTEN + "    ensures more { λ r. ⌜ r ≡ r ⌝ }\n", "the clause `ensures more` isn't stated here"),
     ("crates/halivomue_c/src/lib.rt", "    ensures place { λ r. ⌜ r .place ≡ reading",

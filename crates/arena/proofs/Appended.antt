@@ -7,8 +7,8 @@ use mathlib.Core.List.{List, [], _∷_, _++_, map, append-nil}
 use borrow.Author.Tests.{leb-true, le-leb}
 use lib.ListN.{length, getD, set}
 use lib.Seq.{set-getD, append-snoc, getD-set-same}
-use Rattle.format.specs.declared.Record.{Record}
-use Rattle.format.specs.Record.{recordAt}
+use Rattle.records.specs.declared.Record.{Record}
+use Rattle.records.specs.Record.{recordAt}
 use Rattle.inst.specs.declared.Code.{Code}
 use Rattle.codec.specs.Codec.{recordOf, InRange}
 use Rattle.blocks.specs.Blocks.{blockRecordsIn, blocksOf}

@@ -10,11 +10,11 @@ use lib.ListN.{length, getD, take, drop, set, length-drop, length-map, List·get
 use lib.Seq.{take-take, take-suc-set, drop-set-add, length-take-le, set-set, getD-set-same}
 use Rattle.general.proofs.Numbers.{order}
 use Rattle.general.proofs.Lists.{map-take, map-set}
-use Rattle.format.specs.declared.Record.{Record}
-use Rattle.format.specs.Record.{recordsOf, recordAt}
-use Rattle.format.proofs.Laws.{length-records}
-use Rattle.store.specs.Store.{putOf}
-use Rattle.store.proofs.Laws.{fits-at, put-records, put-length}
+use Rattle.records.specs.declared.Record.{Record}
+use Rattle.records.specs.Record.{recordsOf, recordAt}
+use Rattle.records.proofs.Laws.{length-records}
+use Rattle.put_record.specs.Store.{putOf}
+use Rattle.put_record.proofs.Laws.{fits-at, put-records, put-length}
 use Rattle.read.specs.Structure.{codeOf as recordsOfBlock}
 use Rattle.inst.specs.declared.Code.{Code}
 use Rattle.codec.specs.Codec.{codeOf, recordOf, InRange}

@@ -10,8 +10,8 @@ use lib.Dec.{ltb, leb}
 use lib.ListN.{length, length-take, drop-of-length-le, getD, take, drop, set, length-append, length-drop, List·getD-append}
 use lib.Seq.{drop-cons, paste, paste-suc, length-take-le, getD-take, getD-drop}
 use Rattle.general.proofs.Booleans.{and-first, and-second}
-use Rattle.format.specs.declared.Record.{Record}
-use Rattle.format.specs.Record.{recordAt}
+use Rattle.records.specs.declared.Record.{Record}
+use Rattle.records.specs.Record.{recordAt}
 use Rattle.inst.specs.declared.Code.{Code}
 use Rattle.arena.specs.Arena.{Arena, Topped, sizeOf, isLast, room, moves, moveIf, toEnd, popped, popIf, pop, grows, pushIf, push, pushAll}
 

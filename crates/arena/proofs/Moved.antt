@@ -9,9 +9,9 @@ use lib.Dec.{leb}
 use lib.ListN.{length, getD, take, drop, length-drop}
 use lib.Seq.{paste, take-paste, length-paste, take-take, take-at, drop-at, length-take-le, set-getD}
 use Rattle.general.proofs.Booleans.{and-first, and-second}
-use Rattle.format.specs.declared.Record.{Record}
-use Rattle.format.specs.Record.{recordsOf, recordAt}
-use Rattle.store.specs.Store.{Bytes}
+use Rattle.records.specs.declared.Record.{Record}
+use Rattle.records.specs.Record.{recordsOf, recordAt}
+use Rattle.put_record.specs.Store.{Bytes}
 use Rattle.read.specs.Structure.{codeOf as recordsOfBlock}
 use Rattle.blocks.specs.Blocks.{blockRecordsIn}
 use Rattle.blocks.specs.Rewrite.{Holds, Apart}

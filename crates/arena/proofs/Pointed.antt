@@ -11,11 +11,11 @@ use lib.ListN.{length, take, drop, set}
 use lib.Seq.{take-take}
 use Rattle.general.proofs.Numbers.{order}
 use Rattle.general.proofs.Lists.{drop-take}
-use Rattle.format.specs.declared.Record.{Record}
-use Rattle.format.specs.Record.{recordsOf, recordAt}
-use Rattle.format.proofs.Laws.{length-records}
-use Rattle.store.specs.Store.{Fits}
-use Rattle.store.proofs.Laws.{put-same, put-other, put-length}
+use Rattle.records.specs.declared.Record.{Record}
+use Rattle.records.specs.Record.{recordsOf, recordAt}
+use Rattle.records.proofs.Laws.{length-records}
+use Rattle.put_record.specs.Store.{Fits}
+use Rattle.put_record.proofs.Laws.{put-same, put-other, put-length}
 use Rattle.read.specs.Structure.{codeOf as recordsOfBlock}
 use Rattle.items.specs.Items.{blockRecord}
 use Rattle.blocks.specs.Blocks.{blockRecordsIn}

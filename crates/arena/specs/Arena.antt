@@ -5,9 +5,9 @@ use mathlib.Core.List.{List, [], _∷_}
 use lib.Dec.{eqb, ltb, leb}
 use lib.ListN.{length, drop}
 use lib.Seq.{paste}
-use Rattle.format.specs.declared.Record.{Record}
-use Rattle.format.specs.Record.{recordAt}
-use Rattle.store.specs.Store.{putOf}
+use Rattle.records.specs.declared.Record.{Record}
+use Rattle.records.specs.Record.{recordAt}
+use Rattle.put_record.specs.Store.{putOf}
 use Rattle.inst.specs.declared.Code.{Code}
 use Rattle.codec.specs.Codec.{recordOf}
 use Rattle.items.specs.Items.{blockRecord}

@@ -5,10 +5,10 @@ ghost use lib.ListN.{length, take, drop};
 ghost use lib.Seq.{paste};
 ghost use Rattle.arena.specs.Arena as spec;
 ghost use Rattle.arena.specs.Arena.{arena, topped};
-use format::Record;
 use inst::Block;
 use inst::BlockId;
 use inst::Code;
+use records::Record;
 
 fn size_of(r: Record) -> usize
     ensures { λ n. ⌜ n ≡ spec.sizeOf r ⌝ }
@@ -60,7 +60,7 @@ fn copy(b: &mut [u8], from: usize, to: usize, n: usize)
 fn point(table: &mut [u8], k: BlockId, start: u32, end: u32)
     ensures { λ u. ⌜ now (table .exit) ≡ spec.pointed (now (table .entry)) (k .0) start end ⌝ }
 {
-    store::put_record(
+    put_record::put_record(
         table,
         k.0 as usize,
         items::record_of_block(Block { start, end }),
@@ -71,7 +71,7 @@ fn point(table: &mut [u8], k: BlockId, start: u32, end: u32)
 pub fn to_end(work: &mut [u8], table: &mut [u8], k: BlockId, top: usize) -> usize
     ensures { λ r. ⌜ arena (now (work .exit)) (now (table .exit)) r ≡ spec.toEnd (k .0) (arena (now (work .entry)) (now (table .entry)) top) ⌝ }
 {
-    let r = format::record_at(table, k.0 as usize);
+    let r = records::record_at(table, k.0 as usize);
     if !moves(work, r, top) {
         return top;
     }
@@ -91,7 +91,7 @@ fn can_pop(r: Record, top: usize) -> bool
 pub fn pop(table: &mut [u8], k: BlockId, top: usize) -> usize
     ensures { λ r. ⌜ topped (now (table .exit)) r ≡ spec.pop (k .0) (topped (now (table .entry)) top) ⌝ }
 {
-    let r = format::record_at(table, k.0 as usize);
+    let r = records::record_at(table, k.0 as usize);
     if !can_pop(r, top) {
         return top;
     }
@@ -109,11 +109,11 @@ fn grows(work: &[u8], r: Record, top: usize) -> bool
 pub fn push(work: &mut [u8], table: &mut [u8], k: BlockId, top: usize, c: Code) -> usize
     ensures { λ r. ⌜ arena (now (work .exit)) (now (table .exit)) r ≡ spec.push (k .0) c (arena (now (work .entry)) (now (table .entry)) top) ⌝ }
 {
-    let r = format::record_at(table, k.0 as usize);
+    let r = records::record_at(table, k.0 as usize);
     if !grows(work, r, top) {
         return top;
     }
-    store::put_record(work, top, codec::record_of(c));
+    put_record::put_record(work, top, codec::record_of(c));
     point(table, k, r.p1, (top + 1) as u32);
     top + 1
 }

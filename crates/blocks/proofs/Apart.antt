@@ -12,13 +12,13 @@ use lib.Seq.{drop-set-lt, drop-set-add, take-set-le, take-set-lt, getD-take, get
 use Rattle.general.proofs.Booleans.{and-first, and-second}
 use Rattle.general.proofs.Numbers.{order}
 use Rattle.general.proofs.Lists.{map-set}
-use Rattle.format.specs.declared.Record.{Record}
-use Rattle.format.specs.Record.{recordsOf, recordAt, blank}
-use Rattle.format.proofs.Laws.{length-records}
+use Rattle.records.specs.declared.Record.{Record}
+use Rattle.records.specs.Record.{recordsOf, recordAt, blank}
+use Rattle.records.proofs.Laws.{length-records}
 use Rattle.layout.specs.Walk.{walk}
 use Rattle.layout.proofs.Walks.{walk-head, walk-tail}
-use Rattle.store.specs.Store.{Bytes}
-use Rattle.store.proofs.Laws.{put-records, fits-at}
+use Rattle.put_record.specs.Store.{Bytes}
+use Rattle.put_record.proofs.Laws.{put-records, fits-at}
 use Rattle.read.specs.Structure.{State, tiles, nextBlock, codeOf as recordsOfBlock}
 use Rattle.inst.specs.declared.Inst.{Inst}
 use Rattle.codec.specs.Codec.{codeOf, recordOf, inRange, rewrittenRecord}

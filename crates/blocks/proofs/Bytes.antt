@@ -7,10 +7,10 @@ use mathlib.Core.List.{List, [], _∷_, _++_}
 use lib.ListN.{length, getD, take, drop}
 use lib.Dec.{ltb}
 use lib.Seq.{paste}
-use Rattle.format.specs.declared.Record.{Record}
-use Rattle.format.specs.Record.{recordAt}
-use Rattle.store.specs.Store.{wordBytes, tagBytes, recordBytes, putOf, Bytes}
-use Rattle.store.proofs.Laws.{put-length, fits-at}
+use Rattle.records.specs.declared.Record.{Record}
+use Rattle.records.specs.Record.{recordAt}
+use Rattle.put_record.specs.Store.{wordBytes, tagBytes, recordBytes, putOf, Bytes}
+use Rattle.put_record.proofs.Laws.{put-length, fits-at}
 use Rattle.inst.specs.declared.Code.{Code}
 use Rattle.inst.specs.declared.Inst.{Inst}
 use Rattle.codec.specs.Codec.{InRange, rewrittenRecord}

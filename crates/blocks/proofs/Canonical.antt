@@ -6,12 +6,12 @@ use mathlib.Core.Bool.{true}
 use mathlib.Core.List.{List, [], _∷_, map}
 use lib.ListN.{length, getD, take, drop}
 use Rattle.general.proofs.Lists.{map-take, map-drop}
-use Rattle.format.specs.declared.Record.{Record}
-use Rattle.format.specs.Record.{recordsOf, recordAt, blank}
-use Rattle.format.specs.Kinds.{right}
-use Rattle.format.proofs.Laws.{length-records}
-use Rattle.store.specs.Store.{Bytes}
-use Rattle.store.proofs.Laws.{fits-at}
+use Rattle.records.specs.declared.Record.{Record}
+use Rattle.records.specs.Record.{recordsOf, recordAt, blank}
+use Rattle.records.specs.Kinds.{right}
+use Rattle.records.proofs.Laws.{length-records}
+use Rattle.put_record.specs.Store.{Bytes}
+use Rattle.put_record.proofs.Laws.{fits-at}
 use Rattle.read.specs.Structure.{codeOf as recordsOfBlock}
 use Rattle.codec.specs.Codec.{codeOf, recordOf}
 use Rattle.codec.proofs.Laws.{write-back}

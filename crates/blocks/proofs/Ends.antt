@@ -9,9 +9,9 @@ use borrow.Author.Tests.{eq-eqb, ne-eqb, eqb-false}
 use lib.Dec.{eqb}
 use lib.ListN.{length, getD}
 use Rattle.general.proofs.Numbers.{order}
-use Rattle.format.specs.declared.Record.{Record}
-use Rattle.format.specs.Record.{recordAt}
-use Rattle.format.proofs.Laws.{length-records}
+use Rattle.records.specs.declared.Record.{Record}
+use Rattle.records.specs.Record.{recordAt}
+use Rattle.records.proofs.Laws.{length-records}
 use Rattle.inst.specs.declared.Code.{Code}
 use Rattle.codec.specs.Codec.{instOf}
 use Rattle.procedure.specs.Procedure.{codesOf}

@@ -9,9 +9,9 @@ use lib.Dec.{lit<}
 use lib.ListN.{length, getD, take, drop, length-drop, length-map, drop-of-length-le, List·getD-map}
 use lib.Seq.{getD-take, getD-drop, length-take-le, ext-getD, take-nil, take-all}
 use Rattle.general.proofs.Numbers.{order}
-use Rattle.format.specs.declared.Record.{Record}
-use Rattle.format.specs.Record.{wordAt, recordIn, recordsOf, recordAt, blank}
-use Rattle.format.proofs.Laws.{length-records, record-at}
+use Rattle.records.specs.declared.Record.{Record}
+use Rattle.records.specs.Record.{wordAt, recordIn, recordsOf, recordAt, blank}
+use Rattle.records.proofs.Laws.{length-records, record-at}
 use Rattle.read.specs.Structure.{codeOf as recordsOfBlock}
 use Rattle.codec.specs.Codec.{codeOf}
 use Rattle.procedure.specs.Procedure.{codesOf}

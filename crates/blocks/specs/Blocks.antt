@@ -3,8 +3,8 @@ use Prim.Native.Nat.{ℕ, _*_, _-_, _/_, min}
 use mathlib.Core.Path.{_≡_}
 use mathlib.Core.List.{List, map}
 use lib.ListN.{length, take, drop}
-use Rattle.format.specs.declared.Record.{Record}
-use Rattle.format.specs.Record.{recordsOf, recordAt}
+use Rattle.records.specs.declared.Record.{Record}
+use Rattle.records.specs.Record.{recordsOf, recordAt}
 use Rattle.inst.specs.declared.Code.{Code}
 use Rattle.codec.specs.Codec.{codeOf, recordOf}
 use Rattle.read.specs.Structure.{codeOf as recordsOfBlock}

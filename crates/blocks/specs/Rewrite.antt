@@ -5,9 +5,9 @@ use mathlib.Core.Bool.{cond}
 use mathlib.Core.List.{List, [], _∷_}
 use lib.Dec.{ltb}
 use lib.ListN.{length, take}
-use Rattle.format.specs.declared.Record.{Record}
-use Rattle.format.specs.Record.{recordsOf, recordAt}
-use Rattle.store.specs.Store.{putOf}
+use Rattle.records.specs.declared.Record.{Record}
+use Rattle.records.specs.Record.{recordsOf, recordAt}
+use Rattle.put_record.specs.Store.{putOf}
 use Rattle.read.specs.Structure.{tiled}
 use Rattle.inst.specs.declared.Inst.{Inst}
 use Rattle.codec.specs.Codec.{rewrittenRecord}

@@ -4,17 +4,17 @@ ghost use mathlib.Core.List.{[]};
 ghost use Prim.Native.Nat.{ℕ, min};
 ghost use lib.Dec.{eqb};
 ghost use lib.ListN.{length, getD};
-ghost use Rattle.format.specs.Record.{recordAt};
+ghost use Rattle.records.specs.Record.{recordAt};
 ghost use Rattle.inst.specs.declared.Inst.the-variants as i;
 ghost use Rattle.ends.specs.Ends.{endOf};
 ghost use Rattle.procedure.specs.Procedure.{codesOf};
 ghost use Rattle.blocks.specs.Blocks.{partBytes, bytesOfBlock, blockBytes, blocksOf};
 ghost use Rattle.blocks.specs.Rewrite as spec;
 use ends::End;
-use format::Record;
 use inst::BlockId;
 use inst::Inst;
 use inst::StmtId;
+use records::Record;
 
 // The lesser of two numbers.
 pub fn least(a: usize, b: usize) -> usize
@@ -43,7 +43,7 @@ pub fn block_by<'a>(code: &'a [u8], r: Record) -> &'a [u8]
 pub fn block<'a>(code: &'a [u8], table: &[u8], k: BlockId) -> &'a [u8]
     ensures { λ r. ⌜ now r ≡ blockBytes (now (code .entry)) (now (table .entry)) (k .0) ⌝ }
 {
-    block_by(code, format::record_at(table, k.0 as usize))
+    block_by(code, records::record_at(table, k.0 as usize))
 }
 
 // How a block ends, by its record and its last instruction's alone.
@@ -54,21 +54,21 @@ pub fn end_by(code: &[u8], r: Record) -> End
     if end <= r.p1 as usize {
         return End::Other;
     }
-    ends::end_in(format::record_at(code, end - 1))
+    ends::end_in(records::record_at(code, end - 1))
 }
 
 // How block k ends.
 pub fn end_at(code: &[u8], table: &[u8], k: BlockId) -> End
     ensures { λ r. ⌜ r ≡ endOf (getD (blocksOf (now (code .entry)) (now (table .entry))) (k .0) []) ⌝ }
 {
-    end_by(code, format::record_at(table, k.0 as usize))
+    end_by(code, records::record_at(table, k.0 as usize))
 }
 
 // Block k has one instruction.
 pub fn is_lone(code: &[u8], table: &[u8], k: BlockId) -> bool
     ensures { λ z. ⌜ z ≡ eqb (length (getD (blocksOf (now (code .entry)) (now (table .entry))) (k .0) [])) 1 ⌝ }
 {
-    let r = format::record_at(table, k.0 as usize);
+    let r = records::record_at(table, k.0 as usize);
     r.p1 as usize + 1 == least(r.p2 as usize, code.len() / 32)
 }
 
@@ -85,11 +85,11 @@ pub fn front<'a>(code: &'a [u8]) -> &'a [u8]
 pub fn rewrite_end(code: &mut [u8], table: &[u8], k: BlockId, i: Inst)
     ensures { λ u. ⌜ now (code .exit) ≡ spec.endRewritten (now (code .entry)) (recordAt (now (table .entry)) (k .0)) i ⌝ }
 {
-    let r = format::record_at(table, k.0 as usize);
+    let r = records::record_at(table, k.0 as usize);
     if r.p1 < r.p2 {
         let last = r.p2 as usize - 1;
-        let old = format::record_at(code, last);
-        store::put_record(code, last, codec::rewritten(old, i));
+        let old = records::record_at(code, last);
+        put_record::put_record(code, last, codec::rewritten(old, i));
     }
 }
 
@@ -99,8 +99,8 @@ pub fn rewrite_br_by(code: &mut [u8], r: Record, to: BlockId)
 {
     if r.p1 < r.p2 {
         let at = r.p2 as usize - 1;
-        let old = format::record_at(code, at);
-        store::put_record(code, at, codec::br_record(to, StmtId(old.stmt)));
+        let old = records::record_at(code, at);
+        put_record::put_record(code, at, codec::br_record(to, StmtId(old.stmt)));
     }
 }
 
@@ -108,5 +108,5 @@ pub fn rewrite_br_by(code: &mut [u8], r: Record, to: BlockId)
 pub fn rewrite_br(code: &mut [u8], table: &[u8], k: BlockId, to: BlockId)
     ensures { λ u. ⌜ now (code .exit) ≡ spec.endRewritten (now (code .entry)) (recordAt (now (table .entry)) (k .0)) (i.Br to) ⌝ }
 {
-    rewrite_br_by(code, format::record_at(table, k.0 as usize), to);
+    rewrite_br_by(code, records::record_at(table, k.0 as usize), to);
 }

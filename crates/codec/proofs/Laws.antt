@@ -10,14 +10,14 @@ use lib.ListN.{length, getD}
 use borrow.Author.Tests.{lt-ltb, ltb-true, eqb-true}
 use Rattle.general.proofs.Booleans.{and-first, and-second}
 use Rattle.general.proofs.Numbers.{Below, below, order}
-use Rattle.format.specs.declared.Record.{Record}
-use Rattle.format.specs.Record.{recordAt}
-use Rattle.format.specs.Kinds.{right, fields, instructionPlaces, instructionOps, allFit}
+use Rattle.records.specs.declared.Record.{Record}
+use Rattle.records.specs.Record.{recordAt}
+use Rattle.records.specs.Kinds.{right, fields, instructionPlaces, instructionOps, allFit}
 use Rattle.inst.specs.declared.Code.{Code}
 use Rattle.inst.specs.declared.Inst.{Inst}
 use Rattle.inst.specs.declared.Inst.the-variants as i
-use Rattle.store.specs.Store.{Bytes, Fits, putOf}
-use Rattle.store.proofs.Laws.{fits-at, put-same, put-back}
+use Rattle.put_record.specs.Store.{Bytes, Fits, putOf}
+use Rattle.put_record.proofs.Laws.{fits-at, put-same, put-back}
 use Rattle.codec.specs.Codec.{instOf, codeOf, instRecord, recordOf, withStmt, withInst, rewrittenRecord, rowOf, inRange, InRange}
 use Rattle.codec.proofs.Table.{inst-past}
 use Rattle.codec.proofs.Read.{inst-back, inst-right, inst-words}

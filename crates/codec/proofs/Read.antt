@@ -7,7 +7,7 @@ use mathlib.Core.List.{[], _∷_}
 use lib.Dec.{ltb}
 use borrow.Author.Tests.{lt-ltb, ltb-true}
 use Rattle.general.proofs.Booleans.{and-first, and-second}
-use Rattle.format.specs.Kinds.{right, fields}
+use Rattle.records.specs.Kinds.{right, fields}
 use Rattle.real.specs.Real.{realOf, bitsOf, canonical}
 use Rattle.real.proofs.Laws.{real-bits, bits-lt}
 use Rattle.inst.specs.declared.OptReg.the-variants as o

@@ -2,7 +2,7 @@
 use Prim.Native.Nat.{ℕ, _≤_}
 use mathlib.Core.Path.{_≡_, sym, ap}
 use lib.ListN.{getD, List·getD-eq-default}
-use Rattle.format.specs.declared.Record.{Record}
+use Rattle.records.specs.declared.Record.{Record}
 use Rattle.inst.specs.declared.Inst.the-variants.{Stmt}
 use Rattle.codec.specs.Codec.{instsOf, instOf}
 

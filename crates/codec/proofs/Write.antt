@@ -9,7 +9,7 @@ use lib.ListN.{getD}
 use borrow.Author.Tests.{ltb-true, eqb-true}
 use Rattle.general.proofs.Booleans.{and-first, and-second}
 use Rattle.general.proofs.Numbers.{Below, below}
-use Rattle.format.specs.Kinds.{right, instructionPlaces, instructionOps, allFit, zeros}
+use Rattle.records.specs.Kinds.{right, instructionPlaces, instructionOps, allFit, zeros}
 use Rattle.real.proofs.Laws.{bits-real}
 use Rattle.inst.specs.declared.Inst.the-variants as i
 use Rattle.ops.specs.Ops.{spaceOf, spaceNum, spaceArg, optOf, optNum, optArg}

@@ -5,7 +5,7 @@ use mathlib.Core.Bool.{Bool, true, _&&_}
 use mathlib.Core.List.{List, [], _∷_}
 use lib.Dec.{ltb}
 use lib.ListN.{getD}
-use Rattle.format.specs.declared.Record.{Record}
+use Rattle.records.specs.declared.Record.{Record}
 use Rattle.real.specs.Real.{realOf, bitsOf, canonical}
 use Rattle.inst.specs.declared.Reg.{Reg}
 use Rattle.inst.specs.declared.BlockId.{BlockId}

@@ -2,7 +2,6 @@
 ghost use mathlib.Core.Path.{_≡_};
 ghost use Rattle.inst.specs.declared.Inst.the-variants as i;
 ghost use Rattle.codec.specs.Codec.{wordOf, lowOf, highOf, rowOf, instOf, codeOf, instRecord, recordOf, rewrittenRecord};
-use format::Record;
 use inst::BlockId;
 use inst::Code;
 use inst::Inst;
@@ -10,6 +9,7 @@ use inst::Reg;
 use inst::Regs;
 use inst::StmtId;
 use inst::kinds;
+use records::Record;
 
 // The word whose low and high halves stand in two fields.
 pub fn word_of(low: u32, high: u32) -> u64

@@ -221,7 +221,7 @@ fn kept(s: Copied, x: Code) -> Code
     let old = s.old;
     let new = s.new;
     Code {
-        inst: exchange::renamed(i, old, new, s.fresh),
+        inst: visit_mut::renamed(i, old, new, s.fresh),
         stmt,
     }
 }
@@ -235,7 +235,7 @@ fn renumbered(s: Copied, x: Code, d: Reg, m: Reg) -> Code
     let old = s.old;
     let new = s.new;
     Code {
-        inst: exchange::exchange(i, old, new, s.fresh, d, m),
+        inst: visit_mut::exchange(i, old, new, s.fresh, d, m),
         stmt,
     }
 }
@@ -273,10 +273,10 @@ fn taken(code: &[u8]) -> [Code; 4]
     ensures { λ z. ⌜ z ≡ firstFour (codesOf (now (code .entry))) ⌝ }
 {
     [
-        codec::code_of(format::record_at(code, 0)),
-        codec::code_of(format::record_at(code, 1)),
-        codec::code_of(format::record_at(code, 2)),
-        codec::code_of(format::record_at(code, 3)),
+        codec::code_of(records::record_at(code, 0)),
+        codec::code_of(records::record_at(code, 1)),
+        codec::code_of(records::record_at(code, 2)),
+        codec::code_of(records::record_at(code, 3)),
     ]
 }
 

@@ -1,201 +1,143 @@
--- Laws of the emit step over bytes: which blocks stay, what is rescued, and records written one after the other.
-use Prim.Native.Nat.{ℕ, suc, _+_, _/_, _≤_, _<_}
-use native.Mathlib.Numerals.{add-one}
+-- What Emit leaves in lent storage is what `emit` of the steps leaves.
+use Prim.Native.Nat.{ℕ, _+_, _*_, _/_, _≤_, min}
 use native.Mathlib.Omega.{arith}
-use mathlib.Core.Path.{_≡_, refl, sym, ap, _∙_}
-use mathlib.Core.Bool.{Bool, true, false, _&&_, _||_, not, cond, or-false}
-use mathlib.Core.List.{List, [], _∷_, map}
-use mathlib.Core.Logic.{_⊎_, inl, inr}
+use mathlib.Core.Path.{_≡_, sym, ap, _∙_}
+use mathlib.Core.Bool.{Bool}
+use mathlib.Core.List.{List, [], _++_, map, append-nil}
 use mathlib.Core.Option.{Option}
-use borrow.Author.Tests.{ne-eqb, lt-leb, le-leb, lt-ltb, le-ltb}
-use lib.Dec.{eqb, ltb, leb}
-use lib.ListN.{length, getD, drop, drop-of-length-le}
-use lib.Seq.{drop-cons}
-use Rattle.general.proofs.Booleans.{either, otherwise, both, neither}
-use Rattle.general.proofs.Numbers.{order}
-use Rattle.format.specs.declared.Record.{Record}
-use Rattle.format.specs.Record.{blank}
-use Rattle.store.specs.Store.{putOf}
+use lib.ListN.{length, take, drop, length-append, length-map, drop-of-length-le}
+use lib.Seq.{take-at}
+use Rattle.records.specs.declared.Record.{Record}
+use Rattle.records.specs.Record.{recordsOf}
+use Rattle.put_record.specs.Store.{Bytes}
 use Rattle.inst.specs.declared.Code.{Code}
-use Rattle.inst.specs.declared.Reg.{Reg}
-use Rattle.inst.specs.declared.AddrSpace.{AddrSpace}
-use Rattle.real.specs.declared.Real.{Real}
-use Rattle.inst.specs.declared.Inst.{Inst}
-use Rattle.inst.specs.declared.Inst.the-variants as i
-use Rattle.inst.specs.Inst.{kindOf}
-use Rattle.codec.specs.Codec.{instOf, codeOf, recordOf, blockOf}
-use Rattle.codec.proofs.Table.{inst-at}
-use Rattle.ends.specs.Forms.{formOf, fixedOf, isFixed}
-use Rattle.ends.specs.Ends.{endOf}
-use Rattle.ends.proofs.Laws.{same-kind}
-use Rattle.steps.specs.Emit.{isJump, isLast, firstStmt, stays, emptied, rescuedOf}
-use Rattle.procedure.specs.Lists.{anyOf}
-use Rattle.facts.specs.Storage.{factsIn, singleIn}
-use Rattle.emit.specs.Emitted.{rescuedBy, rescuedIn, staysBy, branchRecord, Place, place, put, puts}
+use Rattle.codec.specs.Codec.{recordOf}
+use Rattle.procedure.specs.Procedure.{Procedure, Table, tablesFrom}
+use Rattle.procedure.specs.Lists.{joined}
+use Rattle.blocks.specs.Blocks.{blocksOf, blockRecordsIn}
+use Rattle.blocks.proofs.Bytes.{bytes-part}
+use Rattle.steps.specs.Emit.{reached, rescues, emptyFrom, ontoFront}
+use Rattle.steps.specs.Thread.{Work}
+use Rattle.steps.specs.Run.{Shortened, emitMarked, emit}
+use Rattle.steps.specs.Write.{blockRecords, bytesOf}
+use Rattle.facts.specs.Storage.{factsIn}
+use Rattle.round_trips.proofs.Bytes.{bytes-length}
+use Rattle.round_trips.proofs.Blocks.{length-blocks}
+use Rattle.reach.specs.Reached.{seenIn}
+use Rattle.emit_records.specs.Emitted.{Place, place, puts, rescuesIn, emptyIn, headsFrom}
+use Rattle.emit_records.proofs.Passes.{puts-append, puts-at}
+use Rattle.emit_records.proofs.Bytes.{puts-front}
+use Rattle.procedure_parts.proofs.Laws.{coded-by}
+use Rattle.emit.specs.Stage.{Ready, Emitted}
+use Rattle.emit.proofs.Emitting.{keptIn, leftIn, kept-is, code-is, heads-is}
 
--- Const, ConstF and AddrOf by their kinds
-abbrev fixedKind : ℕ → Bool
-fixedKind k = eqb k 0 || (eqb k 1 || eqb k 3)
+-- records put from the first place on, where all have room
+module _ (rs : List Record) (b : List ℕ) {b′ : List ℕ} {n : ℕ} (e : place b′ n ≡ puts rs (place b 0)) (room : length rs ≤ length b / 32) where
+  put-count : n ≡ length rs
+  put-count = ap (λ (s : Place). s .at) e ∙ puts-at rs (place b 0) (omega arith) ∙ (let z : 0 + length rs ≡ length rs = omega arith in z)
 
-fixed-kind : (x : Inst) → fixedKind (kindOf x) ≡ isFixed (fixedOf x)
-unfolding fixedOf formOf
-fixed-kind (i.Const d v) = refl
-fixed-kind (i.ConstF d v) = refl
-fixed-kind (i.Move d s) = refl
-fixed-kind (i.AddrOf d s f) = refl
-fixed-kind (i.Select d c x y) = refl
-fixed-kind (i.Cmp op d x y) = refl
-fixed-kind (i.Bool op d x y) = refl
-fixed-kind (i.Bin op d x y) = refl
-fixed-kind (i.BinRange op d x y l h w) = refl
-fixed-kind (i.Load d a w) = refl
-fixed-kind (i.Store a s w) = refl
-fixed-kind (i.Check c v l h w) = refl
-fixed-kind (i.MakeDope a p) = refl
-fixed-kind (i.DopeLen d p n) = refl
-fixed-kind (i.BoundsLen d l r e) = refl
-fixed-kind (i.Alloc d s) = refl
-fixed-kind (i.TakeBounds l r e) = refl
-fixed-kind (i.CallNative n a d) = refl
-fixed-kind (i.Br t) = refl
-fixed-kind (i.CondBr c t f) = refl
-fixed-kind (i.Case v t) = refl
-fixed-kind (i.Ret v) = refl
-fixed-kind (i.Unreachable w) = refl
-fixed-kind i.Stmt = refl
+  put-bytes : b′ ≡ bytesOf rs ++ drop (length (bytesOf rs)) b
+  put-bytes = ap (λ (s : Place). s .bytes) e ∙ puts-front rs b room
 
--- each of the three is rescued where its register is single
-module _ (facts : List ℕ) (d : Reg) where
-  const-rescued : (v : ℕ) → singleIn facts (d .0) ≡ rescuedBy facts (i.Const d v)
-  unfolding fixedOf formOf anyOf
-  const-rescued v = sym (or-false (singleIn facts (d .0)))
+  put-first : take (32 * n) b′ ≡ bytesOf rs
+  put-first =
+      let c = put-count in
+      let l = bytes-length rs in
+      ap (take (32 * n)) put-bytes ∙ take-at (bytesOf rs) (drop (length (bytesOf rs)) b) (32 * n) (omega arith)
 
-  real-rescued : (v : Real) → singleIn facts (d .0) ≡ rescuedBy facts (i.ConstF d v)
-  unfolding fixedOf formOf anyOf
-  real-rescued v = sym (or-false (singleIn facts (d .0)))
+  put-all : length b ≡ 32 * length rs → b′ ≡ bytesOf rs
+  put-all h =
+      let l = bytes-length rs in
+      put-bytes ∙ ap (λ (l : List ℕ). bytesOf rs ++ l) (drop-of-length-le b {i = length (bytesOf rs)} (omega arith)) ∙ append-nil (bytesOf rs)
 
-  address-rescued : (s : AddrSpace) (o : ℕ) → singleIn facts (d .0) ≡ rescuedBy facts (i.AddrOf d s o)
-  unfolding fixedOf formOf anyOf
-  address-rescued s o = sym (or-false (singleIn facts (d .0)))
+module _ (work table arms facts code heads : List ℕ) (p : Procedure) (w : Work) (body : Option ℕ) (budget : ℕ)
+    (h : Ready (emit (factsIn facts body budget) p w) p w work table arms (length code) (length heads)) where
+  abbrev z : Shortened
+  z = emit (factsIn facts body budget) p w
 
--- the same of a record, by its kind
-module _ (facts : List ℕ) (r : Record) where
-  pub low-rescued : r .kind < 2 → singleIn facts (r .p1) ≡ rescuedBy facts (instOf r)
-  low-rescued h = go (order (r .kind) 1)
+  abbrev R : List (List Record)
+  R = blockRecordsIn work table
+
+  abbrev marks : List Bool
+  marks = reached (tablesFrom [] (recordsOf arms)) (blocksOf work table)
+
+  abbrev kept : List Code
+  kept = rescues (factsIn facts body budget) marks (blocksOf work table)
+
+  abbrev blocks : List (List Code)
+  blocks = ontoFront kept (emptyFrom 0 marks (blocksOf work table))
+
+  blocks-are : blocks ≡ z .procedure .blocks
+  unfolding emit
+  blocks-are =
+      ap (λ (t : List Table). emitMarked (factsIn facts body budget) p (by-blocks (blocksOf work table)) (reached t (blocksOf work table)) .procedure .blocks) (h .tables)
+      ∙ ap (λ (P : List (List Code)). emitMarked (factsIn facts body budget) p (by-blocks P) (reached (p .tables) P) .procedure .blocks) (h .blocks)
     where
-      go : (r .kind < 1) ⊎ (1 ≤ r .kind) → singleIn facts (r .p1) ≡ rescuedBy facts (instOf r)
-      go (inl i) = const-rescued facts _ _ ∙ ap (rescuedBy facts) (inst-at r 0 (omega arith))
-      go (inr i) = real-rescued facts _ _ ∙ ap (rescuedBy facts) (inst-at r 1 (omega arith))
+      by-blocks : List (List Code) → Work
+      by-blocks P = record { blocks = P; grown = w .grown; kinds = w .kinds; edited = w .edited }
 
-  pub third-rescued : r .kind ≡ 3 → singleIn facts (r .p1) ≡ rescuedBy facts (instOf r)
-  third-rescued e = address-rescued facts _ _ _ ∙ ap (rescuedBy facts) (inst-at r 3 e)
+  rescued-is : length kept ≡ z .rescued
+  unfolding emit
+  rescued-is =
+      ap (λ (t : List Table). length (rescues (factsIn facts body budget) (reached t (blocksOf work table)) (blocksOf work table))) (h .tables)
+      ∙ ap (λ (P : List (List Code)). length (rescues (factsIn facts body budget) (reached (p .tables) P) P)) (h .blocks)
 
-fixed-past : (k : ℕ) → 23 ≤ k → fixedKind k ≡ fixedKind 23
-fixed-past k h = rw (ne-eqb k 0 (omega arith), ne-eqb k 1 (omega arith), ne-eqb k 3 (omega arith))
+  size : length (joined blocks) ≡ length (joined (z .procedure .blocks))
+  size = ap (λ (P : List (List Code)). length (joined P)) blocks-are
 
--- no other record is rescued
-pub other-record : (facts : List ℕ) (r : Record) → 2 ≤ r .kind → (r .kind ≡ 3 → ⊥) → false ≡ rescuedBy facts (instOf r)
-other-record facts r h e =
-    neither _ refl
-    (sym (fixed-kind (instOf r))
-    ∙ same-kind fixedKind fixed-past r
-    ∙ rw (ne-eqb (r .kind) 0 (omega arith), ne-eqb (r .kind) 1 (omega arith), ne-eqb (r .kind) 3 e))
+  -- the records that are put into the code: what is rescued, then the rest
+  all-code : keptIn work table arms facts ++ joined (leftIn work table arms facts) ≡ map recordOf (joined blocks)
+  all-code = code-is work table arms facts body budget (h .few) (h .numbered-arms) (h .canonical)
 
--- a block that stays, by the tests in their order
-module _ (mark last : Bool) (c : List Code) where
-  abbrev short : Bool
-  short = leb (length c) 1 && not (isJump (endOf c))
+  count : length (keptIn work table arms facts) + length (joined (leftIn work table arms facts)) ≡ length (joined blocks)
+  count =
+      let l = length-append (keptIn work table arms facts) (joined (leftIn work table arms facts)) in
+      sym l ∙ ap length all-code ∙ length-map (joined blocks) recordOf
 
-  pub stays-marked : mark ≡ true → true ≡ staysBy mark last c
-  stays-marked e = either short (sym (either last e))
+  kept-count : length (keptIn work table arms facts) ≡ length kept
+  kept-count = ap length (kept-is work table arms facts body budget (h .few) (h .numbered-arms) (h .canonical)) ∙ length-map kept recordOf
 
-  pub stays-last : mark ≡ false → last ≡ true → true ≡ staysBy mark last c
-  stays-last e f = either short (sym (otherwise e (sym f)))
-
-  pub stays-long : mark ≡ false → last ≡ false → 1 < length c → false ≡ staysBy mark last c
-  stays-long e f h = otherwise (sym (otherwise e (sym f))) (neither _ refl (lt-leb (length c) 1 h))
-
-  pub stays-short : {x : Bool} → mark ≡ false → last ≡ false → length c ≤ 1 → x ≡ not (isJump (endOf c)) → x ≡ staysBy mark last c
-  stays-short e f h g = otherwise (sym (otherwise e (sym f))) (both refl (le-leb (length c) 1 h) g)
-
--- the same, of steps
-pub stays-told : (mark : Bool) (after : List (List Code)) (c : List Code) → stays mark after c ≡ staysBy mark (isLast after) c
-unfolding stays
-stays-told mark after c = refl
-
--- what is rescued, one record more
-module _ (facts : List ℕ) (rs : List Record) (k : ℕ) where
-  pub rescued-one : k < length rs → rescuedBy facts (instOf (getD rs k blank)) ≡ true
-      → rescuedIn facts (drop k rs) ≡ getD rs k blank ∷ rescuedIn facts (drop (k + 1) rs)
-  unfolding rescuedIn
-  rescued-one h e = ap (rescuedIn facts) (drop-cons rs k blank h) ∙ rw (e, add-one k)
-
-  pub rescued-pass : k < length rs → rescuedBy facts (instOf (getD rs k blank)) ≡ false
-      → rescuedIn facts (drop k rs) ≡ rescuedIn facts (drop (k + 1) rs)
-  unfolding rescuedIn
-  rescued-pass h e = ap (rescuedIn facts) (drop-cons rs k blank h) ∙ rw (e, add-one k)
-
-  pub rescued-end : length rs ≤ k → rescuedIn facts (drop k rs) ≡ []
-  unfolding rescuedIn
-  rescued-end h = ap (rescuedIn facts) (drop-of-length-le rs h)
-
--- the rescued records hold the rescued instructions
-pub rescued-codes : (facts : List ℕ) (body : Option ℕ) (budget : ℕ) (rs : List Record)
-    → map codeOf (rescuedIn facts rs) ≡ rescuedOf (factsIn facts body budget) (map codeOf rs)
-unfolding rescuedIn rescuedOf
-rescued-codes facts body budget [] = refl
-rescued-codes facts body budget (r ∷ rs) = by (rescuedBy facts (instOf r)) (rescued-codes facts body budget rs)
-  where
-    by : (b : Bool) {l : List Code} → map codeOf (rescuedIn facts rs) ≡ l
-        → map codeOf (cond b (r ∷ rescuedIn facts rs) (rescuedIn facts rs)) ≡ cond b (codeOf r ∷ l) l
-    by true e = ap (λ (t : List Code). codeOf r ∷ t) e
-    by false e = e
-
--- an emptied block is the one record
-pub emptied-record : (b : ℕ) (c : List Code) → map recordOf (emptied b c) ≡ branchRecord (blockOf (suc b)) c ∷ []
-emptied-record b c = refl
-
--- its statement
-pub first-stmt : (rs : List Record) → record { 0 = getD rs 0 blank .stmt } ≡ firstStmt (map codeOf rs)
-first-stmt [] = refl
-first-stmt (r ∷ rs) = refl
-
--- a record written
-module _ (b : List ℕ) (at : ℕ) (r : Record) where
-  pub put-in : at < length b / 32 → place (putOf b at r) (at + 1) ≡ put r (place b at)
-  unfolding put
-  put-in h = rw (lt-ltb at (length b / 32) h)
-
-  pub put-full : length b / 32 ≤ at → place b at ≡ put r (place b at)
-  unfolding put
-  put-full h = rw (le-ltb at (length b / 32) h)
-
--- one record more
-module _ (rs : List Record) (k : ℕ) (s : Place) where
-  pub puts-one : k < length rs → puts (drop k rs) s ≡ puts (drop (k + 1) rs) (put (getD rs k blank) s)
-  unfolding puts
-  puts-one h = ap (λ (l : List Record). puts l s) (drop-cons rs k blank h) ∙ rw (add-one k)
-
-  pub puts-end : length rs ≤ k → puts (drop k rs) s ≡ s
-  unfolding puts
-  puts-end h = ap (λ (l : List Record). puts l s) (drop-of-length-le rs h)
-
--- one record more, if it is rescued
-pub puts-rescued : (facts : List ℕ) (rs : List Record) (k : ℕ) (s : Place) → k < length rs
-    → puts (rescuedIn facts (drop k rs)) s
-    ≡ puts (rescuedIn facts (drop (k + 1) rs)) (cond (rescuedBy facts (instOf (getD rs k blank))) (put (getD rs k blank) s) s)
-unfolding puts
-puts-rescued facts rs k s h = by (rescuedBy facts (instOf (getD rs k blank))) refl
-  where
-    by : (b : Bool) → rescuedBy facts (instOf (getD rs k blank)) ≡ b
-        → puts (rescuedIn facts (drop k rs)) s ≡ puts (rescuedIn facts (drop (k + 1) rs)) (cond b (put (getD rs k blank) s) s)
-    by true e = ap (λ (l : List Record). puts l s) (rescued-one facts rs k h e)
-    by false e = ap (λ (l : List Record). puts l s) (rescued-pass facts rs k h e)
-
--- what is chosen
-module _ {A : Type 0} (x y : A) {b : Bool} where
-  pub chosen : b ≡ true → x ≡ cond b x y
-  chosen e = sym (rw e)
-
-  pub other : b ≡ false → y ≡ cond b x y
-  other e = sym (rw e)
+  pub emitted : {seen : List Bool} {code₁ code₂ heads₁ : List ℕ} {n k r m t : ℕ} → seen ≡ seenIn work table arms
+      → place code₁ k ≡ puts (rescuesIn facts seen R) (place code 0)
+      → r ≡ min k 4294967295
+      → place heads₁ m ≡ puts (headsFrom 0 r (emptyIn 0 seen R)) (place heads 0)
+      → place code₂ t ≡ puts (joined (emptyIn 0 seen R)) (place code₁ k)
+      → n ≡ min t (length code / 32)
+      → Bytes code₂ → Bytes heads₁
+      → Emitted z (record { n = n; rescued = r }) code₂ heads₁
+  emitted {seen} {code₁} {code₂} {heads₁} {n} {k} {r} {t = t} e a d b c g bc bh =
+      let few = h .well-formed .code in
+      let room = h .code-room in
+      let s = size in
+      let all = count in
+      let K = keptIn work table arms facts in
+      let L = leftIn work table arms facts in
+      let a′ : place code₁ k ≡ puts K (place code 0) = a ∙ ap (λ (m : List Bool). puts (rescuesIn facts m R) (place code 0)) e in
+      let kc = put-count K code a′ (omega arith) in
+      let r-is : r ≡ min (length K) 4294967295 = d ∙ ap (λ (k : ℕ). min k 4294967295) kc in
+      let b′ : place heads₁ _ ≡ puts (blockRecords 0 blocks) (place heads 0) =
+      b
+      ∙ ap (λ (m : List Bool). puts (headsFrom 0 r (emptyIn 0 m R)) (place heads 0)) e
+      ∙ ap (λ (k : ℕ). puts (headsFrom 0 k L) (place heads 0)) r-is
+      ∙ ap (λ (l : List Record). puts l (place heads 0))
+      (heads-is work table arms facts body budget (h .few) (h .numbered-arms) (h .canonical) (omega arith)) in
+      let c′ : place code₂ t ≡ puts (map recordOf (joined blocks)) (place code 0) =
+      c
+      ∙ ap (λ (m : List Bool). puts (joined (emptyIn 0 m R)) (place code₁ k)) e
+      ∙ ap (puts (joined L)) a′
+      ∙ sym (puts-append K (joined L) (place code 0))
+      ∙ ap (λ (l : List Record). puts l (place code 0)) all-code in
+      let nc = length-map (joined blocks) recordOf in
+      let nh = length-blocks 0 blocks in
+      let top = put-count (map recordOf (joined blocks)) code c′ (omega arith) in
+      let n-is : n ≡ t = omega arith in
+      let hr = h .heads-room in
+      let nb = ap length blocks-are in
+      record {
+        coded = coded-by (z .procedure) (h .well-formed) (take (32 * n) code₂) heads₁ (bytes-part (32 * n) 0 code₂ bc) bh
+            (ap (λ (n : ℕ). take (32 * n) code₂) n-is
+            ∙ put-first (map recordOf (joined blocks)) code c′ (omega arith)
+            ∙ ap (λ (P : List (List Code)). bytesOf (map recordOf (joined P))) blocks-are)
+            (put-all (blockRecords 0 blocks) heads b′ (omega arith) (omega arith) ∙ ap (λ (P : List (List Code)). bytesOf (blockRecords 0 P)) blocks-are);
+        rescued = let q = kept-count in let t = rescued-is in omega arith;
+      }

@@ -1,360 +1,40 @@
-// The parts of Emit: which blocks stay, what is rescued, and their records.
-ghost use Prim.Native.Nat.{_+_, _≤_};
-ghost use mathlib.Core.Path.{_≡_};
-ghost use mathlib.Core.Bool.{true, cond};
-ghost use lib.ListN.{length, getD};
-ghost use lib.Seq.{paste};
-ghost use Rattle.format.specs.Record.{recordsOf};
-ghost use Rattle.inst.specs.declared.Inst.the-variants as i;
-ghost use Rattle.codec.specs.Codec.{instOf, recordOf};
-ghost use Rattle.procedure.specs.Lists.{joined};
-ghost use Rattle.procedure.specs.Procedure.{codesOf};
-ghost use Rattle.blocks.specs.Blocks.{blockBytes, blockRecordsIn, blocksOf};
-ghost use Rattle.steps.specs.Emit as steps;
-ghost use Rattle.emit.specs.Emitted.{marksIn, rescuedBy, staysBy, rescuedIn, branchRecord};
-ghost use Rattle.emit.specs.Emitted.{place, put as putOne, puts};
-ghost use Rattle.emit.specs.Emitted.{staysAt, lostAt, newAt, rescuesIn, emptyIn, endAfter, headsFrom, counted};
-use ends::End;
-use format::Record;
-use inst::Block;
-use inst::BlockId;
-use inst::Reg;
-use inst::StmtId;
-use inst::kinds;
+// Emit over lent storage: what it leaves there is for the steps behind it and for the writer.
+ghost use mathlib.Core.Option.{Option};
+ghost use Prim.Native.Nat.{ℕ, _/_, _≤_};
+ghost use lib.ListN.{length};
+ghost use Rattle.procedure.specs.Procedure.{Procedure};
+ghost use Rattle.steps.specs.Thread.{Work};
+ghost use Rattle.steps.specs.Run as run;
+ghost use Rattle.facts.specs.Storage.{factsIn};
+ghost use Rattle.emit.specs.Stage.{Ready, Emitted};
 
-// A Const, ConstF or AddrOf whose register one field of the code writes. By the record's kind.
-pub fn is_rescued(r: Record, facts: &[u64]) -> bool
-    ensures { λ z. ⌜ z ≡ rescuedBy (now (facts .entry)) (instOf r) ⌝ }
-{
-    let kind = r.kind;
-    match kind {
-        kinds::CONST | kinds::CONST_F | kinds::ADDR_OF => facts::is_single(facts, Reg(r.p1)),
-        _ => false,
-    }
+// How many instructions Emit leaves, and how many of them are rescued.
+pub struct Staged {
+    pub n: usize,
+    pub rescued: u32,
 }
 
-// A Br or CondBr.
-fn is_jump(e: End) -> bool
-    ensures { λ z. ⌜ z ≡ steps.isJump e ⌝ }
-{
-    match e {
-        End::Br(_) => true,
-        End::CondBr(_, _, _) => true,
-        End::Case(_) => false,
-        End::Other => false,
-    }
-}
-
-// A block that stays as it is: reached, the last, or one instruction and neither Br nor CondBr.
-pub fn stays(mark: bool, last: bool, code: &[u8]) -> bool
-    ensures { λ z. ⌜ z ≡ staysBy mark last (codesOf (now (code .entry))) ⌝ }
-{
-    if mark {
-        return true;
-    }
-    if last {
-        return true;
-    }
-    if 1 < code.len() / 32 {
-        return false;
-    }
-    let jump = is_jump(ends::end_of(code));
-    !jump
-}
-
-// How many instructions of a block are rescued.
-pub fn rescued_in(code: &[u8], facts: &[u64]) -> usize
-    ensures { λ z. ⌜ z ≡ length (rescuedIn (now (facts .entry)) (recordsOf (now (code .entry)))) ⌝ }
-{
-    let n = code.len() / 32;
-    let mut keep = 0;
-    let mut k = 0;
-    while k < n {
-        if is_rescued(format::record_at(code, k), facts) {
-            keep += 1;
-        }
-        k += 1;
-    }
-    keep
-}
-
-// A record is written at a place, where there is one; returns the next place.
-pub fn put(out: &mut [u8], at: usize, r: Record) -> usize
-    ensures { λ z. ⌜ place (now (out .exit)) z ≡ putOne r (place (now (out .entry)) at) ⌝ }
-{
-    if at < out.len() / 32 {
-        store::put_record(out, at, r);
-        return at + 1;
-    }
-    at
-}
-
-// The same, only if it is kept.
-fn put_if(out: &mut [u8], at: usize, keep: bool, r: Record) -> usize
-    ensures { λ z. ⌜ place (now (out .exit)) z
-        ≡ cond keep (putOne r (place (now (out .entry)) at)) (place (now (out .entry)) at) ⌝ }
-{
-    if keep {
-        return put(out, at, r);
-    }
-    at
-}
-
-// Records are written one by one from a place on, while there is a place; returns the next place.
-fn put_each(out: &mut [u8], at: usize, code: &[u8]) -> usize
-    ensures { λ z. ⌜ place (now (out .exit)) z ≡ puts (recordsOf (now (code .entry))) (place (now (out .entry)) at) ⌝ }
-{
-    let n = code.len() / 32;
-    let mut top = at;
-    let mut k = 0;
-    while k < n {
-        top = put(out, top, format::record_at(code, k));
-        k += 1;
-    }
-    top
-}
-
-// n bytes of code are copied to a place.
-fn copy(out: &mut [u8], to: usize, code: &[u8], n: usize)
-    requires { ⌜ (to + n ≤ length (now out)) × (n ≤ length (now code)) ⌝ }
-    ensures { λ u. ⌜ now (out .exit) ≡ paste (now (out .entry)) to (now (code .entry)) n ⌝ }
-{
-    let mut i = 0;
-    while i < n {
-        out[to + i] = code[i];
-        i += 1;
-    }
-}
-
-// The records of a block are written from a place on, by their bytes where all have room; returns the next place.
-pub fn put_block(out: &mut [u8], at: usize, code: &[u8]) -> usize
-    ensures { λ z. ⌜ place (now (out .exit)) z ≡ puts (recordsOf (now (code .entry))) (place (now (out .entry)) at) ⌝ }
-{
-    let n = code.len() / 32;
-    let room = out.len() / 32;
-    if at <= room && n <= room - at {
-        copy(out, 32 * at, code, 32 * n);
-        return at + n;
-    }
-    put_each(out, at, code)
-}
-
-// The records of a block that are rescued are written from a place on; returns the next place.
-pub fn put_rescued(out: &mut [u8], at: usize, code: &[u8], facts: &[u64]) -> usize
-    ensures { λ z. ⌜ place (now (out .exit)) z
-        ≡ puts (rescuedIn (now (facts .entry)) (recordsOf (now (code .entry)))) (place (now (out .entry)) at) ⌝ }
-{
-    let n = code.len() / 32;
-    let mut top = at;
-    let mut k = 0;
-    while k < n {
-        let keep = is_rescued(format::record_at(code, k), facts);
-        top = put_if(out, top, keep, format::record_at(code, k));
-        k += 1;
-    }
-    top
-}
-
-// A Br to the next block, with the first statement of a block, is written at a place; returns the next place.
-pub fn put_emptied(out: &mut [u8], at: usize, next: BlockId, code: &[u8]) -> usize
-    ensures { λ z. ⌜ place (now (out .exit)) z ≡ putOne (branchRecord next (codesOf (now (code .entry)))) (place (now (out .entry)) at) ⌝ }
-{
-    let first = format::record_at(code, 0);
-    put(out, at, codec::br_record(next, StmtId(first.stmt)))
-}
-
-// The code of the block whose record has place b of the table; none past the last.
-fn code_at<'a>(work: &'a [u8], table: &[u8], b: usize) -> &'a [u8]
-    ensures { λ r. ⌜ now r ≡ blockBytes (now (work .entry)) (now (table .entry)) b ⌝ }
-{
-    blocks::block_by(work, format::record_at(table, b))
-}
-
-// The mark of block b; a block without a mark stays.
-fn mark_at(seen: &[bool], b: usize) -> bool
-    ensures { λ z. ⌜ z ≡ getD (marksIn (now (seen .entry))) b true ⌝ }
-{
-    if b < blocks::least(160, seen.len()) {
-        return seen[b];
-    }
-    true
-}
-
-// Block b stays.
-fn keeps(work: &[u8], table: &[u8], seen: &[bool], b: usize) -> bool
-    ensures { λ z. ⌜ z ≡ staysAt (marksIn (now (seen .entry))) (blocksOf (now (work .entry)) (now (table .entry))) b ⌝ }
-{
-    let nb = table.len() / 32;
-    let last = nb - blocks::least(1, nb) <= b;
-    stays(mark_at(seen, b), last, code_at(work, table, b))
-}
-
-// The rescued records of block b, where it doesn't stay, are written from a place on; returns the next place.
-fn put_lost(
-    out: &mut [u8],
-    at: usize,
+// What Emit leaves of code and block table is put into the storage, what is rescued first.
+pub fn emit(
+    code: &mut [u8],
+    heads: &mut [u8],
     work: &[u8],
     table: &[u8],
-    seen: &[bool],
+    arms: &[u8],
     facts: &[u64],
-    b: usize,
-) -> usize
-    ensures { λ z. ⌜ place (now (out .exit)) z
-        ≡ puts (lostAt (now (facts .entry)) (marksIn (now (seen .entry))) (blockRecordsIn (now (work .entry)) (now (table .entry))) b)
-        (place (now (out .entry)) at) ⌝ }
+) -> Staged
+    ensures size { λ r. ⌜ r .n ≤ length (now (code .entry)) / 32 ⌝ }
+    ensures emitted { λ r. ⌜ ((p : Procedure) (w : Work) (body : Option ℕ) (budget : ℕ)
+        → Ready (run.emit (factsIn (now (facts .entry)) body budget) p w) p w (now (work .entry)) (now (table .entry)) (now (arms .entry))
+        (length (now (code .entry))) (length (now (heads .entry)))
+        → Emitted (run.emit (factsIn (now (facts .entry)) body budget) p w) r (now (code .exit)) (now (heads .exit))) ⌝ }
 {
-    if keeps(work, table, seen, b) {
-        return at;
-    }
-    put_rescued(out, at, code_at(work, table, b), facts)
-}
-
-// The rescued records are written from a place on, in order; returns the next place.
-pub fn put_keep(
-    out: &mut [u8],
-    at: usize,
-    work: &[u8],
-    table: &[u8],
-    seen: &[bool],
-    facts: &[u64],
-) -> usize
-    ensures { λ z. ⌜ place (now (out .exit)) z
-        ≡ puts (rescuesIn (now (facts .entry)) (marksIn (now (seen .entry))) (blockRecordsIn (now (work .entry)) (now (table .entry))))
-        (place (now (out .entry)) at) ⌝ }
-{
-    let nb = table.len() / 32;
-    let mut top = at;
-    let mut b = 0;
-    while b < nb {
-        top = put_lost(out, top, work, table, seen, facts, b);
-        b += 1;
-    }
-    top
-}
-
-// Block b as it is emitted is written from a place on; returns the next place.
-fn put_new(out: &mut [u8], at: usize, work: &[u8], table: &[u8], seen: &[bool], b: usize) -> usize
-    ensures { λ z. ⌜ place (now (out .exit)) z
-        ≡ puts (newAt (marksIn (now (seen .entry))) (blockRecordsIn (now (work .entry)) (now (table .entry))) b) (place (now (out .entry)) at) ⌝ }
-{
-    let code = code_at(work, table, b);
-    if keeps(work, table, seen, b) {
-        return put_block(out, at, code);
-    }
-    put_emptied(out, at, BlockId((b + 1) as u32), code)
-}
-
-// The blocks as they are emitted are written from a place on, without what is rescued; returns the next place.
-pub fn put_code(out: &mut [u8], at: usize, work: &[u8], table: &[u8], seen: &[bool]) -> usize
-    ensures { λ z. ⌜ place (now (out .exit)) z
-        ≡ puts (joined (emptyIn 0 (marksIn (now (seen .entry))) (blockRecordsIn (now (work .entry)) (now (table .entry)))))
-        (place (now (out .entry)) at) ⌝ }
-{
-    let nb = table.len() / 32;
-    let mut top = at;
-    let mut b = 0;
-    while b < nb {
-        top = put_new(out, top, work, table, seen, b);
-        b += 1;
-    }
-    top
-}
-
-// How many records block b has as it is emitted.
-fn size_at(work: &[u8], table: &[u8], seen: &[bool], b: usize) -> usize
-    ensures { λ z. ⌜ z ≡ length (newAt (marksIn (now (seen .entry))) (blockRecordsIn (now (work .entry)) (now (table .entry))) b) ⌝ }
-{
-    if keeps(work, table, seen, b) {
-        return code_at(work, table, b).len() / 32;
-    }
-    1
-}
-
-// Where a block of some size ends, with some records put before it; no later than a field can say.
-fn end_after(start: u32, front: u32, size: usize) -> u32
-    ensures { λ z. ⌜ z ≡ endAfter start front size ⌝ }
-{
-    let n = blocks::least(size, 4294967295);
-    blocks::least(start as usize + front as usize + n, 4294967295) as u32
-}
-
-// The records of the emitted blocks, of which the first has keep records more, are written from a place on; returns the next place.
-pub fn put_heads(
-    out: &mut [u8],
-    at: usize,
-    keep: u32,
-    work: &[u8],
-    table: &[u8],
-    seen: &[bool],
-) -> usize
-    ensures { λ z. ⌜ place (now (out .exit)) z
-        ≡ puts (headsFrom 0 keep (emptyIn 0 (marksIn (now (seen .entry))) (blockRecordsIn (now (work .entry)) (now (table .entry)))))
-        (place (now (out .entry)) at) ⌝ }
-{
-    let nb = table.len() / 32;
-    let mut top = at;
-    let mut start = 0;
-    let mut front = keep;
-    let mut b = 0;
-    while b < nb {
-        let end = end_after(start, front, size_at(work, table, seen, b));
-        top = put(out, top, items::record_of_block(Block { start, end }));
-        start = end;
-        front = 0;
-        b += 1;
-    }
-    top
-}
-
-// The sum of two counts, no larger than a count can be.
-pub fn plus(a: usize, b: usize) -> usize
-    ensures { λ z. ⌜ z ≡ counted (a + b) ⌝ }
-{
-    if 18446744073709551615 - a < b {
-        return 18446744073709551615;
-    }
-    a + b
-}
-
-// How many records are rescued, and how many the emitted blocks have without them.
-pub struct Sizes {
-    pub keep: usize,
-    pub code: usize,
-}
-
-// The sizes with block b too: one that stays has its own records; of another some are rescued, and it has a Br.
-fn sized(at: Sizes, work: &[u8], table: &[u8], seen: &[bool], facts: &[u64], b: usize) -> Sizes
-    ensures keep { λ z. ⌜ z .keep ≡ counted (at .keep
-        + length (lostAt (now (facts .entry)) (marksIn (now (seen .entry))) (blockRecordsIn (now (work .entry)) (now (table .entry))) b)) ⌝ }
-    ensures code { λ z. ⌜ z .code ≡ counted (at .code
-        + length (newAt (marksIn (now (seen .entry))) (blockRecordsIn (now (work .entry)) (now (table .entry))) b)) ⌝ }
-{
-    let code = code_at(work, table, b);
-    if keeps(work, table, seen, b) {
-        return Sizes {
-            keep: at.keep,
-            code: plus(at.code, code.len() / 32),
-        };
-    }
-    Sizes {
-        keep: plus(at.keep, rescued_in(code, facts)),
-        code: plus(at.code, 1),
-    }
-}
-
-// The sizes of all blocks.
-pub fn size_all(work: &[u8], table: &[u8], seen: &[bool], facts: &[u64]) -> Sizes
-    ensures keep { λ z. ⌜ z .keep
-        ≡ counted (length (rescuesIn (now (facts .entry)) (marksIn (now (seen .entry))) (blockRecordsIn (now (work .entry)) (now (table .entry))))) ⌝ }
-    ensures code { λ z. ⌜ z .code
-        ≡ counted (length (joined (emptyIn 0 (marksIn (now (seen .entry))) (blockRecordsIn (now (work .entry)) (now (table .entry)))))) ⌝ }
-{
-    let nb = table.len() / 32;
-    let mut at = Sizes { keep: 0, code: 0 };
-    let mut b = 0;
-    while b < nb {
-        at = sized(at, work, table, seen, facts, b);
-        b += 1;
-    }
-    at
+    let room = code.len() / 32;
+    let seen = reach::reached(work, table, arms);
+    let kept = emit_records::put_keep(code, 0, work, table, &seen, facts);
+    let rescued = blocks::least(kept, 4294967295) as u32;
+    emit_records::put_heads(heads, 0, rescued, work, table, &seen);
+    let top = emit_records::put_code(code, kept, work, table, &seen);
+    let n = blocks::least(top, room);
+    Staged { n, rescued }
 }

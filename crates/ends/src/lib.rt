@@ -3,11 +3,11 @@ ghost use mathlib.Core.Path.{_≡_};
 ghost use Rattle.codec.specs.Codec.{instOf};
 ghost use Rattle.procedure.specs.Procedure.{codesOf};
 ghost use Rattle.ends.specs.Ends.{codeAt, viewOf, endOf, loneOf};
-use format::Record;
 use inst::BlockId;
 use inst::Inst;
 use inst::Reg;
 use inst::kinds;
+use records::Record;
 
 // How a block ends, as the branch steps look at it.
 pub enum End {
@@ -21,7 +21,7 @@ pub enum End {
 pub fn inst_at(code: &[u8], k: usize) -> Inst
     ensures { λ r. ⌜ r ≡ codeAt (codesOf (now (code .entry))) k .inst ⌝ }
 {
-    codec::inst_of(format::record_at(code, k))
+    codec::inst_of(records::record_at(code, k))
 }
 
 pub fn view_of(i: Inst) -> End
@@ -56,7 +56,7 @@ pub fn end_of(code: &[u8]) -> End
     if n == 0 {
         return End::Other;
     }
-    end_in(format::record_at(code, n - 1))
+    end_in(records::record_at(code, n - 1))
 }
 
 // The end of a block that holds nothing else.
@@ -64,7 +64,7 @@ pub fn lone_of(code: &[u8]) -> End
     ensures { λ r. ⌜ r ≡ loneOf (codesOf (now (code .entry))) ⌝ }
 {
     if code.len() / 32 == 1 {
-        return end_in(format::record_at(code, 0));
+        return end_in(records::record_at(code, 0));
     }
     End::Other
 }

@@ -6,7 +6,7 @@ use mathlib.Core.Option.{Option, none, some}
 use mathlib.Core.Bool.{Bool, true, false, not, cond}
 use lib.Dec.{eqb, ltb}
 use lib.ListN.{length, getD, drop}
-use Rattle.format.specs.Record.{recordsOf}
+use Rattle.records.specs.Record.{recordsOf}
 use Rattle.inst.specs.declared.Code.{Code}
 use Rattle.procedure.specs.Lists.{valueOr}
 use Rattle.procedure.specs.Counts.{defCount, useCount}

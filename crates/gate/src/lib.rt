@@ -38,7 +38,7 @@ pub fn has_back_edge(code: &[u8], table: &[u8]) -> bool
     let n = table.len() / 32;
     let mut b = 0;
     while b < n {
-        if goes_back(b, blocks::end_by(code, format::record_at(table, b))) {
+        if goes_back(b, blocks::end_by(code, records::record_at(table, b))) {
             return true;
         }
         b += 1;
@@ -72,7 +72,7 @@ pub fn copied(code: &[u8], table: &[u8], l: BlockId, wide: bool) -> bool
     if !small::small(target) {
         return false;
     }
-    let next = format::record_at(table, l.0 as usize + 1);
+    let next = records::record_at(table, l.0 as usize + 1);
     !small::latch(target, blocks::block_by(code, next), l, wide)
 }
 
@@ -80,7 +80,7 @@ fn may_hop(code: &[u8], table: &[u8], a: usize, wide: bool) -> bool
     ensures { λ z. ⌜ z ≡ steps.mayHop wide (blocksOf (now (code .entry)) (now (table .entry)))
         a (endOf (getD (blocksOf (now (code .entry)) (now (table .entry))) a [])) ⌝ }
 {
-    let e = blocks::end_by(code, format::record_at(table, a));
+    let e = blocks::end_by(code, records::record_at(table, a));
     match e {
         End::Br(to) => to.0 as usize != a && copied(code, table, to, wide),
         End::CondBr(_, t, f) => lone_cond_br(code, table, t) || lone_cond_br(code, table, f),
@@ -95,7 +95,7 @@ fn could_hop(code: &[u8], table: &[u8], a: usize) -> bool
         → steps.mayHop wide (blocksOf (now (code .entry)) (now (table .entry)))
         a (endOf (getD (blocksOf (now (code .entry)) (now (table .entry))) a [])) ≡ false) ⌝ }
 {
-    let e = blocks::end_by(code, format::record_at(table, a));
+    let e = blocks::end_by(code, records::record_at(table, a));
     match e {
         End::Br(to) => {
             if !small::small(blocks::block(code, table, to)) {

@@ -7,7 +7,7 @@ use crate::answer::Told;
 use crate::counts;
 use crate::line;
 use crate::refusal;
-use format::Record;
+use records::Record;
 
 // The room that every result has.
 pub const ROOM: usize = 61728;
@@ -121,7 +121,7 @@ fn say_records(text: &mut [u8], at: usize, result: &[u8]) -> bool {
     let mut first = 0;
     let mut k = 0;
     while k < count {
-        let r = format::record_at(result, k);
+        let r = records::record_at(result, k);
         first = first_in(r.class, class, first, k);
         class = r.class;
         page = say_record(text, page.at, k - first, r);

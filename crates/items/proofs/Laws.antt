@@ -8,8 +8,8 @@ use lib.Dec.{ltb, eqb, lit<}
 use borrow.Author.Tests.{lt-ltb, ltb-true, eqb-true}
 use Rattle.general.proofs.Booleans.{and-first, and-second}
 use Rattle.general.proofs.Numbers.{below}
-use Rattle.format.specs.declared.Record.{Record}
-use Rattle.format.specs.Kinds.{right, fields, kindCount, places, allFit, zeros}
+use Rattle.records.specs.declared.Record.{Record}
+use Rattle.records.specs.Kinds.{right, fields, kindCount, places, allFit, zeros}
 use Rattle.inst.specs.declared.Reg.{Reg}
 use Rattle.inst.specs.declared.RegTy.{RegTy}
 use Rattle.inst.specs.declared.BlockId.{BlockId}
@@ -17,7 +17,7 @@ use Rattle.inst.specs.declared.Block.{Block}
 use Rattle.inst.specs.declared.ArmEntry.{ArmEntry}
 use Rattle.ops.specs.Ops.{regTyOf, regTyNum}
 use Rattle.ops.proofs.Laws.{reg-ty-num, reg-ty-back, reg-ty-lt}
-use Rattle.store.specs.Store.{Fits}
+use Rattle.put_record.specs.Store.{Fits}
 use Rattle.codec.specs.Codec.{wordOf, lowOf, highOf}
 use Rattle.codec.proofs.Read.{word-join}
 use Rattle.codec.proofs.Write.{all-zero, low-word, high-word}

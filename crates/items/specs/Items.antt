@@ -3,7 +3,7 @@ use Prim.Native.Nat.{ℕ, _<_, _^_}
 use mathlib.Core.Path.{_≡_}
 use mathlib.Core.Bool.{Bool, true, cond}
 use lib.Dec.{eqb}
-use Rattle.format.specs.declared.Record.{Record}
+use Rattle.records.specs.declared.Record.{Record}
 use Rattle.inst.specs.declared.Reg.{Reg}
 use Rattle.inst.specs.declared.RegTy.{RegTy}
 use Rattle.inst.specs.declared.BlockId.{BlockId}

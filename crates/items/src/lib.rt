@@ -2,12 +2,12 @@
 ghost use mathlib.Core.Path.{_≡_};
 ghost use Rattle.items.specs.Items.{rowOf, registerOf, registerRecord, blockOf, blockRecord, bodyOf, bodyRecord};
 ghost use Rattle.items.specs.Items.{operandOf, operandRecord, armOf, armRecord};
-use format::Record;
 use inst::ArmEntry;
 use inst::Block;
 use inst::BlockId;
 use inst::Reg;
 use inst::RegTy;
+use records::Record;
 
 fn row(class: u32, kind: u32, p1: u32, p2: u32, p3: u32, p4: u32, p5: u32, p6: u32) -> Record
     ensures { λ r. ⌜ r ≡ rowOf class kind p1 p2 p3 p4 p5 p6 ⌝ }

@@ -5,7 +5,7 @@ use mathlib.Core.Bool.{Bool, true, false, cond}
 use mathlib.Core.List.{List}
 use borrow.Author.Tests.{eq-eqb, ne-eqb}
 use lib.ListN.{length, drop}
-use Rattle.format.specs.declared.Record.{Record}
+use Rattle.records.specs.declared.Record.{Record}
 use Rattle.layout.specs.declared.Layout.{Layout}
 use Rattle.layout.specs.Walk.{lead}
 use Rattle.layout.specs.Classes.{ordered, before, layoutOf}

@@ -12,9 +12,9 @@ use lib.ListN.{length, getD, take, drop, length-drop}
 use lib.Seq.{drop-drop}
 pub use Rattle.general.proofs.Booleans.{and-first, and-second}
 use Rattle.general.proofs.Booleans.{cases}
-use Rattle.format.specs.declared.Record.{Record}
-use Rattle.format.specs.Kinds.{right}
-use Rattle.shape.proofs.Laws.{no-class}
+use Rattle.records.specs.declared.Record.{Record}
+use Rattle.records.specs.Kinds.{right}
+use Rattle.record_rules.proofs.Laws.{no-class}
 use Rattle.layout.specs.Walk.{walk, lead}
 use Rattle.layout.specs.Classes.{inOrder, ordered, ofClass, before}
 use Rattle.layout.specs.Work.{rightOf}

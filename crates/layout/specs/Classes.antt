@@ -4,8 +4,8 @@ use mathlib.Core.List.{List, [], _∷_}
 use mathlib.Core.Bool.{Bool, _&&_, _||_, cond}
 use lib.Dec.{eqb, ltb, leb}
 use lib.ListN.{length}
-use Rattle.format.specs.declared.Record.{Record}
-use Rattle.format.specs.Kinds.{right}
+use Rattle.records.specs.declared.Record.{Record}
+use Rattle.records.specs.Kinds.{right}
 use Rattle.layout.specs.Walk.{walk}
 use Rattle.layout.specs.declared.Layout.{Layout}
 

@@ -2,8 +2,8 @@
 use Prim.Native.Nat.{ℕ}
 use mathlib.Core.Bool.{Bool, _&&_}
 use lib.Dec.{eqb}
-use Rattle.format.specs.declared.Record.{Record}
-use Rattle.format.specs.Kinds.{right}
+use Rattle.records.specs.declared.Record.{Record}
+use Rattle.records.specs.Kinds.{right}
 
 abbrev pub rightOf : ℕ → Record → Bool
 rightOf c r = eqb (r .class) c && right r

@@ -4,11 +4,11 @@ ghost use mathlib.Core.Bool.{_&&_};
 ghost use Prim.Native.Nat.{_+_, _≤_};
 ghost use lib.Dec.{eqb};
 ghost use lib.ListN.{length, drop};
-ghost use Rattle.format.specs.Record.{recordsOf};
+ghost use Rattle.records.specs.Record.{recordsOf};
 ghost use Rattle.layout.specs.Walk.{lead};
 ghost use Rattle.layout.specs.Classes.{layoutOf};
 ghost use Rattle.layout.specs.Work.{rightOf};
-use format::Record;
+use records::Record;
 
 // Where the records of each class start in a file, and where all end: registers start at 0.
 pub struct Layout {
@@ -24,7 +24,7 @@ pub struct Layout {
 fn right_of(class: u32, r: Record) -> bool
     ensures { λ z. ⌜ z ≡ rightOf class r ⌝ }
 {
-    r.class == class && shape::fit::right(r)
+    r.class == class && record_rules::fit::right(r)
 }
 
 // The end of the right records of one class that stand together from `first` on.
@@ -34,7 +34,7 @@ fn span(b: &[u8], first: usize, class: u32) -> usize
 {
     let mut k = first;
     while k < b.len() / 32 {
-        let r = format::record_at(b, k);
+        let r = records::record_at(b, k);
         if !right_of(class, r) {
             return k;
         }

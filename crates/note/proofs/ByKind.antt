@@ -8,7 +8,7 @@ use lib.Dec.{eqb, leb}
 use lib.ListN.{getD}
 use borrow.Author.Tests.{ne-eqb, le-leb, lt-leb}
 use Rattle.general.proofs.Numbers.{Below, below, order}
-use Rattle.format.specs.declared.Record.{Record}
+use Rattle.records.specs.declared.Record.{Record}
 use Rattle.inst.specs.declared.Inst.the-variants.{Stmt}
 use Rattle.codec.specs.Codec.{instsOf, instOf}
 use Rattle.codec.proofs.Table.{inst-at, inst-past}

@@ -7,7 +7,7 @@ use mathlib.Core.Option.{Option, none, some}
 use borrow.Author.Tests.{eq-eqb, ne-eqb}
 use Rattle.steps.specs.Facts.{Facts}
 use Rattle.steps.specs.Note.{Known, withCopy, withValueIf, sourceOf, valueOf, alike, noteMove}
-use Rattle.entries.proofs.Laws.{held-eq}
+use Rattle.note_entries.proofs.Laws.{held-eq}
 use Rattle.note.specs.Noted.{newEntry, moved}
 
 pub value-if : (d : ℕ) (o : Option ℕ) (k : Known) → withValueIf d o k ≡ record { values = k .values ++ newEntry d o; copies = k .copies }

@@ -10,8 +10,8 @@ use Rattle.inst.specs.declared.BoolOp.the-variants as b
 use Rattle.steps.specs.Facts.{Facts}
 use Rattle.steps.specs.Note.{Known, withValueIf, sourceOf, valueOf, noteMove, boolOf}
 use Rattle.facts.specs.Storage.{factsIn}
-use Rattle.entries.specs.declared.Held.{Held}
-use Rattle.entries.specs.Storage.{heldIn}
+use Rattle.note_entries.specs.declared.Held.{Held}
+use Rattle.note_entries.specs.Storage.{heldIn}
 use Rattle.note.specs.declared.Noted.{Noted}
 use Rattle.note.specs.declared.Noted.the-variants as t
 

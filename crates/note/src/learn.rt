@@ -6,13 +6,13 @@ ghost use Prim.Native.Nat.{_+_, _/_, _≤_, _<_};
 ghost use lib.ListN.{length};
 ghost use Rattle.steps.specs.Note.{alike};
 ghost use Rattle.facts.specs.Storage.{factsIn, wordIn};
-ghost use Rattle.entries.specs.Storage.{entries as entriesIn, heldIn};
+ghost use Rattle.note_entries.specs.Storage.{entries as entriesIn, heldIn};
 ghost use Rattle.note.specs.Noted.{Roomy, OneMore, moved, newEntry, boolIn};
 use crate::bools;
-use entries::Held;
 use facts::Word;
 use inst::BoolOp;
 use inst::Reg;
+use note_entries::Held;
 
 // Both of one kind, I64 or Ptr.
 fn copies(facts: &[u64], d: Reg, s: Reg) -> bool
@@ -35,7 +35,7 @@ pub fn learn_value(known: &mut [u64], n: usize, d: Reg, v: Word) -> usize
     ensures { λ z. ⌜ (entriesIn z (now (known .exit)) ≡ entriesIn n (now (known .entry)) ++ newEntry (d .0) (wordIn v)) × (z ≤ n + 1) ⌝ }
 {
     match v {
-        Word::Some(x) => entries::add_value(known, n, d, x),
+        Word::Some(x) => note_entries::add_value(known, n, d, x),
         Word::None => n,
     }
 }
@@ -47,7 +47,7 @@ fn learn_copy(copy: &mut [u32], n: usize, facts: &[u64], d: Reg, s: Reg) -> usiz
         ≡ entriesIn n (now (copy .entry)) ++ cond (alike (factsIn (now (facts .entry)) none 0) (d .0) (s .0)) ((d .0, s .0) ∷ []) []) × (z ≤ n + 1) ⌝ }
 {
     if copies(facts, d, s) {
-        return entries::add_copy(copy, n, d, s);
+        return note_entries::add_copy(copy, n, d, s);
     }
     n
 }
@@ -68,8 +68,8 @@ pub fn learn_move(
     if d.0 == s.0 {
         return h;
     }
-    let from = entries::source_of(copy, h, s);
-    let v = entries::value_of(known, h, facts, from);
+    let from = note_entries::source_of(copy, h, s);
+    let v = note_entries::value_of(known, h, facts, from);
     let n = learn_value(known, h.known, d, v);
     let m = learn_copy(copy, h.copy, facts, d, from);
     Held { known: n, copy: m }
@@ -90,7 +90,7 @@ pub fn learn_bool(
         ≡ entriesIn (h .known) (now (known .entry)) ++ newEntry (d .0) (boolIn (now (facts .entry)) h (now (known .entry)) op (a .0) (b .0)))
         × (z ≤ h .known + 1) ⌝ }
 {
-    let x = entries::value_of(known, h, facts, a);
-    let y = entries::value_of(known, h, facts, b);
+    let x = note_entries::value_of(known, h, facts, a);
+    let y = note_entries::value_of(known, h, facts, b);
     learn_value(known, h.known, d, bools::bool_of(op, x, y))
 }

@@ -4,20 +4,20 @@ ghost use mathlib.Core.Bool.{cond};
 ghost use mathlib.Core.Option.{none, some};
 ghost use Prim.Native.Nat.{_/_, _≤_};
 ghost use lib.ListN.{length};
-ghost use Rattle.format.specs.Record.{recordAt};
+ghost use Rattle.records.specs.Record.{recordAt};
 ghost use Rattle.codec.specs.Codec.{instOf};
 ghost use Rattle.roles.specs.Roles.{optional};
 ghost use Rattle.steps.specs.Note.{forget, forgetAll, withValue, note as noteOf, notes as notesOf, nothing};
 ghost use Rattle.procedure.specs.Procedure.{codesOf};
 ghost use Rattle.facts.specs.Storage.{factsIn};
-ghost use Rattle.entries.specs.Storage.{heldIn, NoMore};
+ghost use Rattle.note_entries.specs.Storage.{heldIn, NoMore};
 ghost use Rattle.note.specs.Noted.{Roomy, OneMore, moved, booled, enough, notedIn};
-use entries::Held;
 use facts::Word;
 use inst::BoolOp;
 use inst::OptReg;
 use inst::Reg;
 use inst::kinds;
+use note_entries::Held;
 
 mod bools;
 mod learn;
@@ -34,7 +34,7 @@ fn note_const(known: &mut [u64], copy: &mut [u32], h: Held, d: Reg, v: u64) -> H
     ensures { λ z. ⌜ (heldIn z (now (known .exit)) (now (copy .exit))
         ≡ withValue (d .0) v (forget (d .0) (heldIn h (now (known .entry)) (now (copy .entry))))) × OneMore z h ⌝ }
 {
-    let left = entries::forget(known, copy, h, d);
+    let left = note_entries::forget(known, copy, h, d);
     let n = learn::learn_value(known, left.known, d, Word::Some(v));
     Held {
         known: n,
@@ -49,7 +49,7 @@ fn note_move(known: &mut [u64], copy: &mut [u32], h: Held, facts: &[u64], d: Reg
         ≡ moved (factsIn (now (facts .entry)) none 0) (d .0) (s .0) (forget (d .0) (heldIn h (now (known .entry)) (now (copy .entry)))))
         × OneMore z h ⌝ }
 {
-    let left = entries::forget(known, copy, h, d);
+    let left = note_entries::forget(known, copy, h, d);
     learn::learn_move(known, copy, left, facts, d, s)
 }
 
@@ -69,7 +69,7 @@ fn note_bool(
         ≡ booled (factsIn (now (facts .entry)) none 0) op (d .0) (a .0) (b .0) (forget (d .0) (heldIn h (now (known .entry)) (now (copy .entry)))))
         × OneMore z h ⌝ }
 {
-    let left = entries::forget(known, copy, h, d);
+    let left = note_entries::forget(known, copy, h, d);
     let n = learn::learn_bool(known, left, facts, op, d, a, b);
     Held {
         known: n,
@@ -83,7 +83,7 @@ fn note_call(known: &mut [u64], copy: &mut [u32], h: Held, d: OptReg) -> Held
         ≡ forgetAll (optional d) (heldIn h (now (known .entry)) (now (copy .entry)))) × NoMore z h ⌝ }
 {
     match d {
-        OptReg::Some(r) => entries::forget(known, copy, h, r),
+        OptReg::Some(r) => note_entries::forget(known, copy, h, r),
         OptReg::None => h,
     }
 }
@@ -95,7 +95,7 @@ fn note(known: &mut [u64], copy: &mut [u32], h: Held, facts: &[u64], code: &[u8]
         ≡ noteOf (factsIn (now (facts .entry)) none 0) (heldIn h (now (known .entry)) (now (copy .entry))) (instOf (recordAt (now (code .entry)) k)))
         × OneMore z h ⌝ }
 {
-    let r = format::record_at(code, k);
+    let r = records::record_at(code, k);
     let kind = r.kind;
     let d = Reg(r.p1);
     match kind {
@@ -120,7 +120,7 @@ fn note(known: &mut [u64], copy: &mut [u32], h: Held, facts: &[u64], code: &[u8]
         | kinds::LOAD
         | kinds::DOPE_LEN
         | kinds::BOUNDS_LEN
-        | kinds::ALLOC => entries::forget(known, copy, h, d),
+        | kinds::ALLOC => note_entries::forget(known, copy, h, d),
         kinds::TAKE_BOUNDS => Held { known: 0, copy: 0 },
         kinds::CALL_NATIVE => note_call(known, copy, h, ops::opt_of(r.op, r.p4)),
         _ => h,

@@ -7,17 +7,17 @@ use mathlib.Core.List.{List, [], _∷_, _++_}
 use borrow.Author.Tests.{lt-ltb, le-ltb}
 use lib.ListN.{length, getD, drop, length-append, length-map, drop-of-length-le}
 use lib.Seq.{drop-cons}
-use Rattle.format.specs.declared.Record.{Record}
-use Rattle.format.proofs.Laws.{length-records}
+use Rattle.records.specs.declared.Record.{Record}
+use Rattle.records.proofs.Laws.{length-records}
 use Rattle.ops.specs.Ops.{regTyOf}
 use Rattle.items.specs.Items.{registerRecord}
 use Rattle.steps.specs.declared.Answer.{Answer}
 use Rattle.steps.specs.Run.{Shortened}
 use Rattle.steps.specs.Write.{bytesOf}
 use Rattle.steps.specs.Shorten.{refusal}
-use Rattle.round.proofs.Bytes.{bytes-length}
-use Rattle.emit.specs.Emitted.{Place, place, put, puts}
-use Rattle.emit.proofs.Bytes.{puts-front}
+use Rattle.round_trips.proofs.Bytes.{bytes-length}
+use Rattle.emit_records.specs.Emitted.{Place, place, put, puts}
+use Rattle.emit_records.proofs.Bytes.{puts-front}
 use Rattle.output.specs.Filed.{outcome, filed, wrote, kindRecords, formRecords}
 
 module _ (rs : List Record) (s : Shortened) (out : List ℕ) where

@@ -3,8 +3,8 @@ use Prim.Native.Nat.{ℕ, min}
 use mathlib.Core.Bool.{Bool}
 use mathlib.Core.List.{List, [], _++_, map}
 use mathlib.Core.Option.{none}
-use Rattle.format.specs.declared.Record.{Record}
-use Rattle.format.specs.Record.{recordsOf}
+use Rattle.records.specs.declared.Record.{Record}
+use Rattle.records.specs.Record.{recordsOf}
 use Rattle.ops.specs.Ops.{regTyOf}
 use Rattle.items.specs.Items.{registerRecord}
 use Rattle.word.specs.Word.{bit}

@@ -4,7 +4,7 @@ ghost use mathlib.Core.Path.{_≡_};
 ghost use mathlib.Core.List.{[]};
 ghost use lib.ListN.{length};
 ghost use Rattle.steps.specs.Shorten.{refusal};
-ghost use Rattle.emit.specs.Emitted.{place, puts};
+ghost use Rattle.emit_records.specs.Emitted.{place, puts};
 ghost use Rattle.output.specs.Filed.{outcome, counts, filed, wrote, short as shortOf, kindRecords, formRecords};
 use steps::Answer;
 
@@ -74,7 +74,7 @@ fn put_kinds(out: &mut [u8], at: usize, kinds: &[u8]) -> usize
     let mut k = 0;
     while k < kinds.len() {
         let r = items::record_of_register(ops::reg_ty_of(kinds[k] as u32));
-        top = emit::put(out, top, r);
+        top = emit_records::put(out, top, r);
         k += 1;
     }
     top
@@ -97,13 +97,13 @@ fn write(
         (now (arms .entry)))
         (place (now (out .entry)) 0) ⌝ }
 {
-    let mut top = emit::put_block(out, 0, registers);
+    let mut top = emit_records::put_block(out, 0, registers);
     top = put_kinds(out, top, kinds);
-    top = emit::put_block(out, top, heads);
-    top = emit::put_block(out, top, body);
-    top = emit::put_block(out, top, code);
-    top = emit::put_block(out, top, operands);
-    emit::put_block(out, top, arms)
+    top = emit_records::put_block(out, top, heads);
+    top = emit_records::put_block(out, top, body);
+    top = emit_records::put_block(out, top, code);
+    top = emit_records::put_block(out, top, operands);
+    emit_records::put_block(out, top, arms)
 }
 
 // What the steps leave is written where it fits: the bytes of each class, the kinds of the new registers, and the counts.

@@ -4,8 +4,8 @@ use mathlib.Core.List.{List, [], _∷_, _++_, map}
 use mathlib.Core.Option.{Option, none, some}
 use mathlib.Core.Bool.{Bool, cond}
 use lib.ListN.{length, getD}
-use Rattle.format.specs.declared.Record.{Record}
-use Rattle.format.specs.Record.{recordsOf}
+use Rattle.records.specs.declared.Record.{Record}
+use Rattle.records.specs.Record.{recordsOf}
 use Rattle.layout.specs.Classes.{ofClass}
 use Rattle.read.specs.Structure.{isDefault, codeOf as recordsOfBlock}
 use Rattle.inst.specs.declared.Code.{Code}

@@ -6,14 +6,14 @@ use mathlib.Core.List.{List, [], _∷_, _++_}
 use mathlib.Core.Bool.{true, false}
 use native.Mathlib.Omega.{arith}
 use lib.ListN.{length, getD, take, drop}
-use Rattle.shape.specs.declared.exist.Counts.{Counts}
+use Rattle.record_rules.specs.declared.exist.Counts.{Counts}
 use Rattle.inst.specs.declared.Code.{Code}
 use Rattle.roles.specs.Roles.{defsOf, usesOf, listOf, operandsOf}
 use Rattle.procedure.specs.Procedure.{Procedure}
 use Rattle.ends.specs.Ends.{terminatorOf}
-use Rattle.round.specs.WellFormed.{All, Ends, Sound, BlockIn, countsIn, WellFormed}
-use Rattle.sized.proofs.Names.{named}
-use Rattle.sized.proofs.Registers.{regs-exist}
+use Rattle.round_trips.specs.WellFormed.{All, Ends, Sound, BlockIn, countsIn, WellFormed}
+use Rattle.step_laws.proofs.Names.{named}
+use Rattle.step_laws.proofs.Registers.{regs-exist}
 use Rattle.demand.specs.Setting.{In, Each, Front, defsAt, readsAt}
 use Rattle.demand.specs.Whole.{Whole}
 use Rattle.demand.proofs.Basics.{in-left, in-right, in-split}

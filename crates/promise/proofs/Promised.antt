@@ -5,16 +5,16 @@ use mathlib.Core.Path.{_≡_, refl, sym, ap, subst, _∙_}
 use mathlib.Core.List.{List}
 use lib.ListN.{length, take, drop}
 use lib.Seq.{take-append-seam}
-use Rattle.store.specs.Store.{Bytes}
+use Rattle.put_record.specs.Store.{Bytes}
 use Rattle.procedure.specs.Procedure.{Procedure}
 use Rattle.tidy.specs.Tidy.{Tidy}
 use Rattle.steps.specs.Run.{threadedForm, run}
 use Rattle.steps.specs.Shorten.{success, shorten}
 use Rattle.machine.specs.Demand.{Demand3}
-use Rattle.round.specs.WellFormed.{WellFormed}
-use Rattle.round.proofs.Laws.{read-well-formed, read-registers, read-code, read-back}
-use Rattle.sized.proofs.Laws.{run-well-formed}
-use Rattle.sized.proofs.Shorten.{shortBytes, Within, Fate, unread, over, short, done, fate}
+use Rattle.round_trips.specs.WellFormed.{WellFormed}
+use Rattle.round_trips.proofs.Laws.{read-well-formed, read-registers, read-code, read-back}
+use Rattle.step_laws.proofs.Laws.{run-well-formed}
+use Rattle.step_laws.proofs.Shorten.{shortBytes, Within, Fate, unread, over, short, done, fate}
 use Rattle.demand.specs.Claim.{Kept}
 use Rattle.demand.proofs.Theorem.{threaded-kept}
 use Rattle.promise.specs.Promise.{held, Promise}

@@ -3,7 +3,7 @@ use Prim.Native.Nat.{ℕ}
 use mathlib.Core.Path.{_≡_}
 use mathlib.Core.List.{List}
 use lib.ListN.{take}
-use Rattle.format.specs.Record.{recordsOf}
+use Rattle.records.specs.Record.{recordsOf}
 use Rattle.procedure.specs.Procedure.{Procedure, procedureOf}
 use Rattle.tidy.specs.Tidy.{Tidy}
 use Rattle.steps.specs.Shorten.{shorten}

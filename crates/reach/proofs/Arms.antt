@@ -8,8 +8,8 @@ use mathlib.Core.Bool.{true, false}
 use lib.Dec.{eqb}
 use lib.ListN.{length, getD, drop, drop-of-length-le}
 use lib.Seq.{drop-cons}
-use Rattle.format.specs.declared.Record.{Record}
-use Rattle.format.specs.Record.{blank}
+use Rattle.records.specs.declared.Record.{Record}
+use Rattle.records.specs.Record.{blank}
 use Rattle.inst.specs.declared.ArmEntry.{ArmEntry}
 use Rattle.items.specs.Items.{armOf}
 use Rattle.reach.specs.Reached.{targetsIn}

@@ -12,8 +12,8 @@ use lib.ListN.{length, getD, take, replicate, length-map, List·getD-append, Lis
 use lib.Seq.{take-all, take-at}
 use Rattle.general.proofs.Booleans.{cases, and-first, and-second}
 use Rattle.general.proofs.Numbers.{order}
-use Rattle.format.specs.declared.Record.{Record}
-use Rattle.format.specs.Record.{recordsOf}
+use Rattle.records.specs.declared.Record.{Record}
+use Rattle.records.specs.Record.{recordsOf}
 use Rattle.layout.specs.Walk.{walk}
 use Rattle.layout.proofs.Walks.{walk-head, walk-tail}
 use Rattle.read.specs.Structure.{numbers, nextArm, numbered, isDefault}

@@ -4,8 +4,8 @@ use mathlib.Core.List.{List, [], _∷_, _++_, map}
 use mathlib.Core.Bool.{Bool, false, cond}
 use lib.Dec.{eqb}
 use lib.ListN.{length, take, replicate}
-use Rattle.format.specs.declared.Record.{Record}
-use Rattle.format.specs.Record.{recordsOf}
+use Rattle.records.specs.declared.Record.{Record}
+use Rattle.records.specs.Record.{recordsOf}
 use Rattle.read.specs.Structure.{isDefault}
 use Rattle.paths.specs.Paths.{reachedFrom}
 use Rattle.ends.specs.declared.End.{End}

@@ -1,6 +1,6 @@
 // Which blocks Emit reaches from block 0.
 ghost use mathlib.Core.Path.{_≡_};
-ghost use Rattle.format.specs.Record.{recordsOf};
+ghost use Rattle.records.specs.Record.{recordsOf};
 ghost use Rattle.reach.specs.Reached.{targetsIn, leadsIn, seenIn};
 ghost use Rattle.reach.specs.Search.{Sized, searchOf, pushed, pushedAll};
 use ends::End;
@@ -42,7 +42,7 @@ fn push_arms(
     let mut at = top;
     let mut k = 0;
     while k < count {
-        let x = items::arm_of(format::record_at(arms, k));
+        let x = items::arm_of(records::record_at(arms, k));
         if x.table == n {
             let to = x.to;
             at = push(seen, stack, at, nb, to);

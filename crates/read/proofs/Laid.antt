@@ -11,11 +11,11 @@ use lib.Dec.{ltb, leb, eqb}
 use lib.ListN.{length, getD, take, drop}
 use lib.Seq.{take-all}
 use Rattle.general.proofs.Booleans.{and-first, and-second, cases}
-use Rattle.format.specs.declared.Record.{Record}
-use Rattle.format.specs.Record.{blank}
-use Rattle.shape.specs.declared.exist.Counts.{Counts}
-use Rattle.shape.specs.Exist.{namesExist}
-use Rattle.shape.proofs.Laws.{no-names}
+use Rattle.records.specs.declared.Record.{Record}
+use Rattle.records.specs.Record.{blank}
+use Rattle.record_rules.specs.declared.exist.Counts.{Counts}
+use Rattle.record_rules.specs.Exist.{namesExist}
+use Rattle.record_rules.proofs.Laws.{no-names}
 use Rattle.layout.specs.declared.Layout.{Layout}
 use Rattle.layout.specs.Walk.{walk, lead}
 use Rattle.layout.specs.Classes.{inOrder, ordered, ofClass, before, layoutOf}

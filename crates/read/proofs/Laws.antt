@@ -13,8 +13,8 @@ use lib.Seq.{getD-take, getD-drop, length-take-le, take-suc, take-take, drop-dro
 use Rattle.general.proofs.Lists.{drop-take}
 pub use Rattle.general.proofs.Booleans.{either, otherwise}
 use Rattle.general.proofs.Booleans.{both, neither, told}
-use Rattle.format.specs.declared.Record.{Record}
-use Rattle.format.specs.Record.{blank}
+use Rattle.records.specs.declared.Record.{Record}
+use Rattle.records.specs.Record.{blank}
 use Rattle.layout.specs.Walk.{walk, lead}
 use Rattle.layout.proofs.Walks.{pass-at, stop-at, end-at}
 use Rattle.read.specs.Structure.{State, codeOf, tiles, terminator, numbers, isDefault, tables}

@@ -3,7 +3,7 @@ use mathlib.Core.Path.{_≡_, refl}
 use mathlib.Core.List.{List, []}
 use Prim.Native.Nat.{ℕ}
 use lib.ListN.{length}
-use Rattle.format.specs.Record.{recordsOf, firstRecords}
+use Rattle.records.specs.Record.{recordsOf, firstRecords}
 use Rattle.layout.specs.Walk.{walk}
 use Rattle.layout.specs.Classes.{ofClass, before}
 use Rattle.read.specs.Reading.{reading, readRecords, unless, answer}

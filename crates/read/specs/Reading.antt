@@ -4,10 +4,10 @@ use mathlib.Core.List.{List}
 use mathlib.Core.Bool.{Bool, _||_, not, cond}
 use lib.Dec.{eqb, ltb}
 use lib.ListN.{length}
-use Rattle.format.specs.declared.Record.{Record}
-use Rattle.format.specs.Record.{recordsOf}
-use Rattle.shape.specs.declared.exist.Counts.{Counts}
-use Rattle.shape.specs.Exist.{namesExist}
+use Rattle.records.specs.declared.Record.{Record}
+use Rattle.records.specs.Record.{recordsOf}
+use Rattle.record_rules.specs.declared.exist.Counts.{Counts}
+use Rattle.record_rules.specs.Exist.{namesExist}
 use Rattle.layout.specs.Walk.{lead}
 use Rattle.layout.specs.Classes.{ordered, ofClass, before}
 use Rattle.read.specs.declared.Reading.{Reading}

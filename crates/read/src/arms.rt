@@ -2,10 +2,10 @@ ghost use mathlib.Core.Path.{_≡_};
 ghost use mathlib.Core.Bool.{cond};
 ghost use Prim.Native.Nat.{ℕ, _+_, _≤_};
 ghost use lib.ListN.{length, take};
-ghost use Rattle.format.specs.Record.{recordsOf};
+ghost use Rattle.records.specs.Record.{recordsOf};
 ghost use Rattle.read.specs.Structure.{numbers as numbersAfter, numbered, tables, isDefault};
 ghost use Rattle.read.specs.Work.{part};
-use format::Record;
+use records::Record;
 
 // How many arms were passed, and the tables that they end.
 pub struct Numbering {
@@ -38,7 +38,7 @@ pub fn numbered_arms(b: &[u8], first: usize, count: usize) -> Numbering
     let mut due = 0;
     let mut k = 0;
     while k < count {
-        let r = format::record_at(b, first + k);
+        let r = records::record_at(b, first + k);
         if !numbers(due, count - k, r) {
             return Numbering {
                 passed: k,

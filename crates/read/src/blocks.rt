@@ -4,11 +4,11 @@ ghost use mathlib.Core.Bool.{not};
 ghost use Prim.Native.Nat.{ℕ, _+_, _-_, _≤_, _<_};
 ghost use lib.Dec.{eqb};
 ghost use lib.ListN.{length, take, drop};
-ghost use Rattle.format.specs.Record.{recordsOf};
+ghost use Rattle.records.specs.Record.{recordsOf};
 ghost use Rattle.layout.specs.Walk.{lead};
 ghost use Rattle.read.specs.Structure.{tiles as tilesAfter, tiled, terminator as isTerminator, ended, endsWell};
 ghost use Rattle.read.specs.Work.{part, InCode};
-use format::Record;
+use records::Record;
 
 // The block starts where the one before it ended, holds code, and ends within the code; the last one ends with it.
 fn tiles(n: u32, due: u32, left: usize, r: Record) -> bool
@@ -34,7 +34,7 @@ pub fn tiled_blocks(b: &[u8], first: usize, count: usize, n: u32) -> usize
     let mut due = 0;
     let mut k = 0;
     while k < count {
-        let r = format::record_at(b, first + k);
+        let r = records::record_at(b, first + k);
         if !tiles(n, due, count - k, r) {
             return k;
         }
@@ -57,7 +57,7 @@ fn first_terminator(b: &[u8], first: usize, count: usize) -> usize
 {
     let mut k = 0;
     while k < count {
-        let r = format::record_at(b, first + k);
+        let r = records::record_at(b, first + k);
         if terminator(r) {
             return k;
         }
@@ -81,7 +81,7 @@ pub fn ended_blocks(b: &[u8], first: usize, count: usize, code: usize, n: usize)
 {
     let mut k = 0;
     while k < count {
-        let r = format::record_at(b, first + k);
+        let r = records::record_at(b, first + k);
         let start = r.p1 as usize;
         if !ends_well(b, code + start, r.p2 as usize - start) {
             return k;

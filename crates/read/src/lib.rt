@@ -4,11 +4,11 @@ ghost use mathlib.Core.Bool.{_||_};
 ghost use Prim.Native.Nat.{ℕ, _+_, _≤_};
 ghost use lib.Dec.{ltb, eqb};
 ghost use lib.ListN.{length};
-ghost use Rattle.format.specs.Record.{recordsOf};
+ghost use Rattle.records.specs.Record.{recordsOf};
 ghost use Rattle.read.specs.Reading.{answer, beyond as beyondLimits, readTables, readBlocks, readRecords, reading};
 ghost use Rattle.read.specs.Work.{LaidOut};
 use layout::Layout;
-use shape::exist::Counts;
+use record_rules::exist::Counts;
 
 mod arms;
 mod blocks;

@@ -1,10 +1,10 @@
 ghost use mathlib.Core.Path.{_≡_};
 ghost use Prim.Native.Nat.{_+_, _≤_};
 ghost use lib.ListN.{length, drop};
-ghost use Rattle.format.specs.Record.{recordsOf};
-ghost use Rattle.shape.specs.Exist.{namesExist};
+ghost use Rattle.records.specs.Record.{recordsOf};
+ghost use Rattle.record_rules.specs.Exist.{namesExist};
 ghost use Rattle.layout.specs.Walk.{lead};
-use shape::exist::Counts;
+use record_rules::exist::Counts;
 
 // The place of the first record from `first` on that names what does not exist, or the end.
 pub fn named_records(b: &[u8], first: usize, n: Counts) -> usize
@@ -13,8 +13,8 @@ pub fn named_records(b: &[u8], first: usize, n: Counts) -> usize
 {
     let mut k = first;
     while k < b.len() / 32 {
-        let r = format::record_at(b, k);
-        if !shape::exist::names_exist(n, r) {
+        let r = records::record_at(b, k);
+        if !record_rules::exist::names_exist(n, r) {
             return k;
         }
         k += 1;

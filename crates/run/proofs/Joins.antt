@@ -6,10 +6,10 @@ use mathlib.Core.Bool.{false}
 use mathlib.Core.List.{List, map}
 use lib.ListN.{length, take, length-take}
 use lib.Seq.{take-all}
-use Rattle.format.specs.declared.Record.{Record}
-use Rattle.format.specs.Record.{recordsOf, recordAt}
-use Rattle.format.proofs.Laws.{length-records}
-use Rattle.store.specs.Store.{Bytes}
+use Rattle.records.specs.declared.Record.{Record}
+use Rattle.records.specs.Record.{recordsOf, recordAt}
+use Rattle.records.proofs.Laws.{length-records}
+use Rattle.put_record.specs.Store.{Bytes}
 use Rattle.inst.specs.declared.Inst.the-variants as i
 use Rattle.codec.specs.Codec.{codeOf, recordOf, blockOf}
 use Rattle.procedure.specs.Procedure.{Procedure, codesOf}
@@ -21,12 +21,12 @@ use Rattle.blocks.specs.Rewrite.{Apart}
 use Rattle.blocks.proofs.Parts.{records-part}
 use Rattle.blocks.proofs.Bytes.{end-bytes, end-length}
 use Rattle.blocks.proofs.Apart.{tiled-apart}
-use Rattle.arms.specs.Joined.{Joined, joined as joinedTo, armsOf, equalArmsIn}
-use Rattle.arms.proofs.Arms.{keep-from, equal-arms, arms-canonical}
-use Rattle.round.specs.WellFormed.{countsIn}
-use Rattle.round.proofs.Blocks.{Tiled, joined-map}
-use Rattle.sized.proofs.Arms.{Kept, arms-kept}
-use Rattle.opened.specs.Opened.{Parts, Opened}
+use Rattle.equal_arms.specs.Joined.{Joined, joined as joinedTo, armsOf, equalArmsIn}
+use Rattle.equal_arms.proofs.Arms.{keep-from, equal-arms, arms-canonical}
+use Rattle.round_trips.specs.WellFormed.{countsIn}
+use Rattle.round_trips.proofs.Blocks.{Tiled, joined-map}
+use Rattle.step_laws.proofs.Arms.{Kept, arms-kept}
+use Rattle.procedure_parts.specs.Opened.{Parts, Opened}
 use Rattle.thread.proofs.Whole.{sizesFrom}
 use Rattle.run.proofs.Lent.{Held}
 use Rattle.run.proofs.Tiles.{within-same, part-same, tiles-all, sizes-tiled, heads-same}

@@ -11,15 +11,15 @@ use Rattle.inst.specs.declared.Code.{Code}
 use Rattle.procedure.specs.Procedure.{Procedure}
 use Rattle.procedure.specs.Lists.{joined, present}
 use Rattle.blocks.specs.Blocks.{blocksOf}
-use Rattle.arms.specs.Joined.{Joined}
+use Rattle.equal_arms.specs.Joined.{Joined}
 use Rattle.steps.specs.Facts.{Facts}
 use Rattle.steps.specs.Gate.{hasBackEdge, mayThread}
 use Rattle.steps.specs.Thread.{Work, thread}
 use Rattle.steps.specs.Run as s
 use Rattle.facts.specs.Storage.{factsIn}
-use Rattle.round.specs.WellFormed.{countsIn}
-use Rattle.sized.proofs.Threads.{Inv}
-use Rattle.opened.specs.Opened.{Parts}
+use Rattle.round_trips.specs.WellFormed.{countsIn}
+use Rattle.step_laws.proofs.Threads.{Inv}
+use Rattle.procedure_parts.specs.Opened.{Parts}
 use Rattle.thread.specs.Storage.{Store, store, threadIn}
 use Rattle.thread.proofs.Refined.{workOf}
 use Rattle.thread.proofs.Kept.{Stored}

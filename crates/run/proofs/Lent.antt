@@ -5,10 +5,10 @@ use mathlib.Core.Path.{_≡_}
 use mathlib.Core.List.{List}
 use mathlib.Core.Option.{Option}
 use lib.ListN.{length, take}
-use Rattle.store.specs.Store.{Bytes}
+use Rattle.put_record.specs.Store.{Bytes}
 use Rattle.procedure.specs.Procedure.{Procedure}
 use Rattle.procedure.specs.Lists.{joined}
-use Rattle.opened.specs.Opened.{Parts, Opened}
+use Rattle.procedure_parts.specs.Opened.{Parts, Opened}
 
 -- the code stands first in the work
 pub record Held (p : Procedure) (x : Parts) (work : List ℕ) : Type 0 where

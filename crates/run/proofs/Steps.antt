@@ -5,7 +5,7 @@ use mathlib.Core.Bool.{Bool, true, false}
 use mathlib.Core.List.{List}
 use mathlib.Core.Option.{Option}
 use borrow.Author.Tests.{lt-ltb, le-ltb}
-use Rattle.arms.specs.Joined.{Joined, joined, equalArmsIn}
+use Rattle.equal_arms.specs.Joined.{Joined, joined, equalArmsIn}
 use Rattle.thread.specs.declared.Threaded.{Threaded}
 use Rattle.thread.specs.Storage.{Store, store, threadIn}
 use Rattle.run.specs.declared.Ran.{Ran}

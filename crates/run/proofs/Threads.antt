@@ -6,7 +6,7 @@ use mathlib.Core.List.{List, [], _∷_}
 use mathlib.Core.Logic.{_⊎_, inl, inr}
 use lib.ListN.{length, getD, take, drop, length-append, length-drop, List·getD-eq-default}
 use Rattle.general.proofs.Numbers.{order}
-use Rattle.shape.specs.declared.exist.Counts.{Counts}
+use Rattle.record_rules.specs.declared.exist.Counts.{Counts}
 use Rattle.inst.specs.declared.Code.{Code}
 use Rattle.procedure.specs.Procedure.{Procedure, codesOf}
 use Rattle.procedure.specs.Lists.{joined}
@@ -18,12 +18,12 @@ use Rattle.steps.proofs.Edits.{Edits, thread-edits}
 use Rattle.facts.specs.Storage.{kindsOf, operandsIn, rows, rowOf, tableOf, kindsIn, factsIn}
 use Rattle.facts.proofs.Rows.{rows-length}
 use Rattle.facts.proofs.Told.{told}
-use Rattle.round.specs.WellFormed.{All, Sound, BlockIn, countsIn}
-use Rattle.round.proofs.Lists.{all-at, all-append}
-use Rattle.sized.proofs.Threads.{Inv}
-use Rattle.sized.proofs.Laws.{edits-inv}
-use Rattle.opened.proofs.Laws.{kinds-sent}
-use Rattle.opened.specs.Opened.{Parts, Opened}
+use Rattle.round_trips.specs.WellFormed.{All, Sound, BlockIn, countsIn}
+use Rattle.round_trips.proofs.Lists.{all-at, all-append}
+use Rattle.step_laws.proofs.Threads.{Inv}
+use Rattle.step_laws.proofs.Laws.{edits-inv}
+use Rattle.procedure_parts.proofs.Laws.{kinds-sent}
+use Rattle.procedure_parts.specs.Opened.{Parts, Opened}
 use Rattle.thread.specs.Storage.{Store, store, threadIn}
 use Rattle.thread.proofs.Refined.{workOf}
 use Rattle.thread.proofs.Kept.{Stored}

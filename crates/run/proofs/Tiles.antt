@@ -5,8 +5,8 @@ use mathlib.Core.Path.{_≡_, refl, ap, _∙_}
 use mathlib.Core.List.{List, [], _∷_, map}
 use lib.ListN.{length, getD, take, drop, length-take, length-drop, length-map}
 use lib.Seq.{set-out, take-take}
-use Rattle.format.specs.declared.Record.{Record}
-use Rattle.format.specs.Record.{recordsOf, recordAt, blank}
+use Rattle.records.specs.declared.Record.{Record}
+use Rattle.records.specs.Record.{recordsOf, recordAt, blank}
 use Rattle.read.specs.Structure.{codeOf as recordsOfBlock}
 use Rattle.codec.specs.Codec.{codeOf}
 use Rattle.procedure.specs.Lists.{joined}
@@ -16,7 +16,7 @@ use Rattle.blocks.specs.Rewrite.{Apart}
 use Rattle.blocks.proofs.Parts.{records-part}
 use Rattle.blocks.proofs.Apart.{map-one, last-place}
 use Rattle.arena.proofs.Pointed.{part-below}
-use Rattle.round.proofs.Blocks.{Tiled, first-tile, next-tiles, code-back}
+use Rattle.round_trips.proofs.Blocks.{Tiled, first-tile, next-tiles, code-back}
 use Rattle.thread.proofs.Whole.{sizesFrom}
 
 module _ (n : ℕ) (table : List ℕ) (a : Apart n table) where

@@ -12,10 +12,10 @@ use Rattle.procedure.specs.Lists.{joined, present}
 use Rattle.steps.specs.EqualArms.{Arms, equalArms}
 use Rattle.steps.specs.Gate.{hasBackEdge, mayThread}
 use Rattle.steps.specs.Run.{unchanged, withArms, threadIf, threaded, short, threadedUnless, threadedForm}
-use Rattle.arms.specs.Joined.{joined as joinedTo, armsOf, equalArmsIn}
-use Rattle.arms.proofs.Arms.{tiled-arms}
-use Rattle.opened.specs.Opened.{Parts, Opened}
-use Rattle.run.specs.Ran.{opensIn, Stays}
+use Rattle.equal_arms.specs.Joined.{joined as joinedTo, armsOf, equalArmsIn}
+use Rattle.equal_arms.proofs.Arms.{tiled-arms}
+use Rattle.procedure_parts.specs.Opened.{Parts, Opened}
+use Rattle.run.specs.Ran.{opensIn, NoStep}
 
 module _ (p : Procedure) (x : Parts) (o : Opened p x) where
   abbrev arms : List (List Code) → Arms
@@ -31,12 +31,12 @@ module _ (p : Procedure) (x : Parts) (o : Opened p x) where
   shut : opensIn (p .body) (x .code) (x .heads) ≡ false → (hasBackEdge (p .blocks) && mayThread (present (p .body)) (p .blocks)) ≡ false
   shut e = ap (λ (P : List (List Code)). hasBackEdge P && mayThread (present (p .body)) P) (sym (o .parted .blocks)) ∙ e
 
-  pub stays-run : Stays (p .body) (x .code) (x .heads) → threadedForm p ≡ unchanged p
+  pub no-step-run : NoStep (p .body) (x .code) (x .heads) → threadedForm p ≡ unchanged p
   unfolding threadedForm
-  stays-run (inl few) =
+  no-step-run (inl few) =
       let n = o .parted .coded .code-length in
       ap (λ (b : Bool). threadedUnless b p) (lt-ltb (length (joined (p .blocks))) 6 (omega arith))
-  stays-run (inr (none, closed)) = by (short p)
+  no-step-run (inr (none, closed)) = by (short p)
     where
       by : (b : Bool) → threadedUnless b p ≡ unchanged p
       by true = refl

@@ -7,16 +7,16 @@ use mathlib.Core.List.{List, [], _∷_}
 use borrow.Author.Tests.{ne-eqb}
 use lib.Dec.{eqb}
 use lib.ListN.{length, drop, length-append, length-take, length-drop}
-use Rattle.shape.specs.declared.exist.Counts.{Counts}
+use Rattle.record_rules.specs.declared.exist.Counts.{Counts}
 use Rattle.inst.specs.declared.Code.{Code}
 use Rattle.roles.specs.Roles.{defsOf, usesOf, listOf, operandsOf, readsOf}
 use Rattle.roles.proofs.Laws.{all-few}
 use Rattle.procedure.specs.Lists.{times}
 use Rattle.procedure.specs.Counts.{writesIn, useCount}
-use Rattle.round.specs.WellFormed.{All, Sound}
-use Rattle.round.proofs.Lists.{all-append, all-left, all-right, all-take, all-drop}
-use Rattle.sized.proofs.Names.{named}
-use Rattle.sized.proofs.Registers.{regs-exist}
+use Rattle.round_trips.specs.WellFormed.{All, Sound}
+use Rattle.round_trips.proofs.Lists.{all-append, all-left, all-right, all-take, all-drop}
+use Rattle.step_laws.proofs.Names.{named}
+use Rattle.step_laws.proofs.Registers.{regs-exist}
 
 times-none : (m : ℕ) (xs : List ℕ) → All (λ x. x < m) xs → (r : ℕ) → m ≤ r → times r xs ≡ 0
 unfolding times

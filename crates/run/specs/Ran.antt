@@ -12,7 +12,7 @@ use Rattle.procedure.specs.Lists.{present}
 use Rattle.blocks.specs.Blocks.{blocksOf}
 use Rattle.steps.specs.Gate.{hasBackEdge, mayThread}
 use Rattle.facts.specs.Storage.{kindsOf, operandsIn, tableOf}
-use Rattle.arms.specs.Joined.{Joined, joined, equalArmsIn}
+use Rattle.equal_arms.specs.Joined.{Joined, joined, equalArmsIn}
 use Rattle.thread.specs.declared.Threaded.{Threaded}
 use Rattle.thread.specs.Storage.{Store, store, threadIn}
 use Rattle.run.specs.declared.Ran.{Ran}
@@ -46,8 +46,8 @@ abbrev pub opensIn : Option ℕ → List ℕ → List ℕ → Bool
 opensIn body work table = hasBackEdge (blocksOf work table) && mayThread (present body) (blocksOf work table)
 
 -- no step does anything: "Fewer than 6 instructions", or no arms to join and a gate that stays shut
-abbrev pub Stays : Option ℕ → List ℕ → List ℕ → Type 0
-Stays body code table = (length code / 32 < 6) ⊎ ((equalArmsIn table code ≡ joined code false) × (opensIn body code table ≡ false))
+abbrev pub NoStep : Option ℕ → List ℕ → List ℕ → Type 0
+NoStep body code table = (length code / 32 < 6) ⊎ ((equalArmsIn table code ≡ joined code false) × (opensIn body code table ≡ false))
 
 -- the lengths of the slices for known values and copies, the records of operands and registers, and how many instructions there are
 module _ (body : Option ℕ) (known copy : ℕ) (operands registers : List ℕ) (n : ℕ) where

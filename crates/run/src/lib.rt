@@ -4,10 +4,10 @@ ghost use mathlib.Core.Bool.{true};
 ghost use mathlib.Core.List.{List};
 ghost use Prim.Native.Nat.{ℕ};
 ghost use lib.ListN.{length};
-ghost use Rattle.pausing.specs.Storage.{bodyIn};
-ghost use Rattle.arms.specs.Joined.{joined};
+ghost use Rattle.pause.specs.Storage.{bodyIn};
+ghost use Rattle.equal_arms.specs.Joined.{joined};
 ghost use Rattle.run.specs.Ran as r;
-use pausing::Pause;
+use pause::Pause;
 use thread::Threaded;
 
 // How far `run` came before emit: if equal arms were joined, and how far threading is.
@@ -40,14 +40,14 @@ fn counted(work: &[u8], facts: &mut [u64], operands: &[u8], registers: &[u8], n:
     ensures { λ u. ⌜ now (facts .exit) ≡ r.countedIn n (now (operands .entry)) (now (registers .entry)) (now (facts .entry)) (now (work .entry)) ⌝ }
 {
     let m = blocks::least(n, work.len() / 32);
-    fill::facts(&work[..32 * m], operands, registers, &work[..0], facts);
+    count_facts::facts(&work[..32 * m], operands, registers, &work[..0], facts);
 }
 
 // Some block leads back, and some hop may do something.
 fn opens(work: &[u8], table: &[u8], pause: Pause) -> bool
     ensures { λ z. ⌜ z ≡ r.opensIn (bodyIn pause) (now (work .entry)) (now (table .entry)) ⌝ }
 {
-    gate::has_back_edge(work, table) && gate::may_thread(work, table, pausing::has_pause(pause))
+    gate::has_back_edge(work, table) && gate::may_thread(work, table, pause::has_pause(pause))
 }
 
 // The gate, the counts and threading, once equal arms are joined.
@@ -105,7 +105,7 @@ pub fn run(
             at: still(n),
         };
     }
-    let arms = arms::equal_arms(work, table);
+    let arms = equal_arms::equal_arms(work, table);
     gated(
         work,
         table,
@@ -122,8 +122,8 @@ pub fn run(
 }
 
 // No step does anything to a code.
-pub fn stays(code: &[u8], table: &[u8], pause: Pause) -> bool
-    ensures { λ z. ⌜ (z ≡ true → r.Stays (bodyIn pause) (now (code .entry)) (now (table .entry))) ⌝ }
+pub fn no_step(code: &[u8], table: &[u8], pause: Pause) -> bool
+    ensures { λ z. ⌜ (z ≡ true → r.NoStep (bodyIn pause) (now (code .entry)) (now (table .entry))) ⌝ }
 {
     if code.len() / 32 < 6 {
         return true;
@@ -131,5 +131,5 @@ pub fn stays(code: &[u8], table: &[u8], pause: Pause) -> bool
     if opens(code, table, pause) {
         return false;
     }
-    arms::none_meet(code, table)
+    equal_arms::none_meet(code, table)
 }

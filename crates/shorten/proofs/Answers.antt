@@ -9,27 +9,27 @@ use borrow.Author.Tests.{lt-ltb, le-ltb, eq-eqb, ne-eqb, ltb-false}
 use lib.Dec.{eqb, ltb}
 use lib.ListN.{length, take, drop}
 use Rattle.general.proofs.Booleans.{either, otherwise}
-use Rattle.format.specs.declared.Record.{Record}
-use Rattle.format.specs.Record.{recordsOf}
-use Rattle.format.proofs.Laws.{length-records}
-use Rattle.store.specs.Store.{Bytes}
+use Rattle.records.specs.declared.Record.{Record}
+use Rattle.records.specs.Record.{recordsOf}
+use Rattle.records.proofs.Laws.{length-records}
+use Rattle.put_record.specs.Store.{Bytes}
 use Rattle.layout.specs.declared.Layout.{Layout}
 use Rattle.layout.specs.Classes.{ofClass}
 use Rattle.read.specs.declared.Reading.{Reading}
 use Rattle.read.specs.Reading.{reading, answer}
 use Rattle.procedure.specs.Procedure.{procedureOf}
-use Rattle.round.proofs.Accepted.{or-first, or-second}
+use Rattle.round_trips.proofs.Accepted.{or-first, or-second}
 use Rattle.tidy.specs.Tidy.{Tidy}
 use Rattle.steps.specs.declared.Answer.{Answer}
 use Rattle.steps.specs.Run.{run}
 use Rattle.steps.specs.Shorten.{Outcome, refusal, shortened, above, runUnless, acceptIf, shortenWithin, shorten, instructions}
 use Rattle.machine.specs.Demand.{Demand3}
-use Rattle.sized.proofs.Shorten.{Within, shortened-accepted, room-enough, unmoved-same, few-instructions}
+use Rattle.step_laws.proofs.Shorten.{Within, shortened-accepted, room-enough, unmoved-same, few-instructions}
 use Rattle.promise.specs.Promise.{held}
 use Rattle.promise.proofs.Promised.{promise}
-use Rattle.classes.specs.Parts.{startsIn}
-use Rattle.opened.specs.Opened.{Parts, partsOf}
-use Rattle.opened.proofs.Laws.{registers-are, code-is, opened}
+use Rattle.parts.specs.Parts.{startsIn}
+use Rattle.procedure_parts.specs.Opened.{Parts, partsOf}
+use Rattle.procedure_parts.proofs.Laws.{registers-are, code-is, opened}
 use Rattle.output.specs.Filed.{outcome}
 use Rattle.shorten.specs.Storage.{Done}
 

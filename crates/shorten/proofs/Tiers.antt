@@ -6,12 +6,12 @@ use mathlib.Core.List.{List}
 use lib.ListN.{length, take}
 use lib.Seq.{length-take-le}
 use Rattle.procedure.specs.Procedure.{Procedure}
-use Rattle.opened.proofs.Laws.{registers-sent}
-use Rattle.opened.specs.Opened.{Parts, Opened}
+use Rattle.procedure_parts.proofs.Laws.{registers-sent}
+use Rattle.procedure_parts.specs.Opened.{Parts, Opened}
 use Rattle.layout.specs.declared.Layout.{Layout}
-use Rattle.opened.specs.Opened.{partsOf}
-use Rattle.opened.proofs.Few.{opened-few}
-use Rattle.opened.proofs.Parts.{length-of}
+use Rattle.procedure_parts.specs.Opened.{partsOf}
+use Rattle.procedure_parts.proofs.Few.{opened-few}
+use Rattle.procedure_parts.proofs.Parts.{length-of}
 use Rattle.shortening.specs.Storage.{lent, Enough, Staging}
 use Rattle.shorten.specs.Storage.{Room, Fits}
 

@@ -7,7 +7,7 @@ use Rattle.procedure.specs.Procedure.{Procedure}
 use Rattle.steps.specs.declared.Answer.{Answer}
 use Rattle.steps.specs.Run.{run}
 use Rattle.steps.specs.Shorten.{shortened}
-use Rattle.opened.specs.Opened.{Parts, Opened}
+use Rattle.procedure_parts.specs.Opened.{Parts, Opened}
 use Rattle.output.specs.Filed.{outcome}
 
 -- the lengths of storage that is enough for so many registers and instructions, and so many blocks

@@ -9,7 +9,7 @@ ghost use Rattle.tidy.specs.Tidy.{Tidy};
 ghost use Rattle.steps.specs.Shorten as spec;
 ghost use Rattle.machine.specs.Demand.{Demand3};
 ghost use Rattle.promise.specs.Promise.{held};
-ghost use Rattle.opened.specs.Opened.{partsOf};
+ghost use Rattle.procedure_parts.specs.Opened.{partsOf};
 ghost use Rattle.output.specs.Filed.{outcome};
 ghost use Rattle.shorten.specs.Storage.{Room, Fits, Done};
 use layout::Layout;
@@ -61,8 +61,8 @@ fn shorten_over(
         (length (now facts)) (length (now staged)) (length (now heads)) ⌝ }
     ensures { λ r. ⌜ (Fits most blocks (partsOf (now (b .entry)) l) → Done (partsOf (now (b .entry)) l) r (now (out .entry)) (now (out .exit))) ⌝ }
 {
-    let nb = blocks::least(classes::part(b, l.blocks, l.bodies).len() / 32, blocks);
-    let nr = blocks::least(classes::part(b, 0, l.blocks).len() / 32, most);
+    let nb = blocks::least(parts::part(b, l.blocks, l.bodies).len() / 32, blocks);
+    let nr = blocks::least(parts::part(b, 0, l.blocks).len() / 32, most);
     shortening::shorten_in(
         b,
         l,
@@ -198,13 +198,13 @@ fn shorten_large(b: &[u8], l: Layout, out: &mut [u8]) -> Answer
 fn fits(b: &[u8], l: Layout, n: usize) -> bool
     ensures { λ z. ⌜ (z ≡ true → Fits n n (partsOf (now (b .entry)) l)) ⌝ }
 {
-    if n < classes::part(b, 0, l.blocks).len() / 32 {
+    if n < parts::part(b, 0, l.blocks).len() / 32 {
         return false;
     }
-    if n < classes::part(b, l.blocks, l.bodies).len() / 32 {
+    if n < parts::part(b, l.blocks, l.bodies).len() / 32 {
         return false;
     }
-    classes::part(b, l.code, l.operands).len() / 32 <= n
+    parts::part(b, l.code, l.operands).len() / 32 <= n
 }
 
 // A file of any size within the limits.
@@ -224,16 +224,16 @@ fn shorten_more(b: &[u8], l: Layout, out: &mut [u8]) -> Answer
 fn shorten_read(b: &[u8], l: Layout, out: &mut [u8]) -> Answer
     ensures { λ r. ⌜ Done (partsOf (now (b .entry)) l) r (now (out .entry)) (now (out .exit)) ⌝ }
 {
-    if shortening::stays(b, l) {
+    if shortening::no_step(b, l) {
         return shortening::put_sent(out, b, l);
     }
-    if 24 < classes::part(b, 0, l.blocks).len() / 32 {
+    if 24 < parts::part(b, 0, l.blocks).len() / 32 {
         return shorten_more(b, l, out);
     }
-    if 24 < classes::part(b, l.blocks, l.bodies).len() / 32 {
+    if 24 < parts::part(b, l.blocks, l.bodies).len() / 32 {
         return shorten_more(b, l, out);
     }
-    if 24 < classes::part(b, l.code, l.operands).len() / 32 {
+    if 24 < parts::part(b, l.code, l.operands).len() / 32 {
         return shorten_more(b, l, out);
     }
     shorten_small(b, l, out)
@@ -256,11 +256,11 @@ fn shorten_below(bytes: &[u8], out: &mut [u8], registers: usize, code: usize) ->
     if r.number != 0 {
         return refused(r.number, r.place);
     }
-    let l = classes::starts(bytes);
-    if registers < classes::part(bytes, 0, l.blocks).len() / 32 {
+    let l = parts::starts(bytes);
+    if registers < parts::part(bytes, 0, l.blocks).len() / 32 {
         return refused(8, 0);
     }
-    if code < classes::part(bytes, l.code, l.operands).len() / 32 {
+    if code < parts::part(bytes, l.code, l.operands).len() / 32 {
         return refused(8, 0);
     }
     shorten_read(bytes, l, out)

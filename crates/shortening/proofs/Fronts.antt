@@ -7,11 +7,11 @@ use mathlib.Core.List.{List, [], _∷_, map}
 use mathlib.Core.Option.{Option, none, some}
 use lib.ListN.{length, getD, take, set}
 use lib.Seq.{paste, paste-suc, length-paste, take-paste, take-all, length-take-le}
-use Rattle.format.specs.declared.Record.{Record}
-use Rattle.format.specs.Record.{recordsOf, recordAt, blank}
-use Rattle.format.proofs.Laws.{length-records}
+use Rattle.records.specs.declared.Record.{Record}
+use Rattle.records.specs.Record.{recordsOf, recordAt, blank}
+use Rattle.records.proofs.Laws.{length-records}
 use Rattle.procedure.specs.Procedure.{firstOf}
-use Rattle.store.specs.Store.{Bytes}
+use Rattle.put_record.specs.Store.{Bytes}
 use Rattle.blocks.proofs.Bytes.{bytes-paste}
 use Rattle.shortening.specs.Storage.{fronted}
 

@@ -8,9 +8,9 @@ use mathlib.Core.Logic.{_⊎_, inl, inr}
 use lib.ListN.{length, take, length-map}
 use lib.Seq.{take-all, length-take-le}
 use Rattle.general.proofs.Numbers.{order}
-use Rattle.format.specs.Record.{recordsOf}
-use Rattle.format.proofs.Laws.{length-records}
-use Rattle.store.specs.Store.{Bytes}
+use Rattle.records.specs.Record.{recordsOf}
+use Rattle.records.proofs.Laws.{length-records}
+use Rattle.put_record.specs.Store.{Bytes}
 use Rattle.inst.specs.declared.Code.{Code}
 use Rattle.codec.specs.Codec.{recordOf}
 use Rattle.procedure.specs.Procedure.{Procedure, firstOf}
@@ -22,16 +22,16 @@ use Rattle.steps.specs.Run.{Shortened, withBlocks, withRegisters, armsJoined, e
 use Rattle.steps.specs.Write.{blockRecords}
 use Rattle.facts.specs.Storage.{factsIn, kindsOf}
 use Rattle.thread.proofs.Refined.{workOf}
-use Rattle.round.specs.WellFormed.{WellFormed}
-use Rattle.round.proofs.Blocks.{length-blocks}
-use Rattle.sized.proofs.Laws.{run-sized, run-well-formed}
-use Rattle.opened.specs.Opened.{Parts, recoded, Coded, Holds, Opened}
-use Rattle.opened.proofs.Laws.{exchanged, kinds-sent, registers-sent}
+use Rattle.round_trips.specs.WellFormed.{WellFormed}
+use Rattle.round_trips.proofs.Blocks.{length-blocks}
+use Rattle.step_laws.proofs.Laws.{run-sized, run-well-formed}
+use Rattle.procedure_parts.specs.Opened.{Parts, recoded, Coded, Holds, Opened}
+use Rattle.procedure_parts.proofs.Laws.{exchanged, kinds-sent, registers-sent}
 use Rattle.run.specs.Ran.{Left}
 use Rattle.run.proofs.Lent as r
 use Rattle.run.proofs.Laws.{Still, Edited, still, edited}
-use Rattle.staged.specs.Stage.{Ready, Emitted}
-use Rattle.staged.specs.declared.Staged.{Staged}
+use Rattle.emit.specs.Stage.{Ready, Emitted}
+use Rattle.emit.specs.declared.Staged.{Staged}
 use Rattle.output.specs.Filed.{short}
 use Rattle.shortening.specs.Storage.{fronted, Lent, sizeOf, leftIn, Enough, Staging, LeftOf, Tells}
 use Rattle.shortening.proofs.Fronts.{fronted-length, fronted-first, fronted-bytes}

@@ -4,29 +4,29 @@ use mathlib.Core.Path.{_≡_, refl, sym, ap, subst, _∙_}
 use mathlib.Core.List.{List, [], map}
 use mathlib.Core.Option.{Option}
 use lib.ListN.{length}
-use Rattle.format.specs.Record.{recordsOf}
-use Rattle.store.specs.Store.{Bytes}
+use Rattle.records.specs.Record.{recordsOf}
+use Rattle.put_record.specs.Store.{Bytes}
 use Rattle.layout.specs.declared.Layout.{Layout}
 use Rattle.procedure.specs.Procedure.{Procedure, firstOf}
 use Rattle.steps.specs.Run.{Shortened, unchanged, run}
 use Rattle.steps.specs.Shorten.{Outcome, shortened}
-use Rattle.opened.specs.Opened.{Parts, partsOf, recoded, Holds, Parted, Opened}
-use Rattle.run.specs.Ran.{Left, ranIn, Stays}
-use Rattle.run.proofs.Unchanged.{stays-run}
-use Rattle.shortening.specs.Storage.{fronted, Lent, StaysIn, leftIn, Enough, LeftOf}
+use Rattle.procedure_parts.specs.Opened.{Parts, partsOf, recoded, Holds, Parted, Opened}
+use Rattle.run.specs.Ran.{Left, ranIn, NoStep}
+use Rattle.run.proofs.Unchanged.{no-step-run}
+use Rattle.shortening.specs.Storage.{fronted, Lent, NoStepIn, leftIn, Enough, LeftOf}
 
 -- where no step does anything, the parts as they were sent are the result
-pub sent-run : (p : Procedure) (x : Parts) → Opened p x → StaysIn x → run p ≡ unchanged p
-sent-run p x o s = stays-run p x o (subst (λ (b : Option ℕ). Stays b (x .code) (x .heads)) (o .parted .body) s)
+pub sent-run : (p : Procedure) (x : Parts) → Opened p x → NoStepIn x → run p ≡ unchanged p
+sent-run p x o s = no-step-run p x o (subst (λ (b : Option ℕ). NoStep b (x .code) (x .heads)) (o .parted .body) s)
 
 module _ (b : List ℕ) (l : Layout) where
   abbrev x : Parts
   x = partsOf b l
 
   -- by the parts that were cut: no step does anything
-  pub stays-is : {code heads body : List ℕ} {pause : Option ℕ} → body ≡ x .body → pause ≡ firstOf (map (λ r. r .p1) (recordsOf body))
-      → code ≡ x .code → heads ≡ x .heads → Stays pause code heads → StaysIn x
-  stays-is y p c h s = rw (p, y, c, h) at s
+  pub no-step-is : {code heads body : List ℕ} {pause : Option ℕ} → body ≡ x .body → pause ≡ firstOf (map (λ r. r .p1) (recordsOf body))
+      → code ≡ x .code → heads ≡ x .heads → NoStep pause code heads → NoStepIn x
+  no-step-is y p c h s = rw (p, y, c, h) at s
 
   pub sent-held : {code heads : List ℕ} → code ≡ x .code → heads ≡ x .heads → (p : Procedure) → Parted p x → Holds p (recoded x code heads) []
   sent-held c h p o = rw (c, h) o

@@ -6,8 +6,8 @@ use mathlib.Core.Bool.{Bool, true, false}
 use mathlib.Core.List.{List, _++_, map, map-append, append-assoc}
 use lib.Dec.{ltb}
 use lib.ListN.{length, length-append}
-use Rattle.format.specs.declared.Record.{Record}
-use Rattle.format.specs.Record.{recordsOf}
+use Rattle.records.specs.declared.Record.{Record}
+use Rattle.records.specs.Record.{recordsOf}
 use Rattle.ops.specs.Ops.{regTyOf}
 use Rattle.items.specs.Items.{registerRecord}
 use Rattle.procedure.specs.Procedure.{Procedure}
@@ -16,7 +16,7 @@ use Rattle.steps.specs.Write.{recordsFor, bytesOf}
 use Rattle.steps.specs.Shorten.{Outcome, fitIf, fit, shortened}
 use Rattle.layout.specs.declared.Layout.{Layout}
 use Rattle.facts.specs.Storage.{kindsOf}
-use Rattle.opened.specs.Opened.{Parts, partsOf, recoded, Holds}
+use Rattle.procedure_parts.specs.Opened.{Parts, partsOf, recoded, Holds}
 use Rattle.output.specs.Filed.{filed, counts, short, kindRecords, formRecords}
 use Rattle.shortening.specs.Storage.{Tells}
 

@@ -5,12 +5,12 @@ use mathlib.Core.Bool.{Bool}
 use mathlib.Core.List.{List, map}
 use lib.ListN.{length}
 use lib.Seq.{paste}
-use Rattle.format.specs.Record.{recordsOf}
-use Rattle.store.specs.Store.{Bytes}
+use Rattle.records.specs.Record.{recordsOf}
+use Rattle.put_record.specs.Store.{Bytes}
 use Rattle.procedure.specs.Procedure.{Procedure, firstOf}
 use Rattle.steps.specs.Run.{Shortened}
-use Rattle.opened.specs.Opened.{Parts, Opened}
-use Rattle.run.specs.Ran.{Left, ranIn, Stays}
+use Rattle.procedure_parts.specs.Opened.{Parts, Opened}
+use Rattle.run.specs.Ran.{Left, ranIn, NoStep}
 
 -- some bytes written over the first of others, as far as there is room
 abbrev pub fronted : List ℕ → List ℕ → List ℕ
@@ -33,8 +33,8 @@ abbrev pub sizeOf : Parts → ℕ
 sizeOf x = length (x .code) / 32
 
 -- no step does anything to a file
-abbrev pub StaysIn : Parts → Type 0
-StaysIn x = Stays (firstOf (map (λ r. r .p1) (recordsOf (x .body)))) (x .code) (x .heads)
+abbrev pub NoStepIn : Parts → Type 0
+NoStepIn x = NoStep (firstOf (map (λ r. r .p1) (recordsOf (x .body)))) (x .code) (x .heads)
 
 -- what `run` leaves before emit
 abbrev pub leftIn : Parts → Lent → Left

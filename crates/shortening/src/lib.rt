@@ -3,18 +3,18 @@ ghost use mathlib.Core.Path.{_≡_};
 ghost use mathlib.Core.Bool.{true, false};
 ghost use mathlib.Core.List.{map};
 ghost use lib.ListN.{length};
-ghost use Rattle.format.specs.Record.{recordsOf};
+ghost use Rattle.records.specs.Record.{recordsOf};
 ghost use Rattle.procedure.specs.Procedure.{Procedure, firstOf};
 ghost use Rattle.steps.specs.Run.{Shortened, unchanged, run as runOf};
 ghost use Rattle.steps.specs.Shorten.{shortened};
-ghost use Rattle.pausing.specs.Storage.{bodyIn};
-ghost use Rattle.opened.specs.Opened.{partsOf, recoded, Holds, Parted, Opened};
+ghost use Rattle.pause.specs.Storage.{bodyIn};
+ghost use Rattle.procedure_parts.specs.Opened.{partsOf, recoded, Holds, Parted, Opened};
 ghost use Rattle.run.specs.Ran.{left};
 ghost use Rattle.output.specs.Filed.{outcome};
-ghost use Rattle.shortening.specs.Storage.{fronted, lent, StaysIn, Tells, LeftOf, Enough, Staging};
+ghost use Rattle.shortening.specs.Storage.{fronted, lent, NoStepIn, Tells, LeftOf, Enough, Staging};
 use inst::BlockId;
 use layout::Layout;
-use pausing::Pause;
+use pause::Pause;
 use run::Ran;
 use steps::Answer;
 
@@ -37,18 +37,18 @@ pub fn pause_of(body: &[u8]) -> Pause
     if body.len() / 32 == 0 {
         return Pause::Nowhere;
     }
-    let r = format::record_at(body, 0);
+    let r = records::record_at(body, 0);
     Pause::At(BlockId(r.p1))
 }
 
 // No step does anything to a file.
-pub fn stays(b: &[u8], l: Layout) -> bool
-    ensures { λ z. ⌜ (z ≡ true → StaysIn (partsOf (now (b .entry)) l)) ⌝ }
+pub fn no_step(b: &[u8], l: Layout) -> bool
+    ensures { λ z. ⌜ (z ≡ true → NoStepIn (partsOf (now (b .entry)) l)) ⌝ }
 {
-    let pause = pause_of(classes::part(b, l.bodies, l.code));
-    run::stays(
-        classes::part(b, l.code, l.operands),
-        classes::part(b, l.blocks, l.bodies),
+    let pause = pause_of(parts::part(b, l.bodies, l.code));
+    run::no_step(
+        parts::part(b, l.code, l.operands),
+        parts::part(b, l.blocks, l.bodies),
         pause,
     )
 }
@@ -72,13 +72,13 @@ fn put(
 {
     output::put_form(
         out,
-        classes::part(b, 0, l.blocks),
+        parts::part(b, 0, l.blocks),
         kinds,
         heads,
-        classes::part(b, l.bodies, l.code),
+        parts::part(b, l.bodies, l.code),
         code,
-        classes::part(b, l.operands, l.arms),
-        classes::part(b, l.arms, l.end),
+        parts::part(b, l.operands, l.arms),
+        parts::part(b, l.arms, l.end),
         moved,
         grown,
         rescued,
@@ -93,8 +93,8 @@ pub fn put_sent(out: &mut [u8], b: &[u8], l: Layout) -> Answer
         out,
         b,
         l,
-        classes::part(b, l.code, l.operands),
-        classes::part(b, l.blocks, l.bodies),
+        parts::part(b, l.code, l.operands),
+        parts::part(b, l.blocks, l.bodies),
         &b[..0],
         false,
         0,
@@ -137,7 +137,7 @@ fn write_same(
     ensures { λ z. ⌜ ((p : Procedure) → LeftOf p (partsOf (now (b .entry)) l) (left (now (work .entry)) (now (table .entry)) (now (kinds .entry)) (now (facts .entry)) r)
         → r .at .edited ≡ false → outcome z (now (out .exit)) ≡ shortened (runOf p) (now (out .entry))) ⌝ }
 {
-    let n = classes::part(b, l.code, l.operands).len() / 32;
+    let n = parts::part(b, l.code, l.operands).len() / 32;
     let m = blocks::least(n, work.len() / 32);
     finish(
         out,
@@ -170,8 +170,8 @@ fn write_emitted(
         → Staging (partsOf (now (b .entry)) l) (length (now (code .entry))) (length (now (heads .entry)))
         → r .at .edited ≡ true → outcome z (now (out .exit)) ≡ shortened (runOf p) (now (out .entry))) ⌝ }
 {
-    let arms = classes::part(b, l.arms, l.end);
-    let e = staged::emit_into(code, heads, work, table, arms, facts);
+    let arms = parts::part(b, l.arms, l.end);
+    let e = emit::emit(code, heads, work, table, arms, facts);
     let n = e.n;
     let at = r.at;
     let m = blocks::least(at.fresh, kinds.len());
@@ -238,12 +238,12 @@ pub fn shorten_in(
         → Staging (partsOf (now (b .entry)) l) (length (now (staged .entry))) (length (now (heads .entry)))
         → outcome z (now (out .exit)) ≡ shortened (runOf p) (now (out .entry))) ⌝ }
 {
-    let code = classes::part(b, l.code, l.operands);
+    let code = parts::part(b, l.code, l.operands);
     put_front(work, code);
-    put_front(table, classes::part(b, l.blocks, l.bodies));
-    let pause = pause_of(classes::part(b, l.bodies, l.code));
-    let registers = classes::part(b, 0, l.blocks);
-    let operands = classes::part(b, l.operands, l.arms);
+    put_front(table, parts::part(b, l.blocks, l.bodies));
+    let pause = pause_of(parts::part(b, l.bodies, l.code));
+    let registers = parts::part(b, 0, l.blocks);
+    let operands = parts::part(b, l.operands, l.arms);
     let n = code.len() / 32;
     let r = run::run(
         work,

@@ -12,7 +12,7 @@ use lib.ListN.{length, getD, take, drop, length-append, drop-of-length-le}
 use lib.Seq.{drop-cons, length-take-le, take-take, take-append-seam}
 use Rattle.general.proofs.Booleans.{both, neither, either, otherwise}
 use Rattle.general.proofs.Numbers.{order}
-use Rattle.format.specs.declared.Record.{Record}
+use Rattle.records.specs.declared.Record.{Record}
 use Rattle.inst.specs.declared.Code.{Code}
 use Rattle.procedure.specs.Lists.{anyOf}
 use Rattle.steps.specs.Small.{dupable, smallEnd, copyable, small}
@@ -49,7 +49,7 @@ copyable-cons x (y ∷ c) h = refl
 module _ (c : List Code) (k : ℕ) where
   split : k + 1 < length c → copyable (drop k c) ≡ (dupable (codeAt c k .inst) && copyable (drop (k + 1) c))
   split h =
-      ap copyable (drop-cons c k (Rattle.codec.specs.Codec.codeOf Rattle.format.specs.Record.blank) (omega arith))
+      ap copyable (drop-cons c k (Rattle.codec.specs.Codec.codeOf Rattle.records.specs.Record.blank) (omega arith))
       ∙ copyable-cons (codeAt c k) (drop (suc k) c) (let e = lib.ListN.length-drop (suc k) c in omega arith)
       ∙ ap (λ (n : ℕ). dupable (codeAt c k .inst) && copyable (drop n c)) (sym (add-one k))
 
@@ -63,7 +63,7 @@ module _ (c : List Code) (k : ℕ) where
   unfolding copyable
   copyable-last h =
       sym
-      (ap copyable (drop-cons c k (Rattle.codec.specs.Codec.codeOf Rattle.format.specs.Record.blank) (omega arith))
+      (ap copyable (drop-cons c k (Rattle.codec.specs.Codec.codeOf Rattle.records.specs.Record.blank) (omega arith))
       ∙ ap (λ (r : List Code). copyable (codeAt c k ∷ r)) (drop-of-length-le c {i = suc k} (omega arith)))
 
 pub copyable-none : (c : List Code) → length c ≡ 0 → copyable c ≡ false

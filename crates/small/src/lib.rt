@@ -9,10 +9,10 @@ ghost use Rattle.procedure.specs.Procedure.{codesOf};
 ghost use Rattle.procedure.specs.Lists.{anyOf};
 ghost use Rattle.steps.specs.Small as steps;
 use ends::End;
-use format::Record;
 use inst::BlockId;
 use inst::IntOp;
 use inst::kinds;
+use records::Record;
 
 // Cheap instructions without effects: what a copied block may hold besides its end. By the record's kind.
 pub fn dupable(r: Record) -> bool
@@ -51,12 +51,12 @@ pub fn small(code: &[u8]) -> bool
     }
     let mut k = 0;
     while k + 1 < n {
-        if !dupable(format::record_at(code, k)) {
+        if !dupable(records::record_at(code, k)) {
             return false;
         }
         k += 1;
     }
-    small_end(format::record_at(code, k))
+    small_end(records::record_at(code, k))
 }
 
 fn add_or_sub(op: IntOp) -> bool
@@ -91,7 +91,7 @@ fn any_step(wide: bool, code: &[u8]) -> bool
     let n = code.len() / 32;
     let mut k = 0;
     while k < n {
-        if step_by(wide, format::record_at(code, k)) {
+        if step_by(wide, records::record_at(code, k)) {
             return true;
         }
         k += 1;

@@ -3,11 +3,11 @@ use Prim.Native.Nat.{ℕ, _*_, _-_}
 use mathlib.Core.Path.{_≡_, refl}
 use mathlib.Core.List.{List, [], _∷_, _++_, map}
 use lib.ListN.{length, replicate}
-use Rattle.format.specs.declared.Record.{Record}
-use Rattle.format.specs.Record.{recordsOf, firstRecords}
-use Rattle.format.specs.Kinds.{right}
-use Rattle.store.specs.Store.{wordBytes, tagBytes}
-use Rattle.shape.specs.Exist.{namesExist}
+use Rattle.records.specs.declared.Record.{Record}
+use Rattle.records.specs.Record.{recordsOf, firstRecords}
+use Rattle.records.specs.Kinds.{right}
+use Rattle.put_record.specs.Store.{wordBytes, tagBytes}
+use Rattle.record_rules.specs.Exist.{namesExist}
 use Rattle.layout.specs.Walk.{walk as passed}
 use Rattle.layout.specs.Classes.{ofClass, before}
 use Rattle.read.specs.Structure.{tiles, numbers, tables}

@@ -4,8 +4,8 @@ use mathlib.Core.List.{List, [], _∷_, _++_, map}
 use mathlib.Core.Option.{Option, none, some}
 use mathlib.Core.Bool.{true, false}
 use lib.ListN.{length}
-use Rattle.format.specs.declared.Record.{Record}
-use Rattle.store.specs.Store.{recordBytes}
+use Rattle.records.specs.declared.Record.{Record}
+use Rattle.put_record.specs.Store.{recordBytes}
 use Rattle.inst.specs.declared.Code.{Code}
 use Rattle.ops.specs.Ops.{regTyOf}
 use Rattle.codec.specs.Codec.{recordOf, regOf, blockOf}

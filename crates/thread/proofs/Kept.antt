@@ -9,7 +9,7 @@ use mathlib.Core.Option.{Option}
 use lib.Dec.{leb}
 use lib.ListN.{length, getD, take, drop, List·getD-eq-default}
 use Rattle.general.proofs.Numbers.{order}
-use Rattle.format.specs.Record.{recordsOf, recordAt}
+use Rattle.records.specs.Record.{recordsOf, recordAt}
 use Rattle.inst.specs.declared.Code.{Code}
 use Rattle.codec.specs.Codec.{codeOf, InRange}
 use Rattle.ends.specs.declared.End.{End}
@@ -18,19 +18,19 @@ use Rattle.ends.specs.Ends.{codeAt, endOf}
 use Rattle.blocks.specs.Blocks.{blocksOf, Canonical}
 use Rattle.blocks.proofs.Bytes.{block-range}
 use Rattle.blocks.proofs.Parts.{length-blocks, codes-at, records-at}
-use Rattle.arms.proofs.Reach.{Named, end-named}
+use Rattle.equal_arms.proofs.Reach.{Named, end-named}
 use Rattle.steps.specs.Facts.{Facts}
 use Rattle.steps.specs.Thread.{Work, Hop, stay, last, next, blockAt, stops, hop, onward}
 use Rattle.steps.proofs.Edits.{Edits, nil, then, HopOk, hop-ok}
 use Rattle.facts.specs.Storage.{factsIn}
-use Rattle.branch.specs.declared.Turn.{Turn}
-use Rattle.branch.specs.declared.Turn.the-variants as u
-use Rattle.branch.specs.Storage.{turned, before, turnedIn}
-use Rattle.branch.proofs.Laws.{turned-canonical, turned-length, turned-bytes}
+use Rattle.hop_cond_br.specs.declared.Turn.{Turn}
+use Rattle.hop_cond_br.specs.declared.Turn.the-variants as u
+use Rattle.hop_cond_br.specs.Storage.{turned, before, turnedIn}
+use Rattle.hop_cond_br.proofs.Laws.{turned-canonical, turned-length, turned-bytes}
 use Rattle.arena.specs.Arena.{arena}
 use Rattle.arena.proofs.Moved.{Sound}
-use Rattle.join.specs.Storage.{replaced}
-use Rattle.join.proofs.Blocks.{replaced-canonical}
+use Rattle.hop_br.specs.Storage.{replaced}
+use Rattle.hop_br.proofs.Blocks.{replaced-canonical}
 use Rattle.thread.specs.Storage.{Store, turnedAt, appendIn, hopBrIn, hopCondBrIn, hopAtIn, hopIn}
 use Rattle.thread.proofs.Refined.{workOf, arenaOf, Room, new, join-grown}
 use Rattle.thread.proofs.Same.{Fine, Tested, end-tested, hop-same}

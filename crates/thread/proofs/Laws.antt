@@ -12,7 +12,7 @@ use lib.ListN.{length, getD, length-take}
 use Rattle.inst.specs.declared.Code.{Code}
 use Rattle.inst.specs.declared.Reg.{Reg}
 use Rattle.inst.specs.declared.BlockId.{BlockId}
-use Rattle.round.proofs.Accepted.{or-first, or-second}
+use Rattle.round_trips.proofs.Accepted.{or-first, or-second}
 use Rattle.procedure.specs.Lists.{present, holds}
 use Rattle.procedure.specs.Procedure.{codesOf}
 use Rattle.ends.specs.declared.End.{End}
@@ -25,10 +25,10 @@ use Rattle.steps.specs.Facts.{Facts}
 use Rattle.steps.specs.Copy.{How, leftOut, renumbered, kept, howOf, ownUses, place, copyFrom}
 use Rattle.steps.specs.Thread.{Work, blockAt, stops}
 use Rattle.facts.specs.Storage.{factsIn}
-use Rattle.branch.specs.declared.Turn.{Turn}
-use Rattle.branch.specs.Storage.{turned, before, turnedIn}
+use Rattle.hop_cond_br.specs.declared.Turn.{Turn}
+use Rattle.hop_cond_br.specs.Storage.{turned, before, turnedIn}
 use Rattle.arena.specs.Arena.{Arena, arena}
-use Rattle.join.specs.Storage.{left, grownTo, nextIn, targetIn, joinOf}
+use Rattle.hop_br.specs.Storage.{left, grownTo, nextIn, targetIn, joinOf}
 use Rattle.thread.specs.declared.Threaded.{Threaded}
 use Rattle.thread.specs.declared.Hopped.{Hopped}
 use Rattle.thread.specs.Storage.{Store, store, Hopping, hopped, hopping, stayIn, turnAt, turnedAt, freshTo, joinedAt, appendIn}

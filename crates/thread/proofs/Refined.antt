@@ -8,7 +8,7 @@ use mathlib.Core.Option.{Option, none, some}
 use lib.Dec.{eqb, leb}
 use lib.ListN.{length, getD, take}
 use lib.Seq.{length-take-le}
-use Rattle.format.specs.Record.{recordAt}
+use Rattle.records.specs.Record.{recordAt}
 use Rattle.inst.specs.declared.Code.{Code}
 use Rattle.ends.specs.Ends.{front}
 use Rattle.blocks.specs.Blocks.{blocksOf, blockRecordsIn}
@@ -18,17 +18,17 @@ use Rattle.steps.specs.Copy.{copyOf, kindsOf}
 use Rattle.steps.specs.Note.{nothing, notes, sourceOf, valueOf}
 use Rattle.steps.specs.Thread.{Work, Hop, blockAt, nextNumber, stops, appended, appendIf, hopBr, hopCondBr, onward}
 use Rattle.facts.specs.Storage.{factsIn, kindsIn}
-use Rattle.branch.specs.declared.Turn.{Turn}
-use Rattle.branch.specs.declared.Turn.the-variants as u
-use Rattle.branch.specs.Storage.{turned, before, armIn, turnIf, decideIn, turnedIn, workIn, hopOf}
-use Rattle.branch.proofs.Laws.{turned-hop}
+use Rattle.hop_cond_br.specs.declared.Turn.{Turn}
+use Rattle.hop_cond_br.specs.declared.Turn.the-variants as u
+use Rattle.hop_cond_br.specs.Storage.{turned, before, armIn, turnIf, decideIn, turnedIn, workIn, hopOf}
+use Rattle.hop_cond_br.proofs.Laws.{turned-hop}
 use Rattle.arena.specs.Arena.{Arena, arena, room, toEnd}
 use Rattle.arena.proofs.Moved.{Sound, lastTop}
 use Rattle.arena.proofs.Grown.{Grown, frontRecords}
 use Rattle.arena.proofs.Appended.{AllInRange}
-use Rattle.join.specs.Storage.{targetIn, copyIn, givenIn, kindsPut, cut, replaced}
-use Rattle.join.proofs.Blocks.{cut-top, replaced-block}
-use Rattle.join.proofs.Hop as j
+use Rattle.hop_br.specs.Storage.{targetIn, copyIn, givenIn, kindsPut, cut, replaced}
+use Rattle.hop_br.proofs.Blocks.{cut-top, replaced-block}
+use Rattle.hop_br.proofs.Hop as j
 use Rattle.thread.specs.Storage.{Store, store, Hopping, turnedAt, freshTo, appendIn, hopBrIn, hopCondBrIn}
 
 -- what the definition sees of the storage

@@ -21,11 +21,11 @@ use Rattle.ends.specs.Ends.{codeAt, viewOf, endOf}
 use Rattle.blocks.specs.Blocks.{blocksOf}
 use Rattle.blocks.proofs.Bytes.{block-range}
 use Rattle.blocks.proofs.Parts.{length-blocks}
-use Rattle.arms.proofs.Reach.{Named, end-named}
+use Rattle.equal_arms.proofs.Reach.{Named, end-named}
 use Rattle.steps.specs.Facts.{Facts}
 use Rattle.steps.specs.Thread.{Work, blockAt, stops, hopAt, hop, hops, onward, threadFrom, thread}
 use Rattle.facts.specs.Storage.{factsIn}
-use Rattle.branch.specs.Storage.{before}
+use Rattle.hop_cond_br.specs.Storage.{before}
 use Rattle.arena.proofs.Moved.{Sound}
 use Rattle.thread.specs.Storage.{Store, store, hopAtIn, hopIn, onwardIn, hopsIn, nameable, threadFromIn, threadIn}
 use Rattle.thread.proofs.Refined.{workOf, goes, arenaOf, Room, cond-br-hop, br-hop}

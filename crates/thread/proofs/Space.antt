@@ -12,9 +12,9 @@ use lib.ListN.{length, getD, take, drop, length-take, length-drop, length-map, L
 use lib.Seq.{length-take-le}
 use Rattle.general.proofs.Booleans.{and-first}
 use Rattle.general.proofs.Numbers.{order}
-use Rattle.format.specs.Record.{recordsOf, recordAt}
-use Rattle.format.proofs.Laws.{length-records}
-use Rattle.shape.specs.declared.exist.Counts.{Counts}
+use Rattle.records.specs.Record.{recordsOf, recordAt}
+use Rattle.records.proofs.Laws.{length-records}
+use Rattle.record_rules.specs.declared.exist.Counts.{Counts}
 use Rattle.inst.specs.declared.Code.{Code}
 use Rattle.codec.specs.Codec.{codeOf}
 use Rattle.procedure.specs.Lists.{present, holds}
@@ -29,18 +29,18 @@ use Rattle.steps.specs.Gate.{copied}
 use Rattle.steps.specs.Copy.{copyOf, kindsOf, ownUses}
 use Rattle.steps.specs.Thread.{Work, blockAt, nextNumber, stops}
 use Rattle.facts.specs.Storage.{factsIn, kindsIn}
-use Rattle.branch.specs.Storage.{before}
+use Rattle.hop_cond_br.specs.Storage.{before}
 use Rattle.arena.specs.Arena.{sizeOf}
 use Rattle.arena.proofs.Moved.{Sound, lastTop}
 use Rattle.arena.proofs.Appended.{AllInRange}
-use Rattle.join.specs.Storage.{targetIn, copyIn, givenIn}
-use Rattle.join.proofs.Hop as j
-use Rattle.round.specs.WellFormed as wf
-use Rattle.round.proofs.Lists.{all-at}
-use Rattle.round.proofs.Accepted.{or-second}
-use Rattle.sized.proofs.Names.{withRegs}
-use Rattle.sized.proofs.Threads.{Inv, countsAt}
-use Rattle.sized.proofs.Copies.{copied-in, kinds-few}
+use Rattle.hop_br.specs.Storage.{targetIn, copyIn, givenIn}
+use Rattle.hop_br.proofs.Hop as j
+use Rattle.round_trips.specs.WellFormed as wf
+use Rattle.round_trips.proofs.Lists.{all-at}
+use Rattle.round_trips.proofs.Accepted.{or-second}
+use Rattle.step_laws.proofs.Names.{withRegs}
+use Rattle.step_laws.proofs.Threads.{Inv, countsAt}
+use Rattle.step_laws.proofs.Copies.{copied-in, kinds-few}
 use Rattle.thread.specs.Storage.{Store}
 use Rattle.thread.proofs.Laws.{copy-short, grown-le}
 use Rattle.thread.proofs.Refined.{workOf, arenaOf, Room}

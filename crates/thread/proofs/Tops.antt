@@ -5,8 +5,8 @@ use mathlib.Core.Path.{_≡_, refl, sym, subst, _∙_}
 use mathlib.Core.Bool.{Bool, true, false}
 use mathlib.Core.List.{List, [], _∷_}
 use lib.ListN.{length, set, length-set}
-use Rattle.format.specs.Record.{recordAt}
-use Rattle.store.proofs.Laws.{put-length}
+use Rattle.records.specs.Record.{recordAt}
+use Rattle.put_record.proofs.Laws.{put-length}
 use Rattle.inst.specs.declared.Code.{Code}
 use Rattle.codec.specs.Codec.{recordOf}
 use Rattle.items.specs.Items.{blockRecord}
@@ -14,7 +14,7 @@ use Rattle.arena.specs.Arena.{Arena, arena, Topped, topped, sizeOf, moves, toEn
 use Rattle.arena.proofs.Laws.{moving, by-moves, by-popped, by-grows}
 use Rattle.arena.proofs.Moved.{copied-length}
 use Rattle.arena.proofs.Pointed.{pointed-other}
-use Rattle.join.specs.Storage.{kindsPut, cut, replaced}
+use Rattle.hop_br.specs.Storage.{kindsPut, cut, replaced}
 
 -- as long as before, with all blocks but block a where they were, and the top at n or below
 pub record Far (a n : ℕ) (s t : Arena) : Type 0 where

@@ -13,10 +13,10 @@ use Rattle.ends.specs.Ends.{endOf}
 use Rattle.blocks.specs.Blocks.{blocksOf}
 use Rattle.steps.specs.Thread.{stops}
 use Rattle.facts.specs.Storage.{factsIn}
-use Rattle.branch.specs.declared.Turn.{Turn}
-use Rattle.branch.specs.declared.Turn.the-variants as u
-use Rattle.branch.specs.Storage.{turned, before, turnedIn}
-use Rattle.join.specs.Storage.{grownTo}
+use Rattle.hop_cond_br.specs.declared.Turn.{Turn}
+use Rattle.hop_cond_br.specs.declared.Turn.the-variants as u
+use Rattle.hop_cond_br.specs.Storage.{turned, before, turnedIn}
+use Rattle.hop_br.specs.Storage.{grownTo}
 use Rattle.thread.specs.Storage.{Store, store, turnedAt, appendIn, hopBrIn, hopCondBrIn, hopAtIn, hopIn, onwardIn, hopsIn, nameable, threadFromIn, threadIn}
 use Rattle.thread.proofs.Refined.{isStay, stay-turned}
 

@@ -11,8 +11,8 @@ use lib.Dec.{leb}
 use lib.ListN.{length, length-append, length-take, List·getD-eq-default}
 use lib.Seq.{length-take-le}
 use Rattle.general.proofs.Numbers.{order}
-use Rattle.format.specs.Record.{recordAt}
-use Rattle.shape.specs.declared.exist.Counts.{Counts}
+use Rattle.records.specs.Record.{recordAt}
+use Rattle.record_rules.specs.declared.exist.Counts.{Counts}
 use Rattle.inst.specs.declared.Code.{Code}
 use Rattle.codec.specs.Codec.{InRange}
 use Rattle.ends.specs.declared.End.{End}
@@ -22,19 +22,19 @@ use Rattle.blocks.specs.Blocks.{blocksOf}
 use Rattle.blocks.proofs.Parts.{length-blocks}
 use Rattle.blocks.proofs.Rewrites.{front-take}
 use Rattle.blocks.proofs.Bytes.{block-range}
-use Rattle.arms.proofs.Reach.{Named, end-named}
+use Rattle.equal_arms.proofs.Reach.{Named, end-named}
 use Rattle.steps.specs.Thread.{Work, blockAt, stops, unthreaded, thread}
 use Rattle.steps.proofs.Edits.{Edits, nil, edits-join}
 use Rattle.facts.specs.Storage.{factsIn, kindsIn}
-use Rattle.branch.specs.declared.Turn.{Turn}
-use Rattle.branch.specs.declared.Turn.the-variants as u
-use Rattle.branch.specs.Storage.{turned, before, turnedIn}
-use Rattle.branch.proofs.Laws.{turned-length}
+use Rattle.hop_cond_br.specs.declared.Turn.{Turn}
+use Rattle.hop_cond_br.specs.declared.Turn.the-variants as u
+use Rattle.hop_cond_br.specs.Storage.{turned, before, turnedIn}
+use Rattle.hop_cond_br.proofs.Laws.{turned-length}
 use Rattle.arena.specs.Arena.{sizeOf, isLast}
 use Rattle.arena.proofs.Moved.{lastTop, last-top-le}
 use Rattle.arena.proofs.Grown.{grown-block}
-use Rattle.join.specs.Storage.{replaced, givenIn, targetIn}
-use Rattle.sized.proofs.Threads.{Inv}
+use Rattle.hop_br.specs.Storage.{replaced, givenIn, targetIn}
+use Rattle.step_laws.proofs.Threads.{Inv}
 use Rattle.thread.specs.Storage.{Store, store, turnedAt, appendIn, hopBrIn, hopCondBrIn, hopAtIn, hopIn, threadIn}
 use Rattle.thread.proofs.Laws.{join-few}
 use Rattle.thread.proofs.Refined.{workOf, arenaOf, Room, new, join-grown, join-cut}

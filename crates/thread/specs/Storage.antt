@@ -11,11 +11,11 @@ use Rattle.ends.specs.Ends.{endOf}
 use Rattle.blocks.specs.Blocks.{blocksOf}
 use Rattle.steps.specs.Thread.{stops}
 use Rattle.facts.specs.Storage.{factsIn}
-use Rattle.branch.specs.declared.Turn.{Turn}
-use Rattle.branch.specs.declared.Turn.the-variants as u
-use Rattle.branch.specs.Storage.{Turned, before, turnedIn}
+use Rattle.hop_cond_br.specs.declared.Turn.{Turn}
+use Rattle.hop_cond_br.specs.declared.Turn.the-variants as u
+use Rattle.hop_cond_br.specs.Storage.{Turned, before, turnedIn}
 use Rattle.arena.specs.Arena.{arena}
-use Rattle.join.specs.Storage.{Left, grownTo, joinOf}
+use Rattle.hop_br.specs.Storage.{Left, grownTo, joinOf}
 use Rattle.thread.specs.declared.Threaded.{Threaded}
 use Rattle.thread.specs.declared.Hopped.{Hopped}
 

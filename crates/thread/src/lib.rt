@@ -3,13 +3,13 @@ ghost use mathlib.Core.Path.{_≡_};
 ghost use mathlib.Core.List.{List};
 ghost use Prim.Native.Nat.{ℕ};
 ghost use lib.ListN.{length};
-ghost use Rattle.pausing.specs.Storage.{bodyIn};
+ghost use Rattle.pause.specs.Storage.{bodyIn};
 ghost use Rattle.thread.specs.Storage.{store, hopping, editedAt, turnAt, freshTo, hopBrIn, hopCondBrIn, hopsIn, threadIn};
-use branch::Turn;
 use ends::End;
+use hop_cond_br::Turn;
 use inst::BlockId;
 use inst::Reg;
-use pausing::Pause;
+use pause::Pause;
 
 // How far threading is: the arena's top, how many instructions and new registers came, and if some block was edited.
 pub struct Threaded {
@@ -70,7 +70,7 @@ fn hop_cond_br(
         ≡ hopCondBrIn (now (facts .entry)) (bodyIn pause) budget (length (now (known .entry))) (length (now (copy .entry)))
         (store (now (work .entry)) (now (table .entry)) kinds s) (a .0) (c .0) (t .0) (e .0)) ⌝ }
 {
-    let n = branch::hop_cond_br(work, table, known, copy, facts, pause, a, c, t, e);
+    let n = hop_cond_br::hop_cond_br(work, table, known, copy, facts, pause, a, c, t, e);
     turned(n, s)
 }
 
@@ -98,10 +98,10 @@ fn hop_br(
         ≡ hopBrIn (now (facts .entry)) (bodyIn pause) budget known copy
         (store (now (work .entry)) (now (table .entry)) (now (kinds .entry)) s) (a .0) (l .0)) ⌝ }
 {
-    if join::stops(work, table, facts, pause, budget, s.grown, a, l) {
+    if hop_br::stops(work, table, facts, pause, budget, s.grown, a, l) {
         return Hopped { at: s, more: false };
     }
-    let z = join::join(work, table, kinds, facts, a, l, s.top, s.fresh);
+    let z = hop_br::join(work, table, kinds, facts, a, l, s.top, s.fresh);
     Hopped {
         at: Threaded {
             top: z.top,

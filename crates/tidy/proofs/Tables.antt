@@ -9,8 +9,8 @@ use borrow.Author.Tests.{eq-eqb, ne-eqb}
 use lib.Dec.{eqb}
 use lib.ListN.{length, getD, set, drop, length-set, length-map, List·getD-map, drop-of-length-le}
 use lib.Seq.{drop-cons, set-out}
-use Rattle.format.specs.declared.Record.{Record}
-use Rattle.format.specs.Record.{blank}
+use Rattle.records.specs.declared.Record.{Record}
+use Rattle.records.specs.Record.{blank}
 use Rattle.layout.specs.declared.Layout.{Layout}
 use Rattle.read.specs.Work.{part}
 use Rattle.read.proofs.Laws.{part-length, part-at, code-part}

@@ -8,8 +8,8 @@ use mathlib.Core.List.{List, [], _∷_, _++_, map}
 use borrow.Author.Tests.{lt-ltb, le-ltb}
 use lib.ListN.{length, getD, take, drop, length-append, length-take, length-drop, length-map, drop-of-length-le, List·getD-append, List·getD-map}
 use lib.Seq.{drop-cons, getD-take, getD-drop, getD-append-add, length-take-le}
-use Rattle.format.specs.declared.Record.{Record}
-use Rattle.format.specs.Record.{blank}
+use Rattle.records.specs.declared.Record.{Record}
+use Rattle.records.specs.Record.{blank}
 use Rattle.layout.specs.declared.Layout.{Layout}
 use Rattle.read.specs.Work.{part}
 use Rattle.read.proofs.Laws.{part-length, part-at}

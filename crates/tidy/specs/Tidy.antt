@@ -5,7 +5,7 @@ use mathlib.Core.List.{List, [], _∷_, _++_, map}
 use mathlib.Core.Bool.{Bool, false, _&&_, not, cond}
 use lib.Dec.{eqb, ltb, leb}
 use lib.ListN.{length, getD}
-use Rattle.format.specs.Record.{recordsOf}
+use Rattle.records.specs.Record.{recordsOf}
 use Rattle.read.specs.Reading.{reading}
 use Rattle.inst.specs.Inst.{kindOf}
 use Rattle.inst.specs.declared.Code.{Code}

@@ -1,6 +1,6 @@
 // Document 01's Tidy: whether a file is tidy, or its lowest offending register.
 ghost use mathlib.Core.Path.{_≡_};
-ghost use Rattle.format.specs.Record.{recordsOf};
+ghost use Rattle.records.specs.Record.{recordsOf};
 ghost use Rattle.read.specs.Work.{LaidOut};
 ghost use Rattle.procedure.specs.Procedure.{procedureOf};
 ghost use Rattle.tidy.specs.Tidy.{offenders, verdict, tidiness};
@@ -50,6 +50,6 @@ pub fn tidy(b: &[u8]) -> Tidiness
             reg: 0,
         };
     }
-    let l = classes::starts(b);
+    let l = parts::starts(b);
     judge(b, l)
 }

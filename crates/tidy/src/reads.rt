@@ -1,7 +1,7 @@
 ghost use mathlib.Core.Path.{_≡_};
 ghost use Prim.Native.Nat.{_+_, _-_, _≤_, _<_};
 ghost use lib.ListN.{length, getD};
-ghost use Rattle.format.specs.Record.{recordsOf};
+ghost use Rattle.records.specs.Record.{recordsOf};
 ghost use Rattle.tidy.specs.Tidy.{told};
 ghost use Rattle.tidy.specs.Work.Parts.{operandsIn, Fit};
 ghost use Rattle.tidy.specs.Work.Marks.{edgesIn, Kept};
@@ -117,7 +117,7 @@ fn read_reg(b: &[u8], l: Layout, roles: Roles, j: usize) -> Reg
     }
     let list = roles.list;
     let start = list.start as usize;
-    let r = format::record_at(b, l.operands + start + (j - fields));
+    let r = records::record_at(b, l.operands + start + (j - fields));
     Reg(r.p1)
 }
 
@@ -209,7 +209,7 @@ pub fn read_blocks(b: &[u8], l: Layout, ws: &[u32], targets: &[u32; 320], s: Tid
     let mut t = s;
     let mut k = 0;
     while k < count {
-        let r = format::record_at(b, l.blocks + k);
+        let r = records::record_at(b, l.blocks + k);
         let start = r.p1 as usize;
         let len = r.p2 as usize - start;
         t = read_block(b, l, ws, targets, l.code + start, len, BlockId(k as u32), t);

@@ -1,6 +1,6 @@
 ghost use mathlib.Core.Path.{_≡_};
 ghost use lib.ListN.{replicate};
-ghost use Rattle.format.specs.Record.{recordsOf};
+ghost use Rattle.records.specs.Record.{recordsOf};
 ghost use Rattle.ends.specs.Ends.{targets as targetsIn};
 ghost use Rattle.tidy.specs.Work.Parts.{Fit};
 ghost use Rattle.tidy.specs.Work.Marks.{Pair, TargetsIn};
@@ -40,7 +40,7 @@ pub fn note_targets(b: &[u8], l: Layout, targets: &mut [u32; 320])
     let count = l.bodies - l.blocks;
     let mut k = 0;
     while k < count {
-        let r = format::record_at(b, l.blocks + k);
+        let r = records::record_at(b, l.blocks + k);
         let last = ends::inst_at(b, l.code + r.p2 as usize - 1);
         let t = targets_of(ends::view_of(last));
         targets[2 * k] = t.one.0;

@@ -2,7 +2,7 @@ ghost use mathlib.Core.Path.{_≡_};
 ghost use mathlib.Core.List.{map};
 ghost use Prim.Native.Nat.{_+_, _≤_, _<_};
 ghost use lib.ListN.{length, take};
-ghost use Rattle.format.specs.Record.{recordsOf};
+ghost use Rattle.records.specs.Record.{recordsOf};
 ghost use Rattle.read.specs.Work.{part};
 ghost use Rattle.codec.specs.Codec.{codeOf};
 ghost use Rattle.roles.specs.Roles.{numbersOf};
@@ -71,7 +71,7 @@ pub fn note_blocks(b: &[u8], l: Layout, ws: &mut [u32])
     let count = l.bodies - l.blocks;
     let mut k = 0;
     while k < count {
-        let r = format::record_at(b, l.blocks + k);
+        let r = records::record_at(b, l.blocks + k);
         let start = r.p1 as usize;
         note_block(
             b,

@@ -1,6 +1,6 @@
 use mathlib.Core.Path.{ap, _∙_}
 use denote.Ref.{now}
-use Rattle.store.specs.Store.{putOf}
+use Rattle.put_record.specs.Store.{putOf}
 use borrow.Author.Needs.{needs}
 use Rattle.arena.proofs.point.Statement.{statement}
 use Rattle.arena.proofs.point.Tie as tie

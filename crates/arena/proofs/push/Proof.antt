@@ -4,7 +4,7 @@ use mathlib.Core.List.{List}
 use borrow.Author.Tests.{not-true, not-false}
 use native.Mathlib.Omega.{arith}
 use denote.Ref.{now}
-use Rattle.store.specs.Store.{putOf}
+use Rattle.put_record.specs.Store.{putOf}
 use Rattle.codec.specs.Codec.{recordOf}
 use Rattle.arena.specs.Arena.{arena}
 use Rattle.arena.proofs.Laws.{growing, by-grows}

@@ -3,7 +3,7 @@ use mathlib.Core.Path.{_≡_, ap, subst, _∙_}
 use native.Mathlib.Omega.{arith}
 use denote.Ref.{now}
 use lib.ListN.{length}
-use Rattle.format.specs.Record.{recordAt}
+use Rattle.records.specs.Record.{recordAt}
 use Rattle.blocks.proofs.Ends.{ends-nowhere, ends-there}
 use borrow.Author.Needs.{needs}
 use Rattle.blocks.proofs.end_by.Statement.{statement}

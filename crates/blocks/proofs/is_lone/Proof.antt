@@ -3,7 +3,7 @@ use mathlib.Core.Path.{_≡_, ap, _∙_}
 use denote.Ref.{now}
 use lib.Dec.{eqb}
 use lib.ListN.{length}
-use Rattle.format.specs.declared.Record.{Record}
+use Rattle.records.specs.declared.Record.{Record}
 use Rattle.blocks.proofs.Parts.{end-within}
 use Rattle.blocks.proofs.Ends.{lone-size}
 use borrow.Author.Needs.{needs}

@@ -1,6 +1,6 @@
 use mathlib.Core.Path.{ap, _∙_}
 use denote.Ref.{now}
-use Rattle.format.specs.declared.Record.{Record}
+use Rattle.records.specs.declared.Record.{Record}
 use Rattle.inst.specs.declared.Inst.the-variants as i
 use Rattle.blocks.specs.Rewrite.{endRewritten}
 use borrow.Author.Needs.{needs}

@@ -1,9 +1,9 @@
 use Prim.Native.Nat.{_-_}
 use mathlib.Core.Path.{ap, _∙_}
 use denote.Ref.{now}
-use Rattle.format.specs.declared.Record.{Record}
+use Rattle.records.specs.declared.Record.{Record}
 use Rattle.inst.specs.declared.Inst.the-variants as i
-use Rattle.store.specs.Store.{putOf}
+use Rattle.put_record.specs.Store.{putOf}
 use Rattle.codec.specs.Codec.{rewrittenRecord}
 use Rattle.blocks.proofs.Rewrites.{end-rewritten, end-kept}
 use borrow.Author.Needs.{needs}

@@ -1,8 +1,8 @@
 use Prim.Native.Nat.{_-_}
 use mathlib.Core.Path.{ap, _∙_}
 use denote.Ref.{now}
-use Rattle.format.specs.declared.Record.{Record}
-use Rattle.store.specs.Store.{putOf}
+use Rattle.records.specs.declared.Record.{Record}
+use Rattle.put_record.specs.Store.{putOf}
 use Rattle.codec.specs.Codec.{rewrittenRecord}
 use Rattle.blocks.specs.Rewrite.{endRewritten}
 use Rattle.blocks.proofs.Rewrites.{end-rewritten, end-kept}

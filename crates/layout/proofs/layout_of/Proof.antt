@@ -1,7 +1,7 @@
 use mathlib.Core.Path.{_≡_, refl, sym, _∙_}
 use denote.Ref.{now}
-use Rattle.format.specs.Record.{recordsOf}
-use Rattle.format.proofs.Laws.{length-records}
+use Rattle.records.specs.Record.{recordsOf}
+use Rattle.records.proofs.Laws.{length-records}
 use Rattle.layout.proofs.Order.{endOf, endOf-le}
 use Rattle.layout.proofs.Laid.{span-next, laid-out, not-laid}
 use borrow.Author.Needs.{needs}

@@ -6,8 +6,8 @@ use borrow.Author.Needs.{needs}
 use denote.Ref.{now}
 use lib.ListN.{length, drop}
 use Rattle.general.proofs.Booleans.{told}
-use Rattle.format.specs.Record.{recordsOf, blank}
-use Rattle.format.proofs.Laws.{length-records}
+use Rattle.records.specs.Record.{recordsOf, blank}
+use Rattle.records.proofs.Laws.{length-records}
 use Rattle.layout.specs.Walk.{lead}
 use Rattle.layout.specs.Work.{rightOf}
 use Rattle.layout.proofs.Walks.{lead-pass, lead-stop, lead-end}

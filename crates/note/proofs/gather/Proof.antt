@@ -4,14 +4,14 @@ use Prim.Native.Nat.{_-_, _/_, _≤_, _<_}
 use mathlib.Core.Path.{_≡_, refl, ap, _∙_}
 use mathlib.Core.Option.{none}
 use lib.ListN.{length, drop}
-use Rattle.format.specs.Record.{blank}
+use Rattle.records.specs.Record.{blank}
 use Rattle.codec.specs.Codec.{codeOf}
 use Rattle.procedure.specs.Procedure.{codesOf}
 use Rattle.ends.proofs.Laws.{length-codes, inst-there}
 use Rattle.steps.specs.Note.{note, notes, nothing}
 use Rattle.facts.specs.Storage.{factsIn}
-use Rattle.entries.specs.Storage.{heldIn}
-use Rattle.entries.proofs.Laws.{held-eq, entries-zero}
+use Rattle.note_entries.specs.Storage.{heldIn}
+use Rattle.note_entries.proofs.Laws.{held-eq, entries-zero}
 use Rattle.note.proofs.Gathered.{notes-again, notes-done}
 use borrow.Author.Needs.{needs}
 use Rattle.note.proofs.gather.Statement.{statement}

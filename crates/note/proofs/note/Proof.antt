@@ -10,8 +10,8 @@ use Rattle.roles.specs.Roles.{optional}
 use Rattle.ends.specs.Forms.{formOf}
 use Rattle.steps.specs.Note.{withValue, forget, forgetAll, learn}
 use Rattle.facts.specs.Storage.{factsIn}
-use Rattle.entries.specs.Storage.{heldIn}
-use Rattle.entries.proofs.Laws.{held-eq, entries-zero}
+use Rattle.note_entries.specs.Storage.{heldIn}
+use Rattle.note_entries.proofs.Laws.{held-eq, entries-zero}
 use Rattle.note.specs.Noted.{booled}
 use Rattle.note.proofs.ByKind.{noted-as, none-special, none-written, none-written-late, one-written, one-written-late}
 use borrow.Author.Needs.{needs}

@@ -4,8 +4,8 @@ use mathlib.Core.Path.{refl, sym, ap, _∙_}
 use mathlib.Core.Option.{none}
 use Rattle.steps.specs.Note.{boolOf, valueOf}
 use Rattle.facts.specs.Storage.{factsIn}
-use Rattle.entries.specs.Storage.{heldIn}
-use Rattle.entries.proofs.Laws.{held-eq}
+use Rattle.note_entries.specs.Storage.{heldIn}
+use Rattle.note_entries.proofs.Laws.{held-eq}
 use Rattle.note.specs.Noted.{booled}
 use Rattle.note.proofs.Learnt.{value-if}
 use borrow.Author.Needs.{needs}

@@ -4,7 +4,7 @@ use mathlib.Core.Path.{sym, ap, _∙_}
 use Rattle.inst.specs.declared.OptReg.{OptReg}
 use Rattle.roles.specs.Roles.{optional}
 use Rattle.steps.specs.Note.{forgetAll}
-use Rattle.entries.specs.Storage.{heldIn}
+use Rattle.note_entries.specs.Storage.{heldIn}
 use borrow.Author.Needs.{needs}
 use Rattle.note.proofs.note_call.Statement.{statement}
 use Rattle.note.proofs.note_call.Tie as tie

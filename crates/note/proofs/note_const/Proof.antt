@@ -1,7 +1,7 @@
 use native.Mathlib.Omega.{arith}
 use mathlib.Core.Path.{refl, ap, _∙_}
 use Rattle.steps.specs.Note.{withValue}
-use Rattle.entries.proofs.Laws.{held-eq}
+use Rattle.note_entries.proofs.Laws.{held-eq}
 use borrow.Author.Needs.{needs}
 use Rattle.note.proofs.note_const.Statement.{statement}
 use Rattle.note.proofs.note_const.Tie as tie

@@ -4,9 +4,9 @@ use mathlib.Core.Path.{_≡_, refl, sym, ap, _∙_}
 use denote.Ref.{now}
 use borrow.Author.Needs.{needs}
 use lib.ListN.{length, drop}
-use Rattle.format.specs.declared.Record.{Record}
+use Rattle.records.specs.declared.Record.{Record}
 use Rattle.items.specs.Items.{registerRecord}
-use Rattle.emit.specs.Emitted.{place, put, puts}
+use Rattle.emit_records.specs.Emitted.{place, put, puts}
 use Rattle.output.specs.Filed.{kindRecords}
 use Rattle.output.proofs.Laws.{kinds-one, kinds-end}
 use Rattle.output.proofs.put_kinds.Statement.{statement}

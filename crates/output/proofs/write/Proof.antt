@@ -1,9 +1,9 @@
 use mathlib.Core.Path.{ap, _∙_}
 use denote.Ref.{now}
 use borrow.Author.Needs.{needs}
-use Rattle.format.specs.Record.{recordsOf}
-use Rattle.emit.specs.Emitted.{puts}
-use Rattle.emit.proofs.Passes.{puts-append}
+use Rattle.records.specs.Record.{recordsOf}
+use Rattle.emit_records.specs.Emitted.{puts}
+use Rattle.emit_records.proofs.Passes.{puts-append}
 use Rattle.output.specs.Filed.{kindRecords}
 use Rattle.output.proofs.write.Statement.{statement}
 use Rattle.output.proofs.write.Tie as tie

@@ -5,8 +5,8 @@ use native.Mathlib.Omega.{arith}
 use borrow.Author.Needs.{needs}
 use denote.Ref.{now}
 use lib.ListN.{length}
-use Rattle.format.specs.Record.{recordsOf}
-use Rattle.format.proofs.Laws.{length-records}
+use Rattle.records.specs.Record.{recordsOf}
+use Rattle.records.proofs.Laws.{length-records}
 use Rattle.items.specs.Items.{armOf}
 use Rattle.reach.specs.Reached.{targetsIn}
 use Rattle.reach.specs.Search.{Search, Sized, searchOf, pushedAll}

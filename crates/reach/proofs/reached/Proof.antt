@@ -4,7 +4,7 @@ use native.Mathlib.Omega.{arith}
 use borrow.Author.Needs.{needs}
 use denote.Ref.{now}
 use lib.ListN.{getD}
-use Rattle.format.specs.Record.{recordsOf}
+use Rattle.records.specs.Record.{recordsOf}
 use Rattle.tidy.specs.Work.Marks.{unmarked}
 use Rattle.reach.specs.Reached.{leadsIn, seenIn}
 use Rattle.reach.proofs.Search.{Held, sized-clear, held-start, held-block, held-sized, held-more, held-less, held-end}

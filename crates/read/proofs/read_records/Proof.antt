@@ -3,8 +3,8 @@ use mathlib.Core.Path.{sym, _∙_}
 use native.Mathlib.Omega.{arith}
 use denote.Ref.{now}
 use lib.ListN.{length}
-use Rattle.format.specs.Record.{recordsOf}
-use Rattle.format.proofs.Laws.{length-records}
+use Rattle.records.specs.Record.{recordsOf}
+use Rattle.records.proofs.Laws.{length-records}
 use Rattle.read.specs.Reading.{readRecords}
 use Rattle.read.specs.Work.{LaidOut}
 use Rattle.read.proofs.Laid.{sizes, laid-of, end-is, beyond-is, few-arms, refuse-at, pass-on}

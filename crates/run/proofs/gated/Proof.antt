@@ -1,7 +1,7 @@
 use borrow.Author.Tests.{not-true, not-false}
 use denote.Ref.{now}
 use lib.ListN.{length}
-use Rattle.pausing.specs.Storage.{bodyIn}
+use Rattle.pause.specs.Storage.{bodyIn}
 use Rattle.run.proofs.Steps.{shut, opened}
 use borrow.Author.Needs.{needs}
 use Rattle.run.proofs.gated.Statement.{statement}

@@ -1,6 +1,6 @@
 use denote.Ref.{now}
 use lib.ListN.{length}
-use Rattle.pausing.specs.Storage.{bodyIn}
+use Rattle.pause.specs.Storage.{bodyIn}
 use Rattle.run.proofs.Steps.{few, enough}
 use borrow.Author.Needs.{needs}
 use Rattle.run.proofs.run.Statement.{statement}

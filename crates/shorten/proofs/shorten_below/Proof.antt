@@ -2,8 +2,8 @@ use Prim.Native.Nat.{ℕ, _/_, _≤_, _<_}
 use native.Mathlib.Omega.{arith}
 use mathlib.Core.Path.{subst, _∙_}
 use denote.Ref.{now}
-use Rattle.store.specs.Store.{Bytes}
-use Rattle.opened.specs.Opened.{partsOf}
+use Rattle.put_record.specs.Store.{Bytes}
+use Rattle.procedure_parts.specs.Opened.{partsOf}
 use Rattle.shorten.specs.Storage.{Done}
 use Rattle.shorten.proofs.Answers.{refused-is, many-registers, much-code, shortened-is, clauses, by-part}
 use borrow.Author.Needs.{needs}

@@ -2,7 +2,7 @@ use mathlib.Core.Path.{sym, ap, _∙_}
 use denote.Ref.{now}
 use Rattle.steps.specs.Run.{Shortened}
 use Rattle.steps.specs.Shorten.{shortened}
-use Rattle.opened.specs.Opened.{partsOf}
+use Rattle.procedure_parts.specs.Opened.{partsOf}
 use Rattle.shortening.proofs.Shortened.{sent-run}
 use Rattle.shorten.proofs.Tiers.{fitting}
 use borrow.Author.Needs.{needs}
@@ -13,10 +13,10 @@ returns : tie.Need-returns
 returns c p o =
     let q : tie.After-put-sent = search in
     let i : tie.Then1 = search in
-    let t : tie.After-stays = search in
+    let t : tie.After-no-step = search in
     let a = t .before .before .before .args in
     q .put-sent .ensures p (o .parted)
-    ∙ sym (ap (λ (z : Shortened). shortened z (now (a .out))) (sent-run p (partsOf (now (a .b)) (a .l)) o (t .stays .ensures (i .if1 .taken))))
+    ∙ sym (ap (λ (z : Shortened). shortened z (now (a .out))) (sent-run p (partsOf (now (a .b)) (a .l)) o (t .no-step .ensures (i .if1 .taken))))
 
 returns-5 : tie.Need-returns-5
 returns-5 c =

@@ -3,7 +3,7 @@ use native.Mathlib.Omega.{arith}
 use mathlib.Core.Path.{refl, _∙_}
 use denote.Ref.{now}
 use lib.ListN.{length}
-use Rattle.store.specs.Store.{Bytes}
+use Rattle.put_record.specs.Store.{Bytes}
 use Rattle.shortening.specs.Storage.{lent}
 use Rattle.shortening.proofs.Shortened.{left-of}
 use borrow.Author.Needs.{needs}

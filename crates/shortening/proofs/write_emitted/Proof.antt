@@ -6,7 +6,7 @@ use denote.Ref.{now}
 use lib.ListN.{length, length-take}
 use Rattle.procedure.specs.Lists.{joined}
 use Rattle.steps.specs.Run.{armsJoined, run}
-use Rattle.opened.specs.Opened.{partsOf}
+use Rattle.procedure_parts.specs.Opened.{partsOf}
 use Rattle.thread.specs.Storage.{store}
 use Rattle.thread.proofs.Refined.{workOf}
 use Rattle.output.proofs.Laws.{room}
@@ -21,10 +21,10 @@ joined-of f = search
 abbrev least-of : tie.Joined1 → tie.After-least
 least-of i = search
 
-abbrev emitted-of : tie.After-least → tie.After-emit-into
+abbrev emitted-of : tie.After-least → tie.After-emit
 emitted-of m = search
 
-abbrev arms-of : tie.After-emit-into → tie.After-part
+abbrev arms-of : tie.After-emit → tie.After-part
 arms-of e = search
 
 abbrev start-of : tie.After-part → tie.Start
@@ -35,15 +35,15 @@ mul-finish c =
     let m : tie.After-least = search in
     let q = emitted-of m in
     let s = start-of (arms-of q) in
-    record { fits = room (length (now (s .args .code))) _ (q .emit-into .ensures .0) (s .good .1 .1 .1 .1 .1 .1 .1 .0 .0) }
+    record { fits = room (length (now (s .args .code))) _ (q .emit .ensures .0) (s .good .1 .1 .1 .1 .1 .1 .1 .0 .0) }
 
 slice-aggregate-finish : tie.Need-slice-aggregate-finish
 slice-aggregate-finish c =
     let m : tie.After-least = search in
     let q = emitted-of m in
     let a = start-of (arms-of q) .args in
-    let e : q .emit-into .result .n ≤ length (now (a .code)) / 32 = q .emit-into .ensures .0 in
-    let k : length (q .emit-into .last .0) ≡ length (now (a .code)) = q .emit-into .kept .0 in
+    let e : q .emit .result .n ≤ length (now (a .code)) / 32 = q .emit .ensures .0 in
+    let k : length (q .emit .last .0) ≡ length (now (a .code)) = q .emit .kept .0 in
     simp length-take (omega arith)
 
 slice-aggregate-finish-2 : tie.Need-slice-aggregate-finish-2
@@ -61,7 +61,7 @@ returns c p h g on =
     let y = arms-of q in
     let a = start-of y .args in
     let x = partsOf (now (a .b)) (a .l) in
-    let w = q .emit-into .ensures .1 (armsJoined p .procedure) (workOf (store (now (a .work)) (now (a .table)) (now (a .kinds)) (a .r .at))) (p .body)
+    let w = q .emit .ensures .1 (armsJoined p .procedure) (workOf (store (now (a .work)) (now (a .table)) (now (a .kinds)) (a .r .at))) (p .body)
     (length (joined (p .blocks)) / 2 + 32) (ready p x h on (length (now (a .code))) (length (now (a .heads))) (y .part .ensures) g) in
     f .finish .ensures (run p) (emitted-held p x h on w (m .least .ensures))
     (emitted-tells p x h on w (m .least .ensures) (⊎-elim (λ w. omega arith) (λ w. omega arith) (i .if1 .came)))

@@ -5,7 +5,7 @@ use mathlib.Core.List.{List, []}
 use denote.Ref.{now}
 use lib.ListN.{length, take, length-take}
 use Rattle.steps.specs.Run.{run}
-use Rattle.opened.specs.Opened.{partsOf, recoded, Holds}
+use Rattle.procedure_parts.specs.Opened.{partsOf, recoded, Holds}
 use Rattle.shortening.proofs.Left.{same-held, same-tells}
 use borrow.Author.Needs.{needs}
 use Rattle.shortening.proofs.write_same.Statement.{statement}

@@ -5,8 +5,8 @@ use denote.Ref.{now}
 use Rattle.blocks.specs.Blocks.{blocksOf}
 use Rattle.arena.specs.Arena.{arena}
 use Rattle.facts.specs.Storage.{factsIn}
-use Rattle.join.specs.Storage.{Left, grownTo}
-use Rattle.pausing.specs.Storage.{bodyIn}
+use Rattle.hop_br.specs.Storage.{Left, grownTo}
+use Rattle.pause.specs.Storage.{bodyIn}
 use Rattle.thread.proofs.Laws.{join-few, grown-le, br-stays, br-joins}
 use borrow.Author.Needs.{needs}
 use Rattle.thread.proofs.hop_br.Statement.{statement}

@@ -1,6 +1,6 @@
 use denote.Ref.{now}
 use lib.ListN.{length}
-use Rattle.pausing.specs.Storage.{bodyIn}
+use Rattle.pause.specs.Storage.{bodyIn}
 use Rattle.thread.proofs.Laws.{cond-br-turns}
 use borrow.Author.Needs.{needs}
 use Rattle.thread.proofs.hop_cond_br.Statement.{statement}

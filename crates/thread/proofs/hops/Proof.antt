@@ -6,7 +6,7 @@ use borrow.Author.Needs.{needs}
 use borrow.Author.Tests.{not-true, not-false}
 use denote.Ref.{now}
 use lib.ListN.{length}
-use Rattle.pausing.specs.Storage.{bodyIn}
+use Rattle.pause.specs.Storage.{bodyIn}
 use Rattle.thread.specs.Storage.{store, hopsIn}
 use Rattle.thread.proofs.Laws.{hops-end, hops-stop, hops-go, hop-br, hop-cond-br, hop-case, hop-other}
 use Rattle.thread.proofs.hops.Statement.{statement}

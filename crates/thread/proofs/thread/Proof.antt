@@ -5,7 +5,7 @@ use mathlib.Core.Bool.{false}
 use borrow.Author.Needs.{needs}
 use denote.Ref.{now}
 use lib.ListN.{length}
-use Rattle.pausing.specs.Storage.{bodyIn}
+use Rattle.pause.specs.Storage.{bodyIn}
 use Rattle.thread.specs.Storage.{store, nameable, threadFromIn, threadIn}
 use Rattle.thread.proofs.Laws.{thread-start, thread-end, thread-go}
 use Rattle.thread.proofs.thread.Statement.{statement}

@@ -1,6 +1,6 @@
 use mathlib.Core.Path.{sym, ap, _∙_}
 use mathlib.Core.Bool.{true, false}
-use Rattle.branch.specs.declared.Turn.{Turn}
+use Rattle.hop_cond_br.specs.declared.Turn.{Turn}
 use Rattle.thread.specs.declared.Threaded.{Threaded}
 use Rattle.thread.specs.Storage.{hopped, turnAt}
 use borrow.Author.Needs.{needs}

@@ -1,9 +1,9 @@
 use mathlib.Core.Path.{sym, subst}
 use denote.Ref.{now}
 use borrow.Author.Needs.{needs}
-use Rattle.format.specs.Record.{recordsOf}
+use Rattle.records.specs.Record.{recordsOf}
 use Rattle.read.specs.Work.{LaidOut}
-use Rattle.classes.proofs.Laws.{starts-laid}
+use Rattle.parts.proofs.Laws.{starts-laid}
 use Rattle.tidy.proofs.Accepted.{in-order, accepted, refused-is, number-is, accepted-is}
 use Rattle.tidy.proofs.tidy.Statement.{statement}
 use Rattle.tidy.proofs.tidy.Tie as tie

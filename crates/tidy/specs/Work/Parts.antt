@@ -2,7 +2,7 @@
 use Prim.Native.Nat.{ℕ, _+_, _-_, _≤_}
 use mathlib.Core.List.{List, map}
 use lib.ListN.{length}
-use Rattle.format.specs.declared.Record.{Record}
+use Rattle.records.specs.declared.Record.{Record}
 use Rattle.layout.specs.declared.Layout.{Layout}
 use Rattle.read.specs.Structure.{codeOf as recordsOfBlock}
 use Rattle.read.specs.Work.{part, InCode}

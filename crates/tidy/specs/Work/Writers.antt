@@ -5,7 +5,7 @@ use mathlib.Core.Bool.{cond}
 use lib.Dec.{eqb}
 use lib.ListN.{getD, set}
 use Rattle.inst.specs.Inst.{kindOf}
-use Rattle.format.specs.Record.{recordAt}
+use Rattle.records.specs.Record.{recordAt}
 use Rattle.roles.specs.Roles.{defsOf}
 use Rattle.tidy.specs.Tidy.{Placed, Field, fieldsAt}
 use Rattle.tidy.specs.Work.Parts.{placedAt}

@@ -1,5 +1,5 @@
 //! The library's steps alone: `halivomue_run`, `halivomue_emit` and `halivomue_put` of the shared object that HALIVOMUE_STEPS
-//! names, made of the crate `steps_c`. What they need is opened here, outside of what is timed.
+//! names, made of the crate `bench_c`. What they need is opened here, outside of what is timed.
 
 use halivomue_reference::library::symbol;
 use halivomue_reference::record::RECORD;
@@ -92,7 +92,7 @@ impl Steps {
     pub fn from_environment() -> Option<Steps> {
         let path = std::env::var("HALIVOMUE_STEPS").ok()?;
         let found = |name| symbol(&path, name).unwrap_or_else(|why| panic!("{why}"));
-        // They have the signatures of crates/steps_c, a slice being a pointer and a length.
+        // They have the signatures of crates/bench_c, a slice being a pointer and a length.
         let run = unsafe { transmute::<*mut c_void, Run>(found(c"halivomue_run")) };
         let emit = unsafe { transmute::<*mut c_void, Emit>(found(c"halivomue_emit")) };
         let put = unsafe { transmute::<*mut c_void, Put>(found(c"halivomue_put")) };

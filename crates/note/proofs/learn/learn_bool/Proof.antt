@@ -1,7 +1,7 @@
 use denote.Ref.{now}
 use mathlib.Core.Path.{ap, _∙_}
 use mathlib.Core.List.{_++_}
-use Rattle.entries.specs.Storage.{entries}
+use Rattle.note_entries.specs.Storage.{entries}
 use Rattle.note.specs.Noted.{newEntry}
 use Rattle.note.proofs.Laws.{bool-eq}
 use borrow.Author.Needs.{needs}

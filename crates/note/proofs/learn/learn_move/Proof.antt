@@ -4,7 +4,7 @@ use mathlib.Core.Path.{ap, _∙_}
 use mathlib.Core.Option.{none}
 use mathlib.Core.List.{_++_}
 use Rattle.facts.specs.Storage.{factsIn}
-use Rattle.entries.specs.Storage.{entries, heldIn}
+use Rattle.note_entries.specs.Storage.{entries, heldIn}
 use Rattle.note.specs.Noted.{newEntry}
 use Rattle.note.proofs.Learnt.{moved-same, moved-other}
 use borrow.Author.Needs.{needs}

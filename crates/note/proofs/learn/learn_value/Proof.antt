@@ -3,8 +3,8 @@ use native.Mathlib.Omega.{arith}
 use mathlib.Core.Path.{sym, ap, _∙_}
 use mathlib.Core.List.{_++_, append-nil}
 use Rattle.facts.specs.Storage.{wordIn}
-use Rattle.entries.specs.Storage.{entries}
-use Rattle.entries.proofs.Laws.{added-in}
+use Rattle.note_entries.specs.Storage.{entries}
+use Rattle.note_entries.proofs.Laws.{added-in}
 use Rattle.note.specs.Noted.{newEntry}
 use borrow.Author.Needs.{needs}
 use Rattle.note.proofs.learn.learn_value.Statement.{statement}

@@ -3,8 +3,8 @@ use native.Mathlib.Omega.{arith}
 use mathlib.Core.Bool.{not}
 use denote.Ref.{now}
 use lib.ListN.{length}
-use Rattle.format.specs.Record.{recordsOf}
-use Rattle.format.proofs.Laws.{length-records}
+use Rattle.records.specs.Record.{recordsOf}
+use Rattle.records.proofs.Laws.{length-records}
 use Rattle.layout.specs.Walk.{lead}
 use Rattle.read.specs.Structure.{terminator}
 use Rattle.read.specs.Work.{part}

@@ -6,9 +6,9 @@ use mathlib.Core.Bool.{Bool, not}
 use borrow.Author.Needs.{needs}
 use denote.Ref.{now}
 use lib.ListN.{length, drop}
-use Rattle.format.specs.declared.Record.{Record}
-use Rattle.format.specs.Record.{recordsOf}
-use Rattle.format.proofs.Laws.{length-records}
+use Rattle.records.specs.declared.Record.{Record}
+use Rattle.records.specs.Record.{recordsOf}
+use Rattle.records.proofs.Laws.{length-records}
 use Rattle.layout.specs.Walk.{lead}
 use Rattle.read.specs.Structure.{terminator}
 use Rattle.read.specs.Work.{part}

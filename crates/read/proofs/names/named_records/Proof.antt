@@ -6,9 +6,9 @@ use borrow.Author.Tests.{not-true, not-false}
 use denote.Ref.{now}
 use lib.ListN.{length, drop}
 use Rattle.general.proofs.Booleans.{told}
-use Rattle.format.specs.Record.{recordsOf, blank}
-use Rattle.format.proofs.Laws.{length-records}
-use Rattle.shape.specs.Exist.{namesExist}
+use Rattle.records.specs.Record.{recordsOf, blank}
+use Rattle.records.proofs.Laws.{length-records}
+use Rattle.record_rules.specs.Exist.{namesExist}
 use Rattle.layout.specs.Walk.{lead}
 use Rattle.layout.proofs.Walks.{lead-pass, lead-stop, lead-end}
 use Rattle.read.proofs.names.named_records.Statement.{statement}

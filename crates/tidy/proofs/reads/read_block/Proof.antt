@@ -4,8 +4,8 @@ use mathlib.Core.List.{map}
 use native.Mathlib.Omega.{arith}
 use denote.Ref.{now}
 use lib.ListN.{drop}
-use Rattle.format.specs.Record.{recordsOf}
-use Rattle.format.proofs.Laws.{length-records}
+use Rattle.records.specs.Record.{recordsOf}
+use Rattle.records.proofs.Laws.{length-records}
 use Rattle.read.specs.Work.{part}
 use Rattle.read.proofs.Laws.{part-length}
 use Rattle.codec.specs.Codec.{codeOf}

@@ -1,7 +1,7 @@
 use mathlib.Core.Path.{ap, _∙_}
 use borrow.Author.Needs.{needs}
 use denote.Ref.{now}
-use Rattle.format.specs.Record.{recordsOf, recordAt}
+use Rattle.records.specs.Record.{recordsOf, recordAt}
 use Rattle.inst.specs.declared.Code.{Code}
 use Rattle.ends.proofs.Laws.{code-at}
 use Rattle.roles.specs.Roles.{readsOf}

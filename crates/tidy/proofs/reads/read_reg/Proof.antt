@@ -1,6 +1,6 @@
 use denote.Ref.{now}
 use borrow.Author.Needs.{needs}
-use Rattle.format.specs.Record.{recordsOf}
+use Rattle.records.specs.Record.{recordsOf}
 use Rattle.tidy.specs.Work.Parts.{operandsIn}
 use Rattle.tidy.proofs.Verdicts.{read-field, read-operand}
 use Rattle.tidy.proofs.reads.read_reg.Statement.{statement}

@@ -1,0 +1,102 @@
+ghost use mathlib.Core.Path.{_≡_};
+ghost use mathlib.Core.Bool.{cond};
+ghost use Rattle.codec.specs.Codec.{instOf};
+ghost use Rattle.ends.specs.Forms.{isUp};
+ghost use Rattle.procedure.specs.Procedure.{codesOf};
+ghost use Rattle.count_facts.specs.Filling.{over, withWord, withKonst, classStep, classCode};
+use inst::AddrSpace;
+use inst::Inst;
+use inst::Reg;
+use inst::kinds;
+use records::Record;
+
+// The v of a Const, if it is the first of a register that is written once.
+fn put_word(table: &mut [u64], d: Reg, v: u64)
+    ensures { λ u. ⌜ now (table .exit) ≡ withWord (now (table .entry)) (d .0) v ⌝ }
+{
+    let at = 5 * (d.0 as usize);
+    if table.len() <= at + 4 {
+        return;
+    }
+    if table[at + 1] != 1 {
+        return;
+    }
+    if table[at + 3] == 1 {
+        return;
+    }
+    table[at + 3] = 1;
+    table[at + 4] = v;
+}
+
+// A ConstF or AddrOf, of a register that is written once.
+fn put_konst(table: &mut [u64], d: Reg)
+    ensures { λ u. ⌜ now (table .exit) ≡ withKonst (now (table .entry)) (d .0) ⌝ }
+{
+    let at = 5 * (d.0 as usize);
+    if table.len() <= at + 4 {
+        return;
+    }
+    if table[at + 1] != 1 {
+        return;
+    }
+    if table[at + 3] != 0 {
+        return;
+    }
+    table[at + 3] = 2;
+}
+
+fn is_up(space: AddrSpace) -> bool
+    ensures { λ z. ⌜ z ≡ isUp space ⌝ }
+{
+    match space {
+        AddrSpace::Frame => false,
+        AddrSpace::Up(n) => true,
+        AddrSpace::Inst => false,
+        AddrSpace::Pkg(n) => false,
+        AddrSpace::Const(n) => false,
+        AddrSpace::Shared => false,
+    }
+}
+
+fn put_address(table: &mut [u64], d: Reg, space: AddrSpace)
+    ensures { λ u. ⌜ now (table .exit) ≡ cond (isUp space) (now (table .entry)) (withKonst (now (table .entry)) (d .0)) ⌝ }
+{
+    if is_up(space) {
+        return;
+    }
+    put_konst(table, d);
+}
+
+// What an instruction says of the class of the register that it writes: a Const, ConstF or AddrOf.
+fn put_inst(table: &mut [u64], i: Inst)
+    ensures { λ u. ⌜ now (table .exit) ≡ classStep (now (table .entry)) i ⌝ }
+{
+    match i {
+        Inst::Const { dst, v } => put_word(table, dst, v),
+        Inst::ConstF { dst, v: _ } => put_konst(table, dst),
+        Inst::AddrOf { dst, space, off: _ } => put_address(table, dst, space),
+        _ => {}
+    }
+}
+
+// The same of a record: of another kind nothing is read.
+fn put_class(table: &mut [u64], r: Record)
+    ensures { λ u. ⌜ now (table .exit) ≡ classStep (now (table .entry)) (instOf r) ⌝ }
+{
+    let kind = r.kind;
+    match kind {
+        kinds::CONST | kinds::CONST_F | kinds::ADDR_OF => put_inst(table, codec::inst_of(r)),
+        _ => {}
+    }
+}
+
+// The class of each register, once the definitions are counted.
+pub fn class(code: &[u8], table: &mut [u64])
+    ensures { λ u. ⌜ now (table .exit) ≡ over classCode (now (table .entry)) (codesOf (now (code .entry))) ⌝ }
+{
+    let mut k = 0;
+    while k < code.len() / 32 {
+        put_class(table, records::record_at(code, k));
+        k += 1;
+    }
+}

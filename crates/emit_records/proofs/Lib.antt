@@ -1,0 +1,5 @@
+pub mod Laws
+pub mod Passes
+pub mod Heads
+pub mod Bytes
+pub mod Measure

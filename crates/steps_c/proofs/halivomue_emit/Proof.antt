@@ -1,9 +1,0 @@
-use borrow.Author.Needs.{needs}
-use Rattle.steps_c.proofs.halivomue_emit.Statement.{statement}
-use Rattle.steps_c.proofs.halivomue_emit.Tie as tie
-
-returns : tie.Need-returns
-returns c = let e : tie.After-emit-into = search in e .emit-into .ensures .1
-
-pub halivomue-emit-spec : {M : Type 1} → statement M
-halivomue-emit-spec = tie.close (tie.spec (λ c κs. search needs) (λ c. search needs) (λ c. search needs) returns)
