@@ -1,1 +1,1 @@
-// Laws alone: of Booleans, numbers and lists, for any crate.
+// Only laws: about Booleans, numbers and lists, for any crate.

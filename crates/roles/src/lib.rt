@@ -10,7 +10,7 @@ use inst::Reg;
 use inst::Regs;
 
 // The registers of an instruction, in the order of visit_mut: the first `defs` of reg are written, the others
-// up to `n` are read. Then the list of operands that it reads too, empty where it has none.
+// up to `n` are read. Then the list of operands that it reads too, empty if it has none.
 pub struct Roles {
     pub defs: usize,
     pub n: usize,

@@ -1,4 +1,4 @@
-// Document 01's steps and its Shorten, defined; of the code only Shorten's answer.
+// Definitions of document 01's steps and of Shorten. The only code is Shorten's answer.
 
 // number is 0 on success, and place the offending record on a refusal; length is that of the result in bytes.
 pub struct Answer {
