@@ -1,4 +1,4 @@
-// A hop over a CondBr: decided by a known value, or turned past a block that tests the same register.
+// A hop over a CondBr: it is decided by a known value, or skips a block that tests the same register.
 ghost use mathlib.Core.Path.{_≡_};
 ghost use mathlib.Core.Bool.{_&&_};
 ghost use lib.Dec.{eqb};
