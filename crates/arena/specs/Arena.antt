@@ -1,4 +1,4 @@
--- The work storage of the branch steps: a code whose blocks lie anywhere below its top, and of which one block grows at the top.
+-- The work storage of the branch steps: the blocks are anywhere below the top, and one block grows at the top.
 use Prim.Native.Nat.{ℕ, _+_, _*_, _-_, _/_, min}
 use mathlib.Core.Bool.{Bool, true, false, _&&_, not}
 use mathlib.Core.List.{List, [], _∷_}
@@ -29,7 +29,7 @@ sizeOf r = r .p2 - r .p1
 abbrev pub isLast : Record → ℕ → Bool
 isLast r top = leb (r .p1) (r .p2) && eqb (r .p2) top
 
--- n more records have a place, whose number is one of 32 bits
+-- there is room for n more records, at places that 32 bits can number
 abbrev pub room : List ℕ → ℕ → ℕ → Bool
 room work top n = leb (top + n) (min (length work / 32) 4294967295)
 
@@ -55,7 +55,7 @@ toEnd k s =
     let r = recordAt (s .table) k in
     moveIf (moves (s .work) r (s .top)) k r s
 
--- a block table and the top alone: all that a block loses a record by
+-- only the block table and the top: all that changes when a block loses a record
 pub record Topped : Type 0 where
   pub table : List ℕ
   pub top : ℕ
@@ -77,7 +77,7 @@ pop k s =
     let r = recordAt (s .table) k in
     popIf (popped r (s .top)) k r s
 
--- a block that ends at the top, with room for one record more
+-- a block that ends at the top, with room for one more record
 abbrev pub grows : List ℕ → Record → ℕ → Bool
 grows work r top = isLast r top && room work top 1
 
@@ -85,13 +85,13 @@ abbrev pub pushIf : Bool → ℕ → Record → Code → Arena → Arena
 pushIf true k r c s = arena (putOf (s .work) (s .top) (recordOf c)) (pointed (s .table) k (r .p1) (s .top + 1)) (s .top + 1)
 pushIf false k r c s = s
 
--- block k, which ends at the top, with one instruction more
+-- block k, which ends at the top, with one more instruction
 unfoldable pub push : ℕ → Code → Arena → Arena
 push k c s =
     let r = recordAt (s .table) k in
     pushIf (grows (s .work) r (s .top)) k r c s
 
--- with some instructions more, one after the other
+-- with some more instructions, one after the other
 unfoldable pub pushAll : ℕ → List Code → Arena → Arena
 pushAll k [] s = s
 pushAll k (c ∷ cs) s = pushAll k cs (push k c s)

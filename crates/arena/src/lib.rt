@@ -1,4 +1,4 @@
-// The work storage of Thread: a block that is edited stands last and grows at the end.
+// The work storage of Thread: the block that is being edited is the last one and grows at its end.
 ghost use mathlib.Core.Path.{_≡_};
 ghost use Prim.Native.Nat.{ℕ, _+_, _≤_};
 ghost use lib.ListN.{length, take, drop};
@@ -26,7 +26,7 @@ fn is_last(r: Record, top: usize) -> bool
     r.p1 <= r.p2 && r.p2 as usize == top
 }
 
-// n more records have a place.
+// Whether there is room for n more records.
 pub fn has_room(work: &[u8], top: usize, n: usize) -> bool
     ensures { λ z. ⌜ z ≡ spec.room (now (work .entry)) top n ⌝ }
 {
@@ -44,7 +44,7 @@ fn moves(work: &[u8], r: Record, top: usize) -> bool
     r.p1 as usize + n <= top && has_room(work, top, n)
 }
 
-// n bytes are copied to a later place.
+// Copies n bytes to a later place.
 fn copy(b: &mut [u8], from: usize, to: usize, n: usize)
     requires { ⌜ (from + n ≤ to) × (to + n ≤ length (now b)) ⌝ }
     ensures { λ u. ⌜ now (b .exit) ≡ paste (now (b .entry)) to (drop from (now (b .entry))) n ⌝ }
@@ -56,7 +56,7 @@ fn copy(b: &mut [u8], from: usize, to: usize, n: usize)
     }
 }
 
-// Start and end of block k are written.
+// Writes the start and end of block k.
 fn point(table: &mut [u8], k: BlockId, start: u32, end: u32)
     ensures { λ u. ⌜ now (table .exit) ≡ spec.pointed (now (table .entry)) (k .0) start end ⌝ }
 {
@@ -67,7 +67,7 @@ fn point(table: &mut [u8], k: BlockId, start: u32, end: u32)
     );
 }
 
-// Block k is moved to the top, where it isn't there and has room; returns the new top.
+// Moves block k to the top, unless it is there or has no room; returns the new top.
 pub fn to_end(work: &mut [u8], table: &mut [u8], k: BlockId, top: usize) -> usize
     ensures { λ r. ⌜ arena (now (work .exit)) (now (table .exit)) r ≡ spec.toEnd (k .0) (arena (now (work .entry)) (now (table .entry)) top) ⌝ }
 {
@@ -87,7 +87,7 @@ fn can_pop(r: Record, top: usize) -> bool
     r.p1 < r.p2 && r.p2 as usize == top
 }
 
-// Block k, where it ends at the top, loses its last record; returns the new top.
+// Removes the last record of block k, if the block ends at the top; returns the new top.
 pub fn pop(table: &mut [u8], k: BlockId, top: usize) -> usize
     ensures { λ r. ⌜ topped (now (table .exit)) r ≡ spec.pop (k .0) (topped (now (table .entry)) top) ⌝ }
 {
@@ -105,7 +105,7 @@ fn grows(work: &[u8], r: Record, top: usize) -> bool
     is_last(r, top) && has_room(work, top, 1)
 }
 
-// Block k, where it ends at the top and there is room, gets one instruction more; returns the new top.
+// Appends an instruction to block k, if it ends at the top and there is room; returns the new top.
 pub fn push(work: &mut [u8], table: &mut [u8], k: BlockId, top: usize, c: Code) -> usize
     ensures { λ r. ⌜ arena (now (work .exit)) (now (table .exit)) r ≡ spec.push (k .0) c (arena (now (work .entry)) (now (table .entry)) top) ⌝ }
 {
@@ -118,7 +118,7 @@ pub fn push(work: &mut [u8], table: &mut [u8], k: BlockId, top: usize, c: Code) 
     top + 1
 }
 
-// Block k gets the first n of some instructions more; returns the new top.
+// Appends the first n of some instructions to block k; returns the new top.
 pub fn append(
     work: &mut [u8],
     table: &mut [u8],

@@ -1,4 +1,4 @@
--- Storage, not the paper's: "the block table is lent as a slice of blocks". A list of Block structs stands for the blocks of a code.
+-- Storage: "the block table is lent as a slice of blocks". A list of Block structs represents the blocks of some code.
 use Prim.Native.Nat.{ℕ}
 use mathlib.Core.List.{List, map}
 use lib.ListN.{getD}

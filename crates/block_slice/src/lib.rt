@@ -1,4 +1,4 @@
-// The blocks of a code by a lent slice of Block structs.
+// The blocks of some code, given by a lent slice of Block structs.
 ghost use mathlib.Core.Path.{_≡_};
 ghost use mathlib.Core.List.{[]};
 ghost use lib.ListN.{getD};

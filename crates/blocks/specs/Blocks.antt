@@ -17,24 +17,24 @@ blockRecordsIn code table = map (recordsOfBlock (recordsOf code)) (recordsOf tab
 abbrev pub blocksOf : List ℕ → List ℕ → List (List Code)
 blocksOf code table = map (map codeOf) (blockRecordsIn code table)
 
--- the blocks hold the records that their instructions are written as
+-- the blocks hold exactly the records of their instructions
 abbrev pub Canonical : List ℕ → List ℕ → Type 0
 Canonical code table = blockRecordsIn code table ≡ map (map recordOf) (blocksOf code table)
 
--- "p1 start, p2 end (exclusive)", kept within a code of n records
+-- "p1 start, p2 end (exclusive)", kept within n records of code
 abbrev pub endIn : ℕ → ℕ → ℕ
 endIn n end = min end n
 
 abbrev pub startIn : ℕ → ℕ → ℕ → ℕ
 startIn n start end = min start (endIn n end)
 
--- the bytes of a part of a code
+-- the bytes of a part of some code
 abbrev pub partBytes : List ℕ → ℕ → ℕ → List ℕ
 partBytes code start end =
     let n = length code / 32 in
     take (32 * endIn n end - 32 * startIn n start end) (drop (32 * startIn n start end) code)
 
--- the bytes of a block, by its record
+-- the bytes of a block, given its record
 abbrev pub bytesOfBlock : List ℕ → Record → List ℕ
 bytesOfBlock code r = partBytes code (r .p1) (r .p2)
 

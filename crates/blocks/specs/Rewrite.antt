@@ -16,27 +16,27 @@ use Rattle.codec.specs.Codec.{rewrittenRecord}
 abbrev pub frontBytes : List ℕ → List ℕ
 frontBytes code = take (32 * (length code / 32 - 1)) code
 
--- the code with the last record of a block rewritten; nothing is where the block is empty or ends past the code
+-- the code with the last record of a block rewritten; unchanged if the block is empty or ends past the code
 unfoldable pub endRewritten : List ℕ → Record → Inst → List ℕ
 endRewritten code r i =
     cond (ltb (r .p1) (r .p2)) (putOf code (r .p2 - 1) (rewrittenRecord (recordAt code (r .p2 - 1)) i)) code
 
--- the last element of a list exchanged
+-- the last element of a list replaced
 unfoldable pub lastBy : {A : Type 0} → (A → A) → List A → List A
 lastBy f [] = []
 lastBy f (x ∷ []) = f x ∷ []
 lastBy f (x ∷ y ∷ l) = x ∷ lastBy f (y ∷ l)
 
--- place x of the code is one of a block's
+-- place x of the code belongs to a block
 pub record Holds (r : Record) (x : ℕ) : Type 0 where
   pub from : r .p1 ≤ x
   pub to : x < r .p2
 
--- the blocks of a table lie within the first n records, and no place is of two blocks
+-- the blocks of a table lie within the first n records, and no place belongs to two blocks
 pub record Apart (n : ℕ) (table : List ℕ) : Type 0 where
   pub within : (k x : ℕ) → Holds (recordAt table k) x → x < n
   pub alone : (j k x : ℕ) → Holds (recordAt table j) x → Holds (recordAt table k) x → j ≡ k
 
--- "blocks tile the code", as Read has it
+-- "blocks tile the code", as Read checks it
 abbrev pub Tiled : List ℕ → List ℕ → Type 0
 Tiled code table = tiled (length code / 32) (recordsOf table) ≡ length (recordsOf table)

@@ -1,4 +1,4 @@
-// The blocks of a code by its block table: each is a part of the code's bytes.
+// The blocks of some code, by its block table: each is a part of the code's bytes.
 ghost use mathlib.Core.Path.{_≡_};
 ghost use mathlib.Core.List.{[]};
 ghost use lib.Dec.{eqb};
@@ -15,7 +15,7 @@ use inst::Inst;
 use inst::StmtId;
 use records::Record;
 
-// The part of a code from start to end, kept within it.
+// The part of some code from start to end, cut off at the code's end.
 pub fn part<'a>(code: &'a [u8], start: u32, end: u32) -> &'a [u8]
     ensures { λ r. ⌜ now r ≡ partBytes (now (code .entry)) start end ⌝ }
 {
@@ -24,7 +24,8 @@ pub fn part<'a>(code: &'a [u8], start: u32, end: u32) -> &'a [u8]
     &code[32 * s..32 * e]
 }
 
-// The code of a block, by its record. A loop over a table has a record where it may not have a number.
+// The code of a block, given its record: a loop over a table has the record, but not always a
+// BlockId.
 pub fn block_by<'a>(code: &'a [u8], r: Record) -> &'a [u8]
     ensures { λ b. ⌜ now b ≡ bytesOfBlock (now (code .entry)) r ⌝ }
 {
@@ -38,7 +39,7 @@ pub fn block<'a>(code: &'a [u8], table: &[u8], k: BlockId) -> &'a [u8]
     block_by(code, records::record_at(table, k.0 as usize))
 }
 
-// How a block ends, by its record and its last instruction's alone.
+// How a block ends, given only its record and that of its last instruction.
 pub fn end_by(code: &[u8], r: Record) -> End
     ensures { λ e. ⌜ e ≡ endOf (codesOf (bytesOfBlock (now (code .entry)) r)) ⌝ }
 {
@@ -56,7 +57,7 @@ pub fn end_at(code: &[u8], table: &[u8], k: BlockId) -> End
     end_by(code, records::record_at(table, k.0 as usize))
 }
 
-// Block k has one instruction.
+// Whether block k has exactly one instruction.
 pub fn is_lone(code: &[u8], table: &[u8], k: BlockId) -> bool
     ensures { λ z. ⌜ z ≡ eqb (length (getD (blocksOf (now (code .entry)) (now (table .entry))) (k .0) [])) 1 ⌝ }
 {
@@ -73,7 +74,7 @@ pub fn front<'a>(code: &'a [u8]) -> &'a [u8]
     &code[..32 * (n - last)]
 }
 
-// The last instruction of block k is rewritten; nothing is where block k is empty or ends past the code.
+// Rewrites the last instruction of block k; does nothing if block k is empty or ends past the code.
 pub fn rewrite_end(code: &mut [u8], table: &[u8], k: BlockId, i: Inst)
     ensures { λ u. ⌜ now (code .exit) ≡ spec.endRewritten (now (code .entry)) (recordAt (now (table .entry)) (k .0)) i ⌝ }
 {
@@ -85,7 +86,8 @@ pub fn rewrite_end(code: &mut [u8], table: &[u8], k: BlockId, i: Inst)
     }
 }
 
-// The last instruction of a block, by its record, becomes a Br; nothing does where it is empty or ends past the code.
+// Turns the last instruction of a block, given its record, into a Br; does nothing if it is empty
+// or ends past the code.
 pub fn rewrite_br_by(code: &mut [u8], r: Record, to: BlockId)
     ensures { λ u. ⌜ now (code .exit) ≡ spec.endRewritten (now (code .entry)) r (i.Br to) ⌝ }
 {
@@ -96,7 +98,7 @@ pub fn rewrite_br_by(code: &mut [u8], r: Record, to: BlockId)
     }
 }
 
-// The last instruction of block k becomes a Br, in the same way.
+// The same for block k.
 pub fn rewrite_br(code: &mut [u8], table: &[u8], k: BlockId, to: BlockId)
     ensures { λ u. ⌜ now (code .exit) ≡ spec.endRewritten (now (code .entry)) (recordAt (now (table .entry)) (k .0)) (i.Br to) ⌝ }
 {

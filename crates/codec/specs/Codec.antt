@@ -142,11 +142,11 @@ withStmt r n = record {
 abbrev pub recordOf : Code → Record
 recordOf c = withStmt (instRecord (c .inst)) (c .stmt .0)
 
--- an instruction in place of a code's own: all else of it stays
+-- an instruction replaced by another, with the statement kept
 abbrev pub withInst : Inst → Code → Code
 withInst x c = record { inst = x; stmt = c .stmt }
 
--- and in place of a record's
+-- the same for a record
 abbrev pub rewrittenRecord : Record → Inst → Record
 rewrittenRecord r x = recordOf (withInst x (codeOf r))
 
@@ -191,7 +191,7 @@ inRange (i.Ret v) = words (optArg v ∷ [])
 inRange (i.Unreachable w) = words (w ∷ [])
 inRange i.Stmt = true
 
--- the same of an instruction with its statement
+-- the same for an instruction with its statement
 pub record InRange (c : Code) : Type 0 where
   pub inst : inRange (c .inst) ≡ true
   pub stmt : c .stmt .0 < 2 ^ 32

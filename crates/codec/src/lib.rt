@@ -11,7 +11,7 @@ use inst::StmtId;
 use inst::kinds;
 use records::Record;
 
-// The word whose low and high halves stand in two fields.
+// The word whose low and high halves are in two fields.
 pub fn word_of(low: u32, high: u32) -> u64
     ensures { λ r. ⌜ r ≡ wordOf low high ⌝ }
 {
@@ -30,7 +30,7 @@ pub fn high_of(v: u64) -> u32
     (v / 4294967296) as u32
 }
 
-// The instruction of a record. A record that is wrong in itself is read too: its kind past the last is a Stmt.
+// The instruction of a record. An invalid record gives one too: a kind past the last reads as Stmt.
 pub fn inst_of(r: Record) -> Inst
     ensures { λ i. ⌜ i ≡ instOf r ⌝ }
 {
@@ -284,7 +284,7 @@ pub fn br_record(to: BlockId, stmt: StmtId) -> Record
     }
 }
 
-// The record of another instruction in place of a record's own: all else of it stays.
+// A record with another instruction in it: everything else stays.
 pub fn rewritten(old: Record, i: Inst) -> Record
     ensures { λ r. ⌜ r ≡ rewrittenRecord old i ⌝ }
 {

@@ -1,4 +1,4 @@
--- Storage, not the paper's: how a copy stands in arrays of four.
+-- Storage, not the paper's: how arrays of four represent a copy.
 use Prim.Native.Nat.{ℕ, _+_, _≤_}
 use mathlib.Core.Path.{_≡_}
 use mathlib.Core.Bool.{Bool, true, false, cond}
@@ -28,7 +28,7 @@ isConst real = true
 isConst (address up) = false
 isConst varying = false
 
--- of a register that is old and singly written, with its uses and those in the target
+-- for an old, singly written register, by all its uses and those in the target
 abbrev pub howOne : ℕ → ℕ → ℕ → Fixed → s.How
 howOne uses own d x = cond (isConst x) s.leftOut (cond (eqb uses own) (s.renumbered d) s.kept)
 
@@ -36,7 +36,7 @@ howOne uses own d x = cond (isConst x) s.leftOut (cond (eqb uses own) (s.renumbe
 abbrev pub codesIn : Copied → List Code
 codesIn z = take (z .n) (z .code)
 
--- the registers that got a new number, with it, and by themselves
+-- the registers that got a new number: with it, and without
 abbrev pub localIn : Copied → List (ℕ × ℕ)
 localIn z = firstPairs (z .fresh) (z .old) (z .new)
 
@@ -63,7 +63,7 @@ pub record Four (z : Copied) : Type 0 where
   pub old : length (z .old) ≡ 4
   pub new : length (z .new) ≡ 4
 
--- one instruction more at the end
+-- one more instruction at the end
 pub record Pushed (a : Copied) (x : Code) (z : Copied) : Type 0 where
   pub code : codesIn z ≡ codesIn a ++ (x ∷ [])
   pub local : localIn z ≡ localIn a
@@ -72,7 +72,7 @@ pub record Pushed (a : Copied) (x : Code) (z : Copied) : Type 0 where
   pub fresh-is : z .fresh ≡ a .fresh
   pub four : Four z
 
--- one register more with a new number
+-- one more register with a new number
 pub record Given (a : Copied) (d m : ℕ) (z : Copied) : Type 0 where
   pub code : codesIn z ≡ codesIn a
   pub local : localIn z ≡ localIn a ++ ((d, m) ∷ [])
@@ -81,7 +81,7 @@ pub record Given (a : Copied) (d m : ℕ) (z : Copied) : Type 0 where
   pub fresh-is : z .fresh ≡ a .fresh + 1
   pub four : Four z
 
--- one instruction more, whatever comes behind it
+-- one more instruction, whatever comes after it
 pub record Placed (a : Copied) (how : s.How) (x : Code) (m : ℕ) (z : Copied) : Type 0 where
   pub code : (rest : List (ℕ × ℕ) → ℕ → List Code)
       → (codesIn a ++ s.place how x (localIn a) m rest ≡ codesIn z ++ rest (localIn z) (m + taking how))

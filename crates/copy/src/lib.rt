@@ -16,14 +16,15 @@ use inst::Inst;
 use inst::Reg;
 use inst::StmtId;
 
-// What becomes of an instruction in the copy: nothing, the same with a new number for what it writes, or the same.
+// What happens to an instruction in the copy: left out, given a new number for what it writes, or
+// kept.
 enum How {
     LeftOut,
     Renumbered(Reg),
     Kept,
 }
 
-// A copy: its first n instructions, and the first fresh registers that got a new number, with that number.
+// A copy: n instructions, and `fresh` old registers with the new number that each got.
 pub struct Copied {
     pub code: [Code; 4],
     pub n: usize,
@@ -32,7 +33,7 @@ pub struct Copied {
     pub fresh: usize,
 }
 
-// How often r stands in a row from place a up to place e.
+// How often r occurs in an array from place a up to place e.
 fn reads_in(reg: [Reg; 5], a: usize, e: usize, r: Reg) -> u64
     requires { ⌜ e ≤ 5 ⌝ }
     ensures { λ z. ⌜ z ≡ times (r .0) (drop a (take e (numbersOf reg))) ⌝ }
@@ -66,7 +67,8 @@ fn read_once(x: Reg, r: Reg) -> u64
     0
 }
 
-// How often an instruction reads r: those that most copies have by their fields.
+// How often an instruction reads r. The most common kinds are answered by their fields, the others
+// by their roles.
 fn reads_of(i: Inst, r: Reg) -> u64
     ensures { λ z. ⌜ (z ≡ times (r .0) (usesOf i)) × (z ≤ 5) ⌝ }
 {
@@ -100,7 +102,7 @@ fn own_uses(code: [Code; 4], n: usize, r: Reg) -> u64
     z
 }
 
-// A Const or ConstF.
+// Whether it is a Const or ConstF.
 fn is_const(i: Inst) -> bool
     ensures { λ z. ⌜ z ≡ isConst (fixedOf i) ⌝ }
 {
@@ -110,7 +112,7 @@ fn is_const(i: Inst) -> bool
     }
 }
 
-// What becomes of an instruction that writes d, an old register that one field writes.
+// What happens to an instruction that writes d, an old register that one field writes.
 fn how_single(i: Inst, d: Reg, code: [Code; 4], n: usize, facts: &[u64]) -> How
     requires { ⌜ n ≤ 4 ⌝ }
     ensures { λ z. ⌜ howIn z ≡ howOne (usesIn (now (facts .entry)) (d .0)) (steps.ownUses (take n code) (d .0)) (d .0) (fixedOf i) ⌝ }
@@ -124,7 +126,7 @@ fn how_single(i: Inst, d: Reg, code: [Code; 4], n: usize, facts: &[u64]) -> How
     How::Kept
 }
 
-// What becomes of an instruction that writes d alone, or d first.
+// What happens to an instruction that writes only d, or d first.
 fn how_written(i: Inst, d: Reg, code: [Code; 4], n: usize, facts: &[u64]) -> How
     requires { ⌜ n ≤ 4 ⌝ }
     ensures { λ z. ⌜ ((body : Option ℕ) (budget : ℕ)
@@ -152,7 +154,8 @@ fn how_by_roles(i: Inst, code: [Code; 4], n: usize, facts: &[u64]) -> How
     how_written(i, reg[0], code, n, facts)
 }
 
-// What becomes of an instruction of a target, whose first n instructions are given: those that most copies have by their fields.
+// What happens to an instruction of a target whose first n instructions are given. The most common
+// kinds are answered by their fields, the others by their roles.
 fn how_of(i: Inst, code: [Code; 4], n: usize, facts: &[u64]) -> How
     requires { ⌜ n ≤ 4 ⌝ }
     ensures { λ z. ⌜ ((body : Option ℕ) (budget : ℕ)
@@ -173,7 +176,7 @@ fn how_of(i: Inst, code: [Code; 4], n: usize, facts: &[u64]) -> How
     }
 }
 
-// One instruction more at the end of the copy.
+// Appends an instruction to the copy.
 fn pushed(s: Copied, x: Code) -> Copied
     requires { ⌜ (s .n < 4) × Four s ⌝ }
     ensures { λ z. ⌜ Pushed s x z ⌝ }
@@ -192,7 +195,7 @@ fn pushed(s: Copied, x: Code) -> Copied
     }
 }
 
-// One register more with a new number.
+// Adds a register that gets a new number.
 fn given(s: Copied, d: Reg, m: Reg) -> Copied
     requires { ⌜ (s .fresh < 4) × Four s ⌝ }
     ensures { λ z. ⌜ Given s (d .0) (m .0) z ⌝ }
@@ -226,7 +229,7 @@ fn kept(s: Copied, x: Code) -> Code
     }
 }
 
-// And with m in place of d where it writes.
+// The same, with m in place of d where it writes.
 fn renumbered(s: Copied, x: Code, d: Reg, m: Reg) -> Code
     ensures { λ z. ⌜ z ≡ steps.renamed (localIn s) (steps.written (d .0) (m .0)) x ⌝ }
 {
@@ -240,7 +243,7 @@ fn renumbered(s: Copied, x: Code, d: Reg, m: Reg) -> Code
     }
 }
 
-// One instruction of the target more, where m is the next new number.
+// Copies one more instruction of the target; m is the next new number.
 fn placed(s: Copied, how: How, x: Code, m: Reg) -> Copied
     requires { ⌜ (s .n < 4) × (s .fresh < 4) × Four s ⌝ }
     ensures { λ z. ⌜ Placed s (howIn how) x (m .0) z ⌝ }
@@ -280,7 +283,7 @@ fn taken(code: &[u8]) -> [Code; 4]
     ]
 }
 
-// The copy of n instructions, where m is the first new number.
+// The copy of n instructions; m is the first new number.
 fn copy_all(code: [Code; 4], n: usize, facts: &[u64], m: Reg) -> Copied
     requires { ⌜ (n ≤ 4) × (m .0 ≤ 65535) ⌝ }
     ensures { λ z. ⌜ CopyOf (now (facts .entry)) (take n code) (m .0) z ⌝ }
@@ -297,7 +300,7 @@ fn copy_all(code: [Code; 4], n: usize, facts: &[u64], m: Reg) -> Copied
     s
 }
 
-// A number of 16 bits: r, or the last where r is above it.
+// r as a 16-bit number: 65535 if r is above that.
 fn within(r: Reg) -> Reg
     ensures { λ z. ⌜ z .0 ≡ min (r .0) 65535 ⌝ }
 {
@@ -307,7 +310,7 @@ fn within(r: Reg) -> Reg
     Reg(65535)
 }
 
-// The copy of a target's first four instructions, where m is the first new number, or 65535 where m is above it.
+// The copy of a target's first four instructions; m is the first new number, 65535 at most.
 pub fn copy_of(code: &[u8], facts: &[u64], m: Reg) -> Copied
     ensures { λ z. ⌜ CopyOf (now (facts .entry)) (take 4 (codesOf (now (code .entry)))) (min (m .0) 65535) z ⌝ }
 {

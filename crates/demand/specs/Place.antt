@@ -1,4 +1,4 @@
--- Where a run stands: the block, and the place in it, of the next instruction.
+-- Where a run is: the block of its next instruction, and the place in the block.
 use Prim.Native.Nat.{ℕ, zero, suc}
 use mathlib.Core.Path.{_≡_}
 use mathlib.Core.List.{List, [], _∷_}
@@ -30,7 +30,7 @@ module _ (outside : Outside) (address : Address) (p : Procedure) where
   placeAt zero s w = w
   placeAt (suc n) s w = placeAt n (step outside address p s) (nextPlace s w)
 
-  -- the code that is left of a state is that of its block, from its place on
+  -- the code that a state has left is that of its block, from its place on
   abbrev pub StandsAt : State → Place → Type 0
   StandsAt (at c g h) w = c ≡ drop (w .place) (getD (p .blocks) (w .block) [])
   StandsAt (done h e) w = Unit {0}

@@ -1,4 +1,4 @@
--- What the proof of demand 3 speaks of: block-local registers, single constants, and what is known behind some code.
+-- What the proof of demand 3 is about: block-local registers, single constants, and what is known after some code.
 use Prim.Native.Nat.{ℕ, _<_}
 use mathlib.Core.Path.{_≡_}
 use mathlib.Core.Logic.{_⊎_}
@@ -11,17 +11,17 @@ use Rattle.procedure.specs.Procedure.{Table, Procedure}
 use Rattle.machine.specs.Machine.{Regs, Address, Outside, Effect, writes, goes, ends, asks, effect, stores}
 use Rattle.machine.specs.Single.{constantOf}
 
--- a number stands in a list
+-- a number is in a list
 abbrev pub In : ℕ → List ℕ → Type 0
 In r [] = ⊥
 In r (x ∷ xs) = (r ≡ x) ⊎ In r xs
 
--- each instruction of some code
+-- something holds for each instruction of some code
 abbrev pub Each : (Code → Type 0) → List Code → Type 0
 Each F [] = Unit {0}
 Each F (x ∷ c) = F x × Each F c
 
--- of an instruction before the last one
+-- the same for each instruction but the last
 abbrev pub Front : (Code → Type 0) → List Code → Type 0
 Front F [] = Unit {0}
 Front F (x ∷ []) = Unit {0}
@@ -36,7 +36,7 @@ pub record Setting : Type 0 where
   pub tables : List Table
   -- the number of the original's registers
   pub size : ℕ
-  -- an original's register that one field writes
+  -- a register of the original that one field writes
   pub one : ℕ → Bool
   -- what is loaded
   pub single : ℕ → Option ℕ
@@ -68,12 +68,12 @@ module _ (ops : List ℕ) where
   Read [] r = ⊥
   Read (x ∷ c) r = In r (readsAt x) ⊎ Read c r
 
-  -- a register is read in some code, and isn't written there before
+  -- a register is read in some code without being written there before
   abbrev pub Exposed : List Code → ℕ → Type 0
   Exposed [] r = ⊥
   Exposed (x ∷ c) r = In r (readsAt x) ⊎ ((¬ (In r (defsAt x))) × Exposed c r)
 
--- a fact about the registers after an effect, where the run goes on in the same block
+-- a fact about the registers after an effect, if the run goes on in the same block
 abbrev pub Passes : Effect → List ℕ → (Regs → Type 0) → Regs → Type 0
 Passes (writes vs) rs Q g = Q (stores rs vs g)
 Passes (goes b) rs Q g = Unit {0}
@@ -85,7 +85,7 @@ module _ (E : Setting) where
   abbrev pub code : List ℕ → List (List Code) → Procedure
   code registers P = record { registers = registers; blocks = P; body = E .body; operands = E .operands; tables = E .tables }
 
-  -- what an instruction does: the kinds of the registers matter to none
+  -- what an instruction does, whatever the kinds of the registers
   abbrev pub does : Code → Regs → Effect
   does x g = effect (E .address) (E .tables) (x .stmt .0) [] (map g (readsAt (E .operands) x)) (x .inst)
 
@@ -93,7 +93,7 @@ module _ (E : Setting) where
   abbrev pub Hidden : List Code → Type 0
   Hidden c = (r : ℕ) → Exposed (E .operands) c r → E .local r ≡ false
 
-  -- a register that one field writes is written by its constant if it is loaded, and by no Const, ConstF or AddrOf else
+  -- a register that one field writes is written by its constant if it is loaded, else by no Const, ConstF or AddrOf
   abbrev pub Fine : Code → Type 0
   Fine x = (r : ℕ) → In r (defsAt x) → E .one r ≡ true → E .single r ≡ constantOf (E .address) (x .inst)
 
@@ -101,7 +101,7 @@ module _ (E : Setting) where
   abbrev pub Loaded : Regs → Type 0
   Loaded g = (r v : ℕ) → E .single r ≡ some v → g r ≡ v
 
-  -- a fact about the registers behind some code, wherever a run comes there
+  -- a fact about the registers after some code, whenever a run gets there
   abbrev pub Behind : (Regs → Type 0) → List Code → Regs → Type 0
   Behind Q [] g = Q g
   Behind Q (x ∷ c) g = Passes (does x g) (defsAt x) (Behind Q c) g

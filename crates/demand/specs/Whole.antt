@@ -1,4 +1,4 @@
--- What the theorem asks of a procedure: a file that Read accepts, tidy, has it.
+-- What the theorem asks of a procedure. That of a tidy file that Read accepts has it.
 use Prim.Native.Nat.{ℕ, _<_}
 use mathlib.Core.Path.{_≡_}
 use mathlib.Core.Logic.{_⊎_}

@@ -1,1 +1,1 @@
-// Definitions and a theorem alone: demand 3, proved of every tidy procedure.
+// Only definitions and a theorem: demand 3, proved for every tidy procedure.

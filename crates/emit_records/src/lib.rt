@@ -22,7 +22,8 @@ use inst::StmtId;
 use inst::kinds;
 use records::Record;
 
-// A Const, ConstF or AddrOf whose register one field of the code writes. By the record's kind.
+// Whether a record, by its kind, is a Const, ConstF or AddrOf whose register only one field of the
+// code writes.
 pub fn is_rescued(r: Record, facts: &[u64]) -> bool
     ensures { λ z. ⌜ z ≡ rescuedBy (now (facts .entry)) (instOf r) ⌝ }
 {
@@ -33,7 +34,7 @@ pub fn is_rescued(r: Record, facts: &[u64]) -> bool
     }
 }
 
-// A Br or CondBr.
+// Whether it is a Br or CondBr.
 fn is_jump(e: End) -> bool
     ensures { λ z. ⌜ z ≡ steps.isJump e ⌝ }
 {
@@ -45,7 +46,8 @@ fn is_jump(e: End) -> bool
     }
 }
 
-// A block that stays as it is: reached, the last, or one instruction and neither Br nor CondBr.
+// Whether a block stays as it is: it is reached, the last, or a single instruction other than Br
+// and CondBr.
 pub fn stays(mark: bool, last: bool, code: &[u8]) -> bool
     ensures { λ z. ⌜ z ≡ staysBy mark last (codesOf (now (code .entry))) ⌝ }
 {
@@ -78,7 +80,7 @@ pub fn rescued_in(code: &[u8], facts: &[u64]) -> usize
     keep
 }
 
-// A record is written at a place, where there is one; returns the next place.
+// Writes a record at a place, if there is one; returns the next place.
 pub fn put(out: &mut [u8], at: usize, r: Record) -> usize
     ensures { λ z. ⌜ place (now (out .exit)) z ≡ putOne r (place (now (out .entry)) at) ⌝ }
 {
@@ -89,7 +91,7 @@ pub fn put(out: &mut [u8], at: usize, r: Record) -> usize
     at
 }
 
-// The same, only if it is kept.
+// The same, but only if `keep` is set.
 fn put_if(out: &mut [u8], at: usize, keep: bool, r: Record) -> usize
     ensures { λ z. ⌜ place (now (out .exit)) z
         ≡ cond keep (putOne r (place (now (out .entry)) at)) (place (now (out .entry)) at) ⌝ }
@@ -100,7 +102,7 @@ fn put_if(out: &mut [u8], at: usize, keep: bool, r: Record) -> usize
     at
 }
 
-// Records are written one by one from a place on, while there is a place; returns the next place.
+// Writes records one by one from a place on, as far as there is room; returns the next place.
 fn put_each(out: &mut [u8], at: usize, code: &[u8]) -> usize
     ensures { λ z. ⌜ place (now (out .exit)) z ≡ puts (recordsOf (now (code .entry))) (place (now (out .entry)) at) ⌝ }
 {
@@ -114,7 +116,7 @@ fn put_each(out: &mut [u8], at: usize, code: &[u8]) -> usize
     top
 }
 
-// n bytes of code are copied to a place.
+// Copies n bytes of code to a place.
 fn copy(out: &mut [u8], to: usize, code: &[u8], n: usize)
     requires { ⌜ (to + n ≤ length (now out)) × (n ≤ length (now code)) ⌝ }
     ensures { λ u. ⌜ now (out .exit) ≡ paste (now (out .entry)) to (now (code .entry)) n ⌝ }
@@ -126,7 +128,7 @@ fn copy(out: &mut [u8], to: usize, code: &[u8], n: usize)
     }
 }
 
-// The records of a block are written from a place on, by their bytes where all have room; returns the next place.
+// Writes a block's records from a place on, as bytes if all have room; returns the next place.
 pub fn put_block(out: &mut [u8], at: usize, code: &[u8]) -> usize
     ensures { λ z. ⌜ place (now (out .exit)) z ≡ puts (recordsOf (now (code .entry))) (place (now (out .entry)) at) ⌝ }
 {
@@ -139,7 +141,7 @@ pub fn put_block(out: &mut [u8], at: usize, code: &[u8]) -> usize
     put_each(out, at, code)
 }
 
-// The records of a block that are rescued are written from a place on; returns the next place.
+// Writes the rescued records of a block from a place on; returns the next place.
 pub fn put_rescued(out: &mut [u8], at: usize, code: &[u8], facts: &[u64]) -> usize
     ensures { λ z. ⌜ place (now (out .exit)) z
         ≡ puts (rescuedIn (now (facts .entry)) (recordsOf (now (code .entry)))) (place (now (out .entry)) at) ⌝ }
@@ -155,7 +157,8 @@ pub fn put_rescued(out: &mut [u8], at: usize, code: &[u8], facts: &[u64]) -> usi
     top
 }
 
-// A Br to the next block, with the first statement of a block, is written at a place; returns the next place.
+// Writes a Br to the next block, with the block's first statement, at a place; returns the next
+// place.
 pub fn put_emptied(out: &mut [u8], at: usize, next: BlockId, code: &[u8]) -> usize
     ensures { λ z. ⌜ place (now (out .exit)) z ≡ putOne (branchRecord next (codesOf (now (code .entry)))) (place (now (out .entry)) at) ⌝ }
 {
@@ -163,7 +166,7 @@ pub fn put_emptied(out: &mut [u8], at: usize, next: BlockId, code: &[u8]) -> usi
     put(out, at, codec::br_record(next, StmtId(first.stmt)))
 }
 
-// The code of the block whose record has place b of the table; none past the last.
+// The code of the block whose record is at place b of the table; empty past the last.
 fn code_at<'a>(work: &'a [u8], table: &[u8], b: usize) -> &'a [u8]
     ensures { λ r. ⌜ now r ≡ blockBytes (now (work .entry)) (now (table .entry)) b ⌝ }
 {
@@ -180,7 +183,7 @@ fn mark_at(seen: &[bool], b: usize) -> bool
     true
 }
 
-// Block b stays.
+// Whether block b stays.
 fn keeps(work: &[u8], table: &[u8], seen: &[bool], b: usize) -> bool
     ensures { λ z. ⌜ z ≡ staysAt (marksIn (now (seen .entry))) (blocksOf (now (work .entry)) (now (table .entry))) b ⌝ }
 {
@@ -189,7 +192,8 @@ fn keeps(work: &[u8], table: &[u8], seen: &[bool], b: usize) -> bool
     stays(mark_at(seen, b), last, code_at(work, table, b))
 }
 
-// The rescued records of block b, where it doesn't stay, are written from a place on; returns the next place.
+// Writes the rescued records of block b, if it doesn't stay, from a place on; returns the next
+// place.
 fn put_lost(
     out: &mut [u8],
     at: usize,
@@ -209,7 +213,7 @@ fn put_lost(
     put_rescued(out, at, code_at(work, table, b), facts)
 }
 
-// The rescued records are written from a place on, in order; returns the next place.
+// Writes all rescued records from a place on, in order; returns the next place.
 pub fn put_keep(
     out: &mut [u8],
     at: usize,
@@ -232,7 +236,7 @@ pub fn put_keep(
     top
 }
 
-// Block b as it is emitted is written from a place on; returns the next place.
+// Writes block b in its emitted form from a place on; returns the next place.
 fn put_new(out: &mut [u8], at: usize, work: &[u8], table: &[u8], seen: &[bool], b: usize) -> usize
     ensures { λ z. ⌜ place (now (out .exit)) z
         ≡ puts (newAt (marksIn (now (seen .entry))) (blockRecordsIn (now (work .entry)) (now (table .entry))) b) (place (now (out .entry)) at) ⌝ }
@@ -244,7 +248,8 @@ fn put_new(out: &mut [u8], at: usize, work: &[u8], table: &[u8], seen: &[bool], 
     put_emptied(out, at, BlockId((b + 1) as u32), code)
 }
 
-// The blocks as they are emitted are written from a place on, without what is rescued; returns the next place.
+// Writes all blocks in their emitted form, without what is rescued, from a place on; returns the
+// next place.
 pub fn put_code(out: &mut [u8], at: usize, work: &[u8], table: &[u8], seen: &[bool]) -> usize
     ensures { λ z. ⌜ place (now (out .exit)) z
         ≡ puts (joined (emptyIn 0 (marksIn (now (seen .entry))) (blockRecordsIn (now (work .entry)) (now (table .entry)))))
@@ -260,7 +265,7 @@ pub fn put_code(out: &mut [u8], at: usize, work: &[u8], table: &[u8], seen: &[bo
     top
 }
 
-// How many records block b has as it is emitted.
+// How many records block b has in its emitted form.
 fn size_at(work: &[u8], table: &[u8], seen: &[bool], b: usize) -> usize
     ensures { λ z. ⌜ z ≡ length (newAt (marksIn (now (seen .entry))) (blockRecordsIn (now (work .entry)) (now (table .entry))) b) ⌝ }
 {
@@ -270,7 +275,8 @@ fn size_at(work: &[u8], table: &[u8], seen: &[bool], b: usize) -> usize
     1
 }
 
-// Where a block of some size ends, with some records put before it; no later than a field can say.
+// Where a block of some size ends, with some records put before it; capped at what a field can
+// hold.
 fn end_after(start: u32, front: u32, size: usize) -> u32
     ensures { λ z. ⌜ z ≡ endAfter start front size ⌝ }
 {
@@ -278,7 +284,8 @@ fn end_after(start: u32, front: u32, size: usize) -> u32
     general::least(start as usize + front as usize + n, 4294967295) as u32
 }
 
-// The records of the emitted blocks, of which the first has keep records more, are written from a place on; returns the next place.
+// Writes the block records of the emitted form, the first with `keep` more instructions; returns
+// the next place.
 pub fn put_heads(
     out: &mut [u8],
     at: usize,
@@ -306,7 +313,7 @@ pub fn put_heads(
     top
 }
 
-// The sum of two counts, no larger than a count can be.
+// The sum of two counts, capped at the largest count.
 pub fn plus(a: usize, b: usize) -> usize
     ensures { λ z. ⌜ z ≡ counted (a + b) ⌝ }
 {
@@ -322,7 +329,7 @@ pub struct Sizes {
     pub code: usize,
 }
 
-// The sizes with block b too: one that stays has its own records; of another some are rescued, and it has a Br.
+// The sizes with block b added: its own records if it stays; else a Br, and those that are rescued.
 fn sized(at: Sizes, work: &[u8], table: &[u8], seen: &[bool], facts: &[u64], b: usize) -> Sizes
     ensures keep { λ z. ⌜ z .keep ≡ counted (at .keep
         + length (lostAt (now (facts .entry)) (marksIn (now (seen .entry))) (blockRecordsIn (now (work .entry)) (now (table .entry))) b)) ⌝ }

@@ -16,7 +16,7 @@ use Rattle.ends.specs.Forms.{Form, const, constF, addrOf, move, bool, bi
 abbrev pub terminatorOf : Inst → Bool
 terminatorOf x = terminatorKind (kindOf x)
 
--- instruction k of some code; past the end that of a blank record
+-- instruction k of some code; past the end, that of a blank record
 abbrev pub codeAt : List Code → ℕ → Code
 codeAt c k = getD c k (codeOf blank)
 

@@ -62,7 +62,7 @@ formOf (i.Ret v) = other
 formOf (i.Unreachable w) = other
 formOf i.Stmt = other
 
--- the value that an instruction writes whatever is read
+-- the value that an instruction writes, whatever it reads
 pub data Fixed : Type 0 where
   -- Const, with v
   word : ℕ → Fixed

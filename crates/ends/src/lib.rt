@@ -17,7 +17,7 @@ pub enum End {
     Other,
 }
 
-// Instruction k of some code; past the end that of a blank record.
+// Instruction k of some code; past the end, that of a blank record.
 pub fn inst_at(code: &[u8], k: usize) -> Inst
     ensures { λ r. ⌜ r ≡ codeAt (codesOf (now (code .entry))) k .inst ⌝ }
 {
@@ -35,7 +35,7 @@ pub fn view_of(i: Inst) -> End
     }
 }
 
-// The same of a record: only its kind and an end's own fields are read.
+// The same for a record: only its kind and the fields of a terminator are read.
 pub fn end_in(r: Record) -> End
     ensures { λ e. ⌜ e ≡ viewOf (instOf r) ⌝ }
 {

@@ -16,7 +16,7 @@ use Rattle.steps.specs.EqualArms.{Arms, reachedFrom}
 use Rattle.equal_arms.specs.declared.Meeting.{Meeting}
 use Rattle.equal_arms.specs.declared.Meeting.the-variants as m
 
--- the code's bytes, and whether some CondBr was written over
+-- the code's bytes, and whether some CondBr was replaced
 pub record Joined : Type 0 where
   pub code : List ℕ
   pub edited : Bool

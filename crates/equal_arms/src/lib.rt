@@ -10,7 +10,7 @@ ghost use Rattle.equal_arms.specs.Joined.{joined, joinMet, joinArms, joi
 use ends::End;
 use inst::BlockId;
 
-// From block b over a lone Br that does not target itself.
+// The block that a lone Br of block b leads to, unless it targets itself; else block b.
 fn past(b: BlockId, e: End) -> BlockId
     ensures { λ r. ⌜ r ≡ blockOf (steps.past (b .0) e) ⌝ }
 {
@@ -39,7 +39,7 @@ fn follow(code: &[u8], table: &[u8], b: BlockId) -> BlockId
     at
 }
 
-// The block that both arms of a block's CondBr reach, if they reach one.
+// The block that both arms of a block's CondBr reach, if it is the same one.
 pub enum Meeting {
     At(BlockId),
     Apart,
@@ -66,7 +66,7 @@ fn meet(code: &[u8], table: &[u8], k: usize) -> Meeting
     }
 }
 
-// Joins the arms of block k where both reach one block; true where they did, or an earlier block's had.
+// Joins the arms of block k if both reach the same block; true if it did, or if `edited` was true.
 fn join_arms(code: &mut [u8], table: &[u8], k: usize, edited: bool) -> bool
     ensures { λ z. ⌜ joined (now (code .exit)) z ≡ joinArms (now (table .entry)) k (joined (now (code .entry)) edited) ⌝ }
 {
@@ -80,7 +80,8 @@ fn join_arms(code: &mut [u8], table: &[u8], k: usize, edited: bool) -> bool
     }
 }
 
-// A glance at two arms: where it says yes, they lead to two blocks, and neither is one instruction alone that leads on.
+// Cheap pre-check of two arms: true implies that they are different blocks and neither leads on
+// over a lone Br.
 fn lead_apart(code: &[u8], table: &[u8], t: BlockId, f: BlockId) -> bool
     ensures { λ z. ⌜ (z ≡ true → (t .0 ≡ f .0 → ⊥)
         × (steps.reachedFrom (blocksOf (now (code .entry)) (now (table .entry))) (t .0) ≡ t .0)
@@ -95,7 +96,7 @@ fn lead_apart(code: &[u8], table: &[u8], t: BlockId, f: BlockId) -> bool
     !blocks::is_lone(code, table, f)
 }
 
-// A glance at block k: where it says yes, it has no arms, or they don't meet.
+// Cheap pre-check of block k: true implies that it has no arms, or that they don't meet.
 fn apart(code: &[u8], table: &[u8], k: usize) -> bool
     ensures { λ z. ⌜ (z ≡ true → (edited : Bool)
         → joinArms (now (table .entry)) k (joined (now (code .entry)) edited) ≡ joined (now (code .entry)) edited) ⌝ }
@@ -109,7 +110,7 @@ fn apart(code: &[u8], table: &[u8], k: usize) -> bool
     }
 }
 
-// The first block from `first` on whose arms may meet, or the end: most blocks are passed here, at little cost.
+// The first block from `first` on whose arms may meet, or the end. Skips most blocks cheaply.
 fn next_meeting(code: &[u8], table: &[u8], first: usize) -> usize
     ensures { λ z. ⌜ (first ≤ z) × ((edited : Bool)
         → joinFrom (now (table .entry)) (length (now (table .entry)) / 32 - z) z (joined (now (code .entry)) edited)
@@ -126,7 +127,8 @@ fn next_meeting(code: &[u8], table: &[u8], first: usize) -> usize
     k
 }
 
-// Each CondBr whose arms reach one block becomes a Br there, blocks ascending; true where one did.
+// Turns each CondBr whose arms reach the same block into a Br to it, in block order; true if there
+// was one.
 pub fn equal_arms(code: &mut [u8], table: &[u8]) -> bool
     ensures { λ z. ⌜ joined (now (code .exit)) z ≡ equalArmsIn (now (table .entry)) (now (code .entry)) ⌝ }
 {
@@ -140,7 +142,7 @@ pub fn equal_arms(code: &mut [u8], table: &[u8]) -> bool
     edited
 }
 
-// No block's arms meet, so that `equal_arms` would leave the code as it is.
+// True implies that no block's arms meet, so `equal_arms` would leave the code as it is.
 pub fn none_meet(code: &[u8], table: &[u8]) -> bool
     ensures { λ z. ⌜ (z ≡ true → equalArmsIn (now (table .entry)) (now (code .entry)) ≡ joined (now (code .entry)) false) ⌝ }
 {

@@ -1,4 +1,4 @@
--- Storage, not the paper's: how a slice of words stands for the facts that Thread asks of a file.
+-- Storage, not the paper's: how a slice of words represents the facts that Thread needs about a file.
 -- Five words a register: its kind, its definitions, its uses, its class, and the v of its Const.
 use Prim.Native.Nat.{ℕ, zero, suc, _+_, _*_, _/_, min}
 use mathlib.Core.List.{List, [], _∷_, _++_, map}
@@ -19,7 +19,7 @@ unfoldable pub tabled : {A : Type 0} → ℕ → (ℕ → A) → List A
 tabled zero f = []
 tabled (suc n) f = tabled n f ++ (f n ∷ [])
 
--- the same, of rows
+-- the same for rows
 unfoldable pub rows : ℕ → (ℕ → List ℕ) → List ℕ
 rows zero f = []
 rows (suc n) f = rows n f ++ f n
@@ -37,7 +37,7 @@ classOf (some v) konst = 1
 classOf none true = 2
 classOf none false = 0
 
--- where the count of uses ends
+-- the highest count of uses
 abbrev pub cap : ℕ
 cap = 4294967295
 
@@ -50,17 +50,17 @@ rowOf kinds ops c r =
     ∷ valueOr 0 (constOf c r)
     ∷ []
 
--- a table once it is filled: a row for each register that it has room for, and behind them what stood there
+-- a table once it is filled: a row for each register that it has room for, and after them what was there
 unfoldable pub tableOf : List ℕ → List ℕ → List ℕ → List Code → List ℕ
 tableOf t kinds ops c =
     let n = min (length kinds) (length t / 5) in
     rows n (rowOf kinds ops c) ++ drop (5 * n) t
 
--- word j of a register's row; d where the table has no such row
+-- word j of a register's row; d if the table has no such row
 unfoldable pub cell : List ℕ → ℕ → ℕ → ℕ → ℕ
 cell t r j d = cond (ltb r (length t / 5)) (getD t (5 * r + j) 0) d
 
--- what a table says. A kind is 5 at most, as is that of a register without a row
+-- what a table says. A kind is at most 5, and 5 for a register without a row
 unfoldable pub kindsIn : List ℕ → List ℕ
 kindsIn t = tabled (length t / 5) (λ r. min 5 (getD t (5 * r + 0) 0))
 

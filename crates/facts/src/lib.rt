@@ -11,7 +11,7 @@ pub enum Word {
     None,
 }
 
-// Word j of a register's row, or another where it has none.
+// Word j of a register's row, or a default if it has no row.
 fn cell_of(table: &[u64], r: Reg, j: usize, other: u64) -> u64
     requires { ⌜ j < 5 ⌝ }
     ensures { λ z. ⌜ z ≡ cell (now (table .entry)) (r .0) j other ⌝ }
@@ -41,7 +41,7 @@ pub fn kind_of(table: &[u64], r: Reg) -> u8
     5
 }
 
-// Written by one field of the code.
+// Whether exactly one field of the code writes it.
 pub fn is_single(table: &[u64], r: Reg) -> bool
     ensures { λ z. ⌜ z ≡ singleIn (now (table .entry)) (r .0) ⌝ }
 {
@@ -54,7 +54,7 @@ pub fn uses_of(table: &[u64], r: Reg) -> u64
     cell_of(table, r, 2, 0)
 }
 
-// The source's kc: the v of a register that a Const alone writes.
+// The Rust's kc: the v of a register that only a Const writes.
 pub fn const_of(table: &[u64], r: Reg) -> Word
     ensures { λ z. ⌜ wordIn z ≡ constAt (now (table .entry)) (r .0) ⌝ }
 {
@@ -64,7 +64,7 @@ pub fn const_of(table: &[u64], r: Reg) -> Word
     Word::None
 }
 
-// The source's kdef: a register that a Const, a ConstF or a non-Up AddrOf alone writes.
+// The Rust's kdef: whether only one Const, ConstF or non-Up AddrOf writes the register.
 pub fn is_konst(table: &[u64], r: Reg) -> bool
     ensures { λ z. ⌜ z ≡ konstAt (now (table .entry)) (r .0) ⌝ }
 {

@@ -12,14 +12,14 @@ ghost use Rattle.blocks.specs.Blocks.{blocksOf};
 use ends::End;
 use inst::BlockId;
 
-// The end of block k where it holds nothing else.
+// The end of block k, if the block holds nothing else.
 pub fn lone_at(code: &[u8], table: &[u8], k: BlockId) -> End
     ensures { λ r. ⌜ r ≡ loneOf (getD (blocksOf (now (code .entry)) (now (table .entry))) (k .0) []) ⌝ }
 {
     ends::lone_of(blocks::block(code, table, k))
 }
 
-// A Br or CondBr to block b or before.
+// Whether it is a Br or CondBr to block b or an earlier one.
 fn goes_back(b: usize, e: End) -> bool
     ensures { λ z. ⌜ z ≡ anyOf (λ (t : ℕ). leb t b) (targets e) ⌝ }
 {
@@ -31,7 +31,7 @@ fn goes_back(b: usize, e: End) -> bool
     }
 }
 
-// Some Br or CondBr targets its own or an earlier block.
+// Whether some Br or CondBr targets its own or an earlier block.
 pub fn has_back_edge(code: &[u8], table: &[u8]) -> bool
     ensures { λ z. ⌜ z ≡ steps.hasBackEdge (blocksOf (now (code .entry)) (now (table .entry))) ⌝ }
 {
@@ -57,14 +57,14 @@ fn is_cond_br(e: End) -> bool
     }
 }
 
-// Block k is nothing but a CondBr.
+// Whether block k is nothing but a CondBr.
 fn lone_cond_br(code: &[u8], table: &[u8], k: BlockId) -> bool
     ensures { λ z. ⌜ z ≡ steps.isCondBr (loneOf (getD (blocksOf (now (code .entry)) (now (table .entry))) (k .0) [])) ⌝ }
 {
     is_cond_br(lone_at(code, table, k))
 }
 
-// Block l is small and no latch.
+// Whether block l is small and not a latch.
 pub fn copied(code: &[u8], table: &[u8], l: BlockId, wide: bool) -> bool
     ensures { λ z. ⌜ z ≡ steps.copied wide (blocksOf (now (code .entry)) (now (table .entry))) (l .0) ⌝ }
 {
@@ -89,7 +89,7 @@ fn may_hop(code: &[u8], table: &[u8], a: usize, wide: bool) -> bool
     }
 }
 
-// A glance at block a: where it says no, `may_hop` does.
+// Cheap pre-check of block a: false implies that `may_hop` is false.
 fn could_hop(code: &[u8], table: &[u8], a: usize) -> bool
     ensures { λ z. ⌜ (z ≡ false → (wide : Bool)
         → steps.mayHop wide (blocksOf (now (code .entry)) (now (table .entry)))
@@ -114,7 +114,7 @@ fn could_hop(code: &[u8], table: &[u8], a: usize) -> bool
     }
 }
 
-// The first block from `first` on that could hop, or the end: most blocks are passed here, at little cost.
+// The first block from `first` on that could hop, or the end. Skips most blocks cheaply.
 fn next_hop(code: &[u8], table: &[u8], first: usize) -> usize
     ensures { λ z. ⌜ (first ≤ z) × ((wide : Bool)
         → steps.mayThreadFrom wide (blocksOf (now (code .entry)) (now (table .entry))) z (drop z (blocksOf (now (code .entry)) (now (table .entry))))
@@ -132,7 +132,7 @@ fn next_hop(code: &[u8], table: &[u8], first: usize) -> usize
     a
 }
 
-// Some block has a Br that a copy may replace, or a CondBr with an arm to a lone CondBr.
+// Whether some block has a Br that a copy may replace, or a CondBr with an arm to a lone CondBr.
 pub fn may_thread(code: &[u8], table: &[u8], wide: bool) -> bool
     ensures { λ z. ⌜ z ≡ steps.mayThread wide (blocksOf (now (code .entry)) (now (table .entry))) ⌝ }
 {

@@ -1,8 +1,8 @@
-// Laws of Booleans, numbers and lists, for any crate, and the lesser of two numbers.
+// Laws of Booleans, numbers and lists, for any crate, and the smaller of two numbers.
 ghost use mathlib.Core.Path.{_≡_};
 ghost use Prim.Native.Nat.{min};
 
-// The lesser of two numbers.
+// The smaller of two numbers.
 pub fn least(a: usize, b: usize) -> usize
     ensures { λ r. ⌜ r ≡ min a b ⌝ }
 {

@@ -1,4 +1,4 @@
--- Storage, not the paper's: what a hop of a Br is told, and what it leaves of the code, the block table and the kinds of the new registers.
+-- Storage, not the paper's: what a hop of a Br gets, and how it leaves code, block table and the new registers' kinds.
 use Prim.Native.Nat.{ℕ, suc, _+_, min}
 use mathlib.Core.List.{List, [], _∷_}
 use mathlib.Core.Option.{Option}
@@ -21,7 +21,7 @@ unfoldable pub kindsPut : List ℕ → ℕ → List ℕ → List ℕ
 kindsPut b at [] = b
 kindsPut b at (k ∷ ks) = kindsPut (set b at k) (suc at) ks
 
--- the number of the next new register, one of 16 bits
+-- the number of the next new register, at most 16 bits
 abbrev pub nextIn : List ℕ → ℕ → ℕ
 nextIn facts fresh = min (length (kindsIn facts) + fresh) 65535
 
@@ -29,7 +29,7 @@ nextIn facts fresh = min (length (kindsIn facts) + fresh) 65535
 abbrev pub targetIn : Arena → ℕ → List Code
 targetIn s l = take 4 (codesOf (blockBytes (s .work) (s .table) l))
 
--- its copy, where fresh new registers were given before, and the kinds of the copy's own
+-- its copy, after `fresh` new registers were given, and the kinds of the copy's own new registers
 module _ (facts : List ℕ) (body : Option ℕ) (budget : ℕ) where
   abbrev pub copyIn : ℕ → List Code → List Code
   copyIn fresh c = copyOf (factsIn facts body budget) c (nextIn facts fresh)
@@ -43,11 +43,11 @@ cut a s =
     let t = pop a (topped (s .table) (s .top)) in
     arena (s .work) (t .table) (t .top)
 
--- block a, made the last, with some code in place of its last record
+-- block a, moved to the top, with some code in place of its last record
 unfoldable pub replaced : ℕ → List Code → Arena → Arena
 replaced a c s = pushAll a c (cut a (toEnd a s))
 
--- what is left of the arena and of the kinds, and how many instructions and new registers came
+-- the arena and the kinds afterwards, and how many instructions and new registers were added
 pub record Left : Type 0 where
   pub blocks : Arena
   pub kinds : List ℕ
@@ -57,7 +57,7 @@ pub record Left : Type 0 where
 abbrev pub left : Arena → List ℕ → ℕ → ℕ → Left
 left blocks kinds n fresh = record { blocks = blocks; kinds = kinds; n = n; fresh = fresh }
 
--- the Br that block a ends with replaced by block l's code
+-- the Br at the end of block a replaced by block l's code
 abbrev pub joinOf : List ℕ → Option ℕ → ℕ → ℕ → ℕ → ℕ → Arena → List ℕ → Left
 joinOf facts body budget a l fresh s kinds =
     let c = targetIn s l in

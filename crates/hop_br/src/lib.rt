@@ -1,4 +1,4 @@
-// A hop over a Br: whether it stays, or gives way to its target's code.
+// A hop over a Br: whether it stays, or is replaced by its target's code.
 ghost use mathlib.Core.Path.{_≡_};
 ghost use mathlib.Core.List.{map};
 ghost use mathlib.Core.Bool.{_&&_};
@@ -18,14 +18,15 @@ use inst::BlockId;
 use inst::Reg;
 use pause::Pause;
 
-// In a process, the code reads or writes such a register.
+// Whether there is a body and the code reads or writes a register that only one constant writes.
 fn binds(code: &[u8], facts: &[u64], wide: bool) -> bool
     ensures { λ z. ⌜ z ≡ (wide && small.readsKonst (konstAt (now (facts .entry))) (codesOf (now (code .entry)))) ⌝ }
 {
     wide && reads_konst::reads_konst(code, facts)
 }
 
-// A Br of block a to block l stays: l is block a or the body, or binds a process; enough was copied; or l is none to copy.
+// Whether a Br of block a to block l stays: l is a or the body, `binds` holds, enough was copied,
+// or l can't be copied.
 pub fn stops(
     code: &[u8],
     table: &[u8],
@@ -55,7 +56,7 @@ pub fn stops(
     !gate::copied(code, table, l, wide)
 }
 
-// What a join leaves: the new top, and how many instructions and new registers came.
+// What a join leaves: the new top, and how many instructions and new registers were added.
 pub struct Joined {
     pub top: usize,
     pub n: usize,
@@ -80,7 +81,7 @@ fn kind_at(facts: &[u64], r: Reg) -> u8
     facts::kind_of(facts, r)
 }
 
-// The kinds of the first n of some registers, written from a place on.
+// Writes the kinds of the first n of some registers from a place on.
 fn put_kinds(kinds: &mut [u8], facts: &[u64], old: [Reg; 4], n: usize, from: usize)
     ensures { λ u. ⌜ now (kinds .exit) ≡ kindsPut (now (kinds .entry)) from
         (map (λ (d : ℕ). getD (kindsIn (now (facts .entry))) d 0) (take n (numbersOf old))) ⌝ }
@@ -99,7 +100,7 @@ fn put_kinds(kinds: &mut [u8], facts: &[u64], old: [Reg; 4], n: usize, from: usi
     }
 }
 
-// The Br that block a ends with is replaced by the code of block l.
+// Replaces the Br at the end of block a by the code of block l.
 pub fn join(
     work: &mut [u8],
     table: &mut [u8],

@@ -21,7 +21,7 @@ use Rattle.note.specs.Noted.{enough}
 use Rattle.hop_cond_br.specs.declared.Turn.{Turn}
 use Rattle.hop_cond_br.specs.declared.Turn.the-variants as u
 
--- the code's bytes, and how the hops go on
+-- the code's bytes, and whether the hops go on
 pub record Turned : Type 0 where
   pub code : List ℕ
   pub turn : Turn
@@ -31,7 +31,7 @@ turned code turn = record { code = code; turn = turn }
 
 -- block a of a table
 module _ (table : List ℕ) (a : ℕ) where
-  -- an arm as it is taken, by the blocks as they stand
+  -- an arm after passing over a lone CondBr, by the current blocks
   abbrev pub armIn : List ℕ → Option ℕ → ℕ → Bool → ℕ → ℕ
   armIn code body c truth l = armOf (factsIn [] body 0) (unthreaded (blocksOf code table)) a c truth l
 
@@ -39,7 +39,7 @@ module _ (table : List ℕ) (a : ℕ) where
   turnIf true code c t e = turned code u.Stay
   turnIf false code c t e = turned (endRewritten code (recordAt table a) (i.CondBr (regOf c) (blockOf t) (blockOf e))) u.Last
 
-  -- the CondBr with c′ for c, and each arm as it is taken
+  -- the CondBr with c′ for c, and with these arms
   abbrev pub turnIn : List ℕ → Option ℕ → ℕ → ℕ → ℕ → ℕ → Turned
   turnIn code body c t e c′ =
       let t′ = armIn code body c′ true t in
@@ -66,7 +66,7 @@ module _ (table : List ℕ) (a : ℕ) where
   abbrev pub roomIn : List ℕ → List ℕ → List ℕ → Bool
   roomIn code known copy = enough (length (before code)) known copy
 
-  -- CondBr c t e; nothing is written where there is no room to note what is known
+  -- CondBr c t e; nothing is written if there is no room to note what is known
   unfoldable pub turnedIn : List ℕ → Option ℕ → List ℕ → ℕ → ℕ → ℕ → Bool → Turned
   turnedIn facts body code c t e true =
       let f = factsIn facts body 0 in

@@ -1,4 +1,4 @@
-// A hop over a CondBr: decided by a known value, or turned past a block that tests the same register.
+// A hop over a CondBr: it is decided by a known value, or skips a block that tests the same register.
 ghost use mathlib.Core.Path.{_≡_};
 ghost use mathlib.Core.Bool.{_&&_};
 ghost use lib.Dec.{eqb};
@@ -15,14 +15,15 @@ use inst::Reg;
 use note::Noted;
 use pause::Pause;
 
-// Nothing was written; or the block's last instruction was, and no hop follows, or the next one.
+// Nothing was written; or the block's last instruction was, and no more hops follow; or it was, and
+// the next hop follows.
 pub enum Turn {
     Stay,
     Last,
     Next,
 }
 
-// The arm of a CondBr that tests c again.
+// The arm that a lone CondBr takes if it tests c again; else l.
 fn matching(truth: bool, c: Reg, l: BlockId, e: End) -> BlockId
     ensures { λ z. ⌜ z ≡ blockOf (steps.matching truth (c .0) (l .0) e) ⌝ }
 {
@@ -39,7 +40,7 @@ fn matching(truth: bool, c: Reg, l: BlockId, e: End) -> BlockId
     }
 }
 
-// An edge into a block that only tests the same register again.
+// An arm, with the block l passed over if it only tests c again.
 fn arm_of(
     code: &[u8],
     table: &[u8],
@@ -60,7 +61,7 @@ fn arm_of(
     matching(truth, c, l, gate::lone_at(code, table, l))
 }
 
-// Nothing differs.
+// Whether register and arms are all the same.
 fn same(c: Reg, t: BlockId, e: BlockId, d: Reg, x: BlockId, y: BlockId) -> bool
     ensures { λ z. ⌜ z ≡ (eqb (d .0) (c .0) && eqb (x .0) (t .0) && eqb (y .0) (e .0)) ⌝ }
 {
@@ -73,7 +74,7 @@ fn same(c: Reg, t: BlockId, e: BlockId, d: Reg, x: BlockId, y: BlockId) -> bool
     y.0 == e.0
 }
 
-// CondBr c t e of block a: d is the register that it tests, and each arm is as it is taken.
+// Rewrites CondBr c t e of block a to test d, with the arms that `arm_of` gives.
 fn rewrite(
     code: &mut [u8],
     table: &[u8],
@@ -102,7 +103,7 @@ fn choose(v: u64, t: BlockId, e: BlockId) -> BlockId
     if v != 0 { t } else { e }
 }
 
-// A known value makes a Br.
+// Turns the CondBr into a Br, by a known value.
 fn fold(code: &mut [u8], table: &[u8], a: BlockId, v: u64, t: BlockId, e: BlockId) -> Turn
     ensures { λ z. ⌜ turned (now (code .exit)) z ≡ foldIn (now (table .entry)) (a .0) (now (code .entry)) v (t .0) (e .0) ⌝ }
 {

@@ -1,4 +1,4 @@
-// The kinds by name, where a record is looked at and not its instruction.
+// Names for the kinds, for code that looks at a record and not at its instruction.
 pub const CONST: u32 = 0;
 
 pub const CONST_F: u32 = 1;

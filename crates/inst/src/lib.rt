@@ -11,7 +11,7 @@ pub struct BlockId(pub u32);
 
 pub struct StmtId(pub u32);
 
-// The source's Option<Reg>.
+// The Rust's Option<Reg>.
 pub enum OptReg {
     Some(Reg),
     None,
@@ -212,7 +212,8 @@ pub struct Block {
     pub end: u32,
 }
 
-// An arm as its record has it: with its table, and whether it is the default, whose bounds are zero.
+// An arm as its record has it: with its table, and whether it is the default (then its bounds are
+// zero).
 pub struct ArmEntry {
     pub table: u32,
     pub low: u64,

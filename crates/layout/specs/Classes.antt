@@ -13,7 +13,7 @@ use Rattle.layout.specs.declared.Layout.{Layout}
 abbrev pub inOrder : ℕ → Record → Bool
 inOrder prev r = right r && leb prev (r .class)
 
--- how many records stand before the first that is wrong in itself or its class order
+-- how many records come before the first that is wrong in itself or its class order
 abbrev pub ordered : List Record → ℕ
 ordered rs = walk inOrder (λ prev r. r .class) 1 rs
 
@@ -27,7 +27,7 @@ unfoldable pub before : ℕ → List Record → ℕ
 before c [] = 0
 before c (r ∷ rs) = cond (ltb (r .class) c) (suc (before c rs)) (before c rs)
 
--- where each class starts in a file whose records are all right and in order, and where all end; else where the first stands that isn't
+-- if all records are valid and in order: where each class starts and the last ends; else the first record that isn't
 abbrev pub layoutOf : List Record → Layout
 layoutOf rs =
     cond (eqb (ordered rs) (length rs))

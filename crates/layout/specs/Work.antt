@@ -1,4 +1,4 @@
--- A work definition, for contracts between functions alone: the right records of one class.
+-- A work definition, only for contracts between functions: the valid records of one class.
 use Prim.Native.Nat.{ℕ}
 use mathlib.Core.Bool.{Bool, _&&_}
 use lib.Dec.{eqb}

@@ -10,7 +10,8 @@ ghost use Rattle.layout.specs.Classes.{layoutOf};
 ghost use Rattle.layout.specs.Work.{rightOf};
 use records::Record;
 
-// Where the records of each class start in a file, and where all end: registers start at 0.
+// Where the records of each class from 2 on start in a file, and where the last end. Registers
+// start at 0.
 pub struct Layout {
     pub blocks: usize,
     pub bodies: usize,
@@ -20,14 +21,14 @@ pub struct Layout {
     pub end: usize,
 }
 
-// The record is of the class, and right in itself.
+// Whether the record is of the class and valid by itself.
 fn right_of(class: u32, r: Record) -> bool
     ensures { λ z. ⌜ z ≡ rightOf class r ⌝ }
 {
     r.class == class && record_rules::fit::right(r)
 }
 
-// The end of the right records of one class that stand together from `first` on.
+// The end of the run of valid records of one class that starts at `first`.
 fn span(b: &[u8], first: usize, class: u32) -> usize
     requires { ⌜ first ≤ length (recordsOf (now b)) ⌝ }
     ensures { λ r. ⌜ r ≡ first + lead (rightOf class) (drop first (recordsOf (now (b .entry)))) ⌝ }

@@ -1,6 +1,6 @@
 -- Demand 3, "one claim about the two whole runs, as sent and as shortened": the shortened form's whole run does the original's
 -- acts, in order, with their values and statements, within the original's instruction count plus the rescued constants for each
--- entry into block 0; it does no other act; it ends if and only if the original does, and alike.
+-- entry into block 0; it does no other act; it ends if and only if the original does, and in the same way.
 use Prim.Native.Nat.{ℕ, _+_, _*_, _≤_, _<_}
 use mathlib.Core.Path.{_≡_}
 use lib.ListN.{length}
@@ -26,9 +26,9 @@ module _ (outside : Outside) (address : Address) (p : Procedure) (block : ℕ) (
 
 -- Two whole runs, each by what it shows after its first instructions.
 pub record Alike (bound : ℕ → ℕ) (original shortened : ℕ → Shown) : Type 0 where
-  -- it does the original's acts, in order, with their values and statements, within the bound, and ends if the original does, and alike
+  -- it does the original's acts, in order, with values and statements, within the bound, and ends alike if the original ends
   pub there : (N : ℕ) → (M : ℕ) × (M ≤ bound N) × (shortened M ≡ original N)
-  -- it does no other act, and ends only if the original does, and alike
+  -- it does no other act, and ends only if the original does, and in the same way
   pub back : (M : ℕ) → (N : ℕ) × (shortened M ≡ original N)
 
 -- The runs of p and q from one block. The bound is made of the original's instructions and its entries into block 0.

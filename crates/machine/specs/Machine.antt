@@ -24,7 +24,7 @@ abbrev pub Address : Type 0
 Address = AddrSpace → ℕ → ℕ
 
 -- "The outside, knowing earlier acts and this one, gives the written values, stored in role order, or ends the run":
--- one value for each written register; of a list that is too short the rest are 0, of one too long they aren't used
+-- one value for each written register; if the list is too short the missing ones are 0, if too long the rest isn't used
 abbrev pub Outside : Type 0
 Outside = List Act → Act → Option (List ℕ)
 
@@ -92,7 +92,7 @@ abbrev pub stores : List ℕ → List ℕ → Regs → Regs
 stores [] vs g = g
 stores (r ∷ rs) vs g = stores rs (drop 1 vs) (upd r (getD vs 0 0) g)
 
--- a run: the code of its block that is left, the registers and the acts done, in order; or the acts done and its end
+-- a run: the code left to do in its block, the registers and the acts done, in order; or the acts done and how it ended
 pub data State : Type 0 where
   at : List Code → Regs → List Act → State
   done : List Act → End → State
@@ -155,7 +155,7 @@ module _ (outside : Outside) (address : Address) (p : Procedure) where
   entered zero s = 0
   entered (suc n) s = entry s + entered n (step s)
 
--- what is seen of a run: the acts done, and how it has ended, if it has
+-- what a run shows: the acts done, and how it has ended, if it has
 pub record Shown : Type 0 where
   pub acts : List Act
   pub end : Option End

@@ -41,6 +41,6 @@ single address p r = singleIn address (joined (p .blocks)) r
 abbrev pub Loaded : Address → Procedure → Regs → Type 0
 Loaded address p g = (r v : ℕ) → single address p r ≡ some v → g r ≡ v
 
--- given registers with the single constants loaded over them
+-- some registers with the single constants loaded into them
 abbrev pub load : Address → Procedure → Regs → Regs
 load address p g = λ r. valueOr (g r) (single address p r)

@@ -1,1 +1,1 @@
-// Definitions alone: document 01's machine, and demand 3 about two of its runs.
+// Only definitions: document 01's machine, and demand 3 about two of its runs.

@@ -1,4 +1,4 @@
--- Storage, not the paper's: how two slices stand for the known values and the copies that `note` gathers.
+-- Storage, not the paper's: how two slices represent the known values and the copies that `note` gathers.
 -- An entry is two words, a register and its value, or a register and the source that it copies.
 use Prim.Native.Nat.{ℕ, _+_, _*_, _/_, _≤_, min}
 use mathlib.Core.Path.{_≡_}
@@ -20,12 +20,12 @@ entries n l = tabled (min n (length l / 2)) (entry l)
 abbrev pub heldIn : Held → List ℕ → List ℕ → Known
 heldIn h known copy = record { values = entries (h .known) known; copies = entries (h .copy) copy }
 
--- entries but those that pass a test
+-- the entries that don't pass a test
 unfoldable pub without : ((ℕ × ℕ) → Bool) → List (ℕ × ℕ) → List (ℕ × ℕ)
 without p [] = []
 without p (x ∷ xs) = cond (p x) (without p xs) (x ∷ without p xs)
 
--- one entry more, where there is room
+-- one more entry, if there is room
 abbrev pub added : ℕ → List ℕ → (ℕ × ℕ) → List (ℕ × ℕ)
 added n l x = cond (ltb n (length l / 2)) (entries n l ++ (x ∷ [])) (entries n l)
 

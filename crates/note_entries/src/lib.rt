@@ -13,14 +13,15 @@ ghost use Rattle.note_entries.specs.Storage.{entry, entries, heldIn, Add
 use facts::Word;
 use inst::Reg;
 
-// How many entries there are of known values, and of copies. They stand at the front of two lent slices, two words
+// How many entries there are of known values, and of copies. They are at the front of two lent
+// slices, two words
 // each: a register and its value, a register and the source that it copies.
 pub struct Held {
     pub known: usize,
     pub copy: usize,
 }
 
-// 0 for a value that a write of d ends, else 1.
+// 0 for a value that is forgotten when d is written, else 1.
 fn value_kept(r: u64, d: u64) -> usize
     ensures { λ z. ⌜ z ≡ cond (eqb r d) 0 1 ⌝ }
 {
@@ -30,7 +31,7 @@ fn value_kept(r: u64, d: u64) -> usize
     1
 }
 
-// 0 for a copy that a write of d ends, else 1.
+// 0 for a copy that is forgotten when d is written, else 1.
 fn copy_kept(r: u32, s: u32, d: u32) -> usize
     ensures { λ z. ⌜ z ≡ cond (eqb r d || eqb s d) 0 1 ⌝ }
 {
@@ -43,7 +44,7 @@ fn copy_kept(r: u32, s: u32, d: u32) -> usize
     1
 }
 
-// Keeps, in order, the values that a write of d does not end.
+// Keeps, in order, the values that aren't forgotten when d is written.
 fn retain_values(known: &mut [u64], n: usize, d: u64) -> usize
     requires { ⌜ n ≤ length (now known) / 2 ⌝ }
     ensures { λ z. ⌜ (entries z (now (known .exit)) ≡ valuesWithout d (tabled n (entry (now (known .entry))))) × (z ≤ n) ⌝ }
@@ -61,7 +62,7 @@ fn retain_values(known: &mut [u64], n: usize, d: u64) -> usize
     z
 }
 
-// Keeps, in order, the copies that a write of d does not end.
+// Keeps, in order, the copies that aren't forgotten when d is written.
 fn retain_copies(copy: &mut [u32], n: usize, d: u32) -> usize
     requires { ⌜ n ≤ length (now copy) / 2 ⌝ }
     ensures { λ z. ⌜ (entries z (now (copy .exit)) ≡ copiesWithout d (tabled n (entry (now (copy .entry))))) × (z ≤ n) ⌝ }
@@ -142,7 +143,7 @@ pub fn value_of(known: &[u64], h: Held, facts: &[u64], r: Reg) -> Word
     }
 }
 
-// One value more; none where the slice has no room.
+// Adds a known value, if the slice has room.
 pub fn add_value(known: &mut [u64], n: usize, d: Reg, v: u64) -> usize
     ensures { λ z. ⌜ Added n z (now (known .entry)) (now (known .exit)) (d .0, v) ⌝ }
 {
@@ -154,7 +155,7 @@ pub fn add_value(known: &mut [u64], n: usize, d: Reg, v: u64) -> usize
     n + 1
 }
 
-// One copy more; none where the slice has no room.
+// Adds a copy, if the slice has room.
 pub fn add_copy(copy: &mut [u32], n: usize, d: Reg, s: Reg) -> usize
     ensures { λ z. ⌜ Added n z (now (copy .entry)) (now (copy .exit)) (d .0, s .0) ⌝ }
 {

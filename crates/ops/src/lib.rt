@@ -187,7 +187,7 @@ pub fn space_num(x: AddrSpace) -> u32
     }
 }
 
-// The number that a space carries, 0 where it carries none.
+// The number that a space carries, 0 if it carries none.
 pub fn space_arg(x: AddrSpace) -> u32
     ensures { λ r. ⌜ r ≡ spaceArg x ⌝ }
 {
@@ -219,7 +219,7 @@ pub fn opt_num(x: OptReg) -> u32
     }
 }
 
-// The register, 0 where there is none.
+// The register, 0 if there is none.
 pub fn opt_arg(x: OptReg) -> u32
     ensures { λ r. ⌜ r ≡ optArg x ⌝ }
 {

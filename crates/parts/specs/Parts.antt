@@ -7,7 +7,7 @@ use Rattle.records.specs.declared.Record.{Record}
 use Rattle.layout.specs.declared.Layout.{Layout}
 use Rattle.layout.specs.Walk.{lead}
 
--- the end of the records of a class before c that stand together from a place on
+-- the end of the run of records, from a place on, whose class is below c
 abbrev pub startAt : ℕ → ℕ → List Record → ℕ
 startAt c first rs = first + lead (λ r. ltb (r .class) c) (drop first rs)
 
@@ -20,7 +20,7 @@ startsIn rs =
     let arms = startAt 6 operands rs in
     record { blocks = blocks; bodies = bodies; code = code; operands = operands; arms = arms; end = length rs }
 
--- the bytes of the records from a place to another, as far as there are such
+-- the bytes of the records from one place to another, as far as they exist
 abbrev pub partOf : List ℕ → ℕ → ℕ → List ℕ
 partOf b first end =
     let e = min end (length b / 32) in

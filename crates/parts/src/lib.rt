@@ -1,10 +1,10 @@
-// A file that is read, cut into the bytes of its classes.
+// An accepted file, cut into the bytes of its classes.
 ghost use mathlib.Core.Path.{_≡_};
 ghost use Rattle.records.specs.Record.{recordsOf};
 ghost use Rattle.parts.specs.Parts.{startAt, startsIn, partOf};
 use layout::Layout;
 
-// The end of the records of a class before `class` that stand together from `first` on.
+// The end of the run of records, from `first` on, whose class is below `class`.
 fn start_of(b: &[u8], first: usize, class: u32) -> usize
     ensures { λ r. ⌜ r ≡ startAt class first (recordsOf (now (b .entry))) ⌝ }
 {
@@ -38,7 +38,7 @@ pub fn starts(b: &[u8]) -> Layout
     }
 }
 
-// The bytes of the records from `first` to `end`, as far as there are such.
+// The bytes of the records from `first` to `end`, as far as they exist.
 pub fn part<'a>(b: &'a [u8], first: usize, end: usize) -> &'a [u8]
     ensures { λ r. ⌜ now r ≡ partOf (now (b .entry)) first end ⌝ }
 {

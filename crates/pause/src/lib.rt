@@ -4,13 +4,14 @@ ghost use Rattle.procedure.specs.Lists.{present, holds};
 ghost use Rattle.pause.specs.Storage.{bodyIn};
 use inst::BlockId;
 
-// The source's Option<usize>: the block that a process pauses at before its first run, the file's body.
+// The Rust's Option<usize>: the block that a process pauses at before its first run, the file's
+// body.
 pub enum Pause {
     At(BlockId),
     Nowhere,
 }
 
-// Block l is the body.
+// Whether block l is the body.
 pub fn is_pause(pause: Pause, l: BlockId) -> bool
     ensures { λ z. ⌜ z ≡ holds (bodyIn pause) (l .0) ⌝ }
 {
@@ -20,7 +21,7 @@ pub fn is_pause(pause: Pause, l: BlockId) -> bool
     }
 }
 
-// There is a body.
+// Whether there is a body.
 pub fn has_pause(pause: Pause) -> bool
     ensures { λ z. ⌜ z ≡ present (bodyIn pause) ⌝ }
 {

@@ -10,7 +10,7 @@ unfoldable pub anyOf : {A : Type 0} → (A → Bool) → List A → Bool
 anyOf p [] = false
 anyOf p (x ∷ xs) = p x || anyOf p xs
 
--- how often a number stands in a list
+-- how often a number is in a list
 unfoldable pub times : ℕ → List ℕ → ℕ
 times r [] = 0
 times r (x ∷ xs) = cond (eqb r x) 1 0 + times r xs

@@ -40,7 +40,7 @@ codesOf b = map codeOf (recordsOf b)
 abbrev pub armOf : Record → Arm
 armOf r = record { low = wordOf (r .p2) (r .p3); high = wordOf (r .p4) (r .p5); target = r .p6 }
 
--- the tables of some arms; those of the table that is open come before them
+-- the tables of some arms, after the arms so far of the table that isn't finished
 unfoldable pub tablesFrom : List Arm → List Record → List Table
 tablesFrom seen [] = []
 tablesFrom seen (r ∷ rs) =

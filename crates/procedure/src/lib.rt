@@ -1,1 +1,1 @@
-// Definitions alone: document 01's procedure, as the steps and the machine see it.
+// Only definitions: document 01's procedure, as the steps and the machine see it.

@@ -1,4 +1,4 @@
--- Demand 3 over files: of bytes that Shorten accepts, the procedure that is sent and the one that is written, with the answer's rescued.
+-- Demand 3 for files: the procedure in the bytes sent, the one in the bytes that Shorten writes, and the answer's rescued.
 use Prim.Native.Nat.{ℕ}
 use mathlib.Core.Path.{_≡_}
 use mathlib.Core.List.{List}
@@ -13,8 +13,8 @@ use Rattle.machine.specs.Demand.{Demand3}
 abbrev pub held : List ℕ → Procedure
 held b = procedureOf (recordsOf b)
 
--- of a file's bytes and the output buffer at entry: where Shorten accepts the file, and its procedure is tidy, the shortened
--- form's whole run is the original's
+-- for a file's bytes and the output buffer at entry: if Shorten accepts the file and its procedure is tidy, the shortened
+-- form's whole run does what the original's does
 abbrev pub Promise : List ℕ → List ℕ → Type 0
 Promise b out =
     let r = shorten b out in

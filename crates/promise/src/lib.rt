@@ -1,1 +1,1 @@
-// A theorem alone: demand 3, for every tidy file.
+// Only a theorem: demand 3, for every tidy file.

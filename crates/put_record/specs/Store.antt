@@ -26,7 +26,7 @@ recordBytes r =
     ++ (wordBytes (r .p1)
     ++ (wordBytes (r .p2) ++ (wordBytes (r .p3) ++ (wordBytes (r .p4) ++ (wordBytes (r .p5) ++ wordBytes (r .p6)))))))
 
--- some bytes with record k written; the same bytes where they have no record k
+-- some bytes with record k written; the same bytes if they have no record k
 unfoldable pub putOf : List ℕ → ℕ → Record → List ℕ
 putOf b k r = cond (ltb k (length b / 32)) (take (32 * k) b ++ (recordBytes r ++ drop (32 * k + 32) b)) b
 

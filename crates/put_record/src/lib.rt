@@ -13,7 +13,7 @@ fn low(x: u32) -> u8
     (x % 256) as u8
 }
 
-// The four bytes of a word, from a byte.
+// Writes the four bytes of a word, starting at a byte.
 fn put_word(b: &mut [u8], at: usize, x: u32)
     requires { ⌜ at + 4 ≤ length (now b) ⌝ }
     ensures { λ u. ⌜ now (b .exit) ≡ sets (now (b .entry)) at (wordBytes x) ⌝ }
@@ -24,7 +24,7 @@ fn put_word(b: &mut [u8], at: usize, x: u32)
     b[at + 3] = low(x / 16777216);
 }
 
-// The first four bytes of a record.
+// Writes the first four bytes of a record.
 fn put_tag(b: &mut [u8], at: usize, r: Record)
     requires { ⌜ at + 4 ≤ length (now b) ⌝ }
     ensures { λ u. ⌜ now (b .exit) ≡ sets (now (b .entry)) at (tagBytes r) ⌝ }
@@ -49,7 +49,7 @@ fn put_in(b: &mut [u8], at: usize, r: Record)
     put_word(b, at + 28, r.p6);
 }
 
-// Record k of some bytes is written; nothing is where they have no record k.
+// Writes record k of some bytes; does nothing if they have no record k.
 pub fn put_record(b: &mut [u8], k: usize, r: Record)
     ensures { λ u. ⌜ now (b .exit) ≡ putOf (now (b .entry)) k r ⌝ }
 {

@@ -1,4 +1,4 @@
-// Whether code names a register that one constant alone writes: `reads_konst`.
+// Whether code names a register that only one constant writes: `reads_konst`.
 ghost use mathlib.Core.Path.{_≡_};
 ghost use mathlib.Core.List.{_++_};
 ghost use Rattle.roles.specs.Roles.{defsOf, usesOf};
@@ -8,7 +8,8 @@ ghost use Rattle.steps.specs.Small as steps;
 ghost use Rattle.facts.specs.Storage.{konstAt};
 use inst::Inst;
 
-// An instruction reads or writes a register that a Const, a ConstF or a non-Up AddrOf alone writes.
+// Whether an instruction reads or writes a register that only one Const, ConstF or non-Up AddrOf
+// writes.
 fn names_konst(i: Inst, facts: &[u64]) -> bool
     ensures { λ z. ⌜ z ≡ anyOf (konstAt (now (facts .entry))) (defsOf i ++ usesOf i) ⌝ }
 {
@@ -26,7 +27,7 @@ fn names_konst(i: Inst, facts: &[u64]) -> bool
     false
 }
 
-// The source's reads_konst: some instruction does.
+// The Rust's reads_konst: whether some instruction does.
 pub fn reads_konst(code: &[u8], facts: &[u64]) -> bool
     ensures { λ z. ⌜ z ≡ steps.readsKonst (konstAt (now (facts .entry))) (codesOf (now (code .entry))) ⌝ }
 {

@@ -6,19 +6,19 @@ use lib.Ieee.{binary64, ofBits, toBits, isNan, eq, fits}
 use Rattle.real.specs.declared.Real.{Real}
 use Rattle.real.specs.declared.Real.the-variants.{Number, Nan}
 
--- a NaN: all bits of the exponent, and some bit of the fraction
+-- a NaN: all exponent bits are set, and some fraction bit
 abbrev pub nanPattern : ℕ → Bool
 nanPattern b = ltb 0x7FF0_0000_0000_0000 (b % 0x8000_0000_0000_0000)
 
 unfoldable pub realOf : ℕ → Real
 realOf b = cond (nanPattern b) (Nan b) (Number (ofBits binary64 b))
 
--- a Number that is NaN comes from no pattern; it is written as the quiet NaN
+-- a Number that is a NaN comes from no bits; it is written as the quiet NaN
 unfoldable pub bitsOf : Real → ℕ
 bitsOf (Number x) = cond (eq x x) (toBits binary64 x) 0x7FF8_0000_0000_0000
 bitsOf (Nan b) = b
 
--- the values that come from a pattern of 64 bits
+-- the values that come from 64 bits
 unfoldable pub canonical : Real → Bool
 canonical (Number x) = fits binary64 x && not (isNan x)
 canonical (Nan b) = ltb b (2 ^ 64) && nanPattern b

@@ -2,7 +2,7 @@
 ghost use mathlib.Core.Path.{_≡_};
 ghost use Rattle.real.specs.Real.{realOf, bitsOf};
 
-// An f64 kept bit for bit. A NaN's pattern stands by itself, since the logic's f64 has one NaN for all of them.
+// An f64 kept bit for bit. A NaN is kept as its bits, since the logic's f64 has only one NaN.
 pub enum Real {
     Number(f64),
     Nan(u64),

@@ -23,6 +23,6 @@ allExist n [] ps = true
 allExist n (x ∷ xs) [] = true
 allExist n (x ∷ xs) (p ∷ ps) = exist n x p (getD ps 0 0) && allExist n xs ps
 
--- all that a record names exists
+-- everything that a record names exists
 unfoldable pub namesExist : Counts → Record → Bool
 namesExist n r = allExist n (places (r .class) (r .kind) (r .op)) (fields r)

@@ -9,7 +9,7 @@ ghost use Rattle.record_rules.specs.Exist.{allExist, namesExist};
 ghost use Rattle.record_rules.specs.Work.{below, leadingRegisters};
 use records::Record;
 
-// How many there are of what a record may name.
+// How many registers, blocks, tables and operands there are: what a record may name.
 pub struct Counts {
     pub registers: u32,
     pub blocks: u32,
@@ -41,7 +41,8 @@ fn three(n: u32, a: u32, b: u32, c: u32) -> bool
     a < n && two(n, b, c)
 }
 
-// How many of its first places each kind of instruction below 16 names as registers: a hexadecimal digit each, the lowest for kind 0.
+// How many of the first places are registers, for each kind below 16: a hexadecimal digit each, the
+// lowest for kind 0.
 const LEADING: u64 = 0x2421322533341211;
 
 fn leading(kind: u32) -> u32
@@ -51,7 +52,7 @@ fn leading(kind: u32) -> u32
     ((LEADING >> (4 * kind)) % 16) as u32
 }
 
-// One more than a field, if its place is one of the first `used`.
+// A field plus one, if its place is one of the first `used`.
 fn upto(used: u32, place: u32, field: u32) -> u64
     ensures { λ z. ⌜ z ≡ cond (ltb place used) (suc field) 0 ⌝ }
 {
@@ -64,7 +65,7 @@ fn most(a: u64, b: u64) -> u64
     if a < b { b } else { a }
 }
 
-// Computed rather than branched on: the kinds of a file follow each other in no order that a processor could guess.
+// Computed without branches, since the processor can't predict which kind comes next in a file.
 fn first_exist(n: u32, used: u32, r: Record) -> bool
     ensures { λ z. ⌜ z ≡ below n (take used (r .p1 ∷ r .p2 ∷ r .p3 ∷ r .p4 ∷ r .p5 ∷ [])) ⌝ }
 {
@@ -125,7 +126,7 @@ fn arm_exist(n: Counts, r: Record) -> bool
     }
 }
 
-// All that the record names exists.
+// Whether everything that the record names exists.
 pub fn names_exist(n: Counts, r: Record) -> bool
     ensures { λ z. ⌜ z ≡ namesExist n r ⌝ }
 {

@@ -8,12 +8,14 @@ ghost use Rattle.records.specs.Kinds.{zeros, fields, allFit, instructionPlaces,
 ghost use Rattle.record_rules.specs.Work.{plain as plainRecord, listedPlaces, digitOf};
 use records::Record;
 
-// How many ops each kind of instruction has: a hexadecimal digit each, the lowest for kind 0; the kinds from 16 on are in a second number.
+// How many ops each kind has: a hexadecimal digit each, the lowest for kind 0; kinds from 16 on are
+// in a second number.
 const OPS: u64 = 0x1111544774616111;
 
 const OPS_LATE: u64 = 0x11211121;
 
-// How many places each kind of instruction lists, packed alike; 7 where not every number fits them, or the op decides.
+// How many places each kind lists, packed the same way; 7 if not every number fits them, or the op
+// decides.
 const LISTED: u64 = 0x2473422633347233;
 
 const LISTED_LATE: u64 = 0x1723173;
@@ -56,14 +58,14 @@ fn all_zero(a: u32, b: u32, c: u32, d: u32, e: u32, f: u32) -> bool
     wide(a) + (wide(b) + (wide(c) + (wide(d) + (wide(e) + wide(f))))) == 0
 }
 
-// A field where it is not among the first `used`, else 0.
+// A field if it isn't among the first `used`, else 0.
 fn beyond(used: u32, place: u32, field: u32) -> u32
     ensures { λ p. ⌜ p ≡ cond (leb used place) field 0 ⌝ }
 {
     if used <= place { field } else { 0 }
 }
 
-// The fields after the first `used` are zero.
+// Whether the fields after the first `used` are zero.
 fn blank(used: u32, r: Record) -> bool
     ensures { λ z. ⌜ z ≡ zeros (drop used (fields r)) ⌝ }
 {
@@ -77,7 +79,7 @@ fn blank(used: u32, r: Record) -> bool
     )
 }
 
-// The number of an AddrOf's space fits the space.
+// Whether the number of an AddrOf's space fits the space.
 fn space_fits(op: u32, number: u32) -> bool
     ensures { λ r. ⌜ r ≡ fitsPlace (spaceNumber op) number ⌝ }
 {
@@ -105,7 +107,7 @@ fn special_fits(used: u32, r: Record) -> bool
     }
 }
 
-// The fields of an instruction fit the places that its kind lists.
+// Whether the fields of an instruction fit the places that its kind lists.
 fn instruction_fits(r: Record) -> bool
     requires { ⌜ r .kind < 24 ⌝ }
     ensures { λ z. ⌜ z ≡ allFit (getD (instructionPlaces (r .op)) (r .kind) []) (fields r) ⌝ }
@@ -134,7 +136,7 @@ fn instruction(r: Record) -> bool
     instruction_fits(r)
 }
 
-// The record's kind is below `kinds`, and it has no op and no statement.
+// Whether the record's kind is below `kinds`, and it has no op and no statement.
 fn plain(r: Record, kinds: u32) -> bool
     ensures { λ z. ⌜ z ≡ plainRecord r kinds ⌝ }
 {
@@ -155,7 +157,7 @@ fn arm_fits(r: Record) -> bool
     }
 }
 
-// The record is right in itself.
+// Whether the record is valid by itself.
 pub fn right(r: Record) -> bool
     ensures { λ z. ⌜ z ≡ rightRecord r ⌝ }
 {

@@ -1,3 +1,4 @@
-// What each class and kind asks of a record's places: whether a record is right, and whether what it names exists.
+// What each class and kind requires of a record's places: whether a record is valid, and whether
+// what it names exists.
 pub mod exist;
 pub mod fit;

@@ -1,4 +1,4 @@
--- Document 01, "File": which places the records of each class and kind list, and when a record is right in itself.
+-- Document 01, "File": which places the records of each class and kind list, and when a record is valid by itself.
 use Prim.Native.Nat.{ℕ, suc}
 use mathlib.Core.List.{List, [], _∷_}
 use mathlib.Core.Bool.{Bool, true, false, _&&_, _||_}
@@ -6,7 +6,7 @@ use lib.Dec.{ltb, eqb}
 use lib.ListN.{getD}
 use Rattle.records.specs.declared.Record.{Record}
 
--- what stands in one of the places p1..p6
+-- what one of the places p1..p6 holds
 pub data Place : Type 0 where
   unused : Place
   number : Place
@@ -14,7 +14,7 @@ pub data Place : Type 0 where
   register : Place
   block : Place
   table : Place
-  -- the start of a list of operands, whose length stands in the next place
+  -- the start of a list of operands, whose length is in the next place
   list : Place
 
 -- "8..31 six 32-bit fields p1..p6"
@@ -108,7 +108,7 @@ places class kind op =
 abbrev pub kindCount : ℕ → ℕ
 kindCount class = getD (0 ∷ 5 ∷ 1 ∷ 1 ∷ 24 ∷ 1 ∷ 2 ∷ []) class 0
 
--- "Ops count from 0 in `inst.rs`'s order": how many ops each kind of instruction has, 1 where it has none
+-- "Ops count from 0 in `inst.rs`'s order": how many ops each kind of instruction has, 1 if it has none
 abbrev pub instructionOps : ℕ → ℕ
 instructionOps kind =
     getD (1 ∷ 1 ∷ 1 ∷ 6 ∷ 1 ∷ 6 ∷ 4 ∷ 7 ∷ 7 ∷ 4 ∷ 4 ∷ 5 ∷ 1 ∷ 1 ∷ 1 ∷ 1 ∷ 1 ∷ 2 ∷ 1 ∷ 1 ∷ 1 ∷ 2 ∷ 1 ∷ 1 ∷ []) kind 0

@@ -4,7 +4,7 @@ ghost use Prim.Native.Nat.{ℕ, _+_, _*_, _≤_, _<_};
 ghost use lib.ListN.{length};
 ghost use Rattle.records.specs.Record.{wordAt, recordIn, recordAt, blank};
 
-// A 32-byte record, taken apart.
+// The fields of a 32-byte record.
 pub struct Record {
     pub class: u32,
     pub kind: u32,
@@ -71,7 +71,7 @@ fn blank_record() -> Record
     }
 }
 
-// Record k of a file, and a blank one past its last whole record.
+// Record k of a file; past the last whole record, a blank one.
 pub fn record_at(b: &[u8], k: usize) -> Record
     ensures { λ r. ⌜ r ≡ recordAt (now (b .entry)) k ⌝ }
 {

@@ -15,7 +15,7 @@ use Rattle.inst.specs.declared.Inst.{Inst}
 use Rattle.inst.specs.declared.Inst.the-variants as i
 use Rattle.roles.specs.Roles.{regOf}
 
--- a register with g over its number
+-- a register with g applied to its number
 abbrev pub over : (ℕ → ℕ) → Reg → Reg
 over g r = regOf (g (r .0))
 
@@ -47,7 +47,7 @@ checkHigh k.IndexDown σ y = over σ y
 checkHigh k.Length σ y = y
 checkHigh k.Null σ y = y
 
--- `visit_mut`: an instruction with σ over the fields that it reads and τ over those that it writes
+-- `visit_mut`: an instruction with σ applied to the fields that it reads and τ to those that it writes
 unfoldable pub exchanged : (ℕ → ℕ) → (ℕ → ℕ) → Inst → Inst
 exchanged σ τ (i.Const d v) = i.Const (over τ d) v
 exchanged σ τ (i.ConstF d v) = i.ConstF (over τ d) v
@@ -83,7 +83,7 @@ through (x ∷ xs) r = cond (eqb (x .0) r) (x .1) (through xs r)
 abbrev pub written : ℕ → ℕ → ℕ → ℕ
 written old new r = cond (eqb r old) new r
 
--- the first n pairs of two rows of registers
+-- the first n pairs of two lists of registers
 abbrev pub pairs : List Reg → List Reg → List (ℕ × ℕ)
 pairs [] to = []
 pairs (x ∷ from) [] = []

@@ -34,7 +34,7 @@ checkUses k.IndexDown v lo hi = v ∷ lo ∷ hi ∷ []
 checkUses k.Length v lo hi = v ∷ lo ∷ []
 checkUses k.Null v lo hi = v ∷ []
 
--- the register fields that are written, in the order of visit_mut, where they all come before those read
+-- the register fields that are written, in the order of visit_mut, which has all of them before those read
 abbrev pub defsOf : Inst → List ℕ
 defsOf (i.Const d v) = d .0 ∷ []
 defsOf (i.ConstF d v) = d .0 ∷ []
@@ -91,7 +91,7 @@ usesOf i.Stmt = []
 abbrev pub noList : Regs
 noList = record { start = 0; len = 0 }
 
--- `Inst::list`, empty where it is None
+-- `Inst::list`, empty if it is None
 abbrev pub listOf : Inst → Regs
 listOf (i.Const d v) = noList
 listOf (i.ConstF d v) = noList
@@ -129,11 +129,11 @@ readsOf ops x = usesOf x ++ operandsOf ops (listOf x)
 abbrev pub regOf : ℕ → Reg
 regOf n = record { 0 = n }
 
--- registers as the lists of numbers above have them
+-- registers as lists of numbers, as above
 abbrev pub numbersOf : List Reg → List ℕ
 numbersOf rs = map (λ (r : Reg). r .0) rs
 
--- some registers written and some read, five at most, with register 0 behind them
+-- some registers written and some read, five at most, padded with register 0
 abbrev pub filled : List ℕ → List ℕ → Regs → Roles
 filled defs uses list =
     record {

@@ -1,4 +1,4 @@
--- Work definitions, for contracts between functions alone: the roles of some kinds of instruction, as rows.
+-- Work definitions, only for contracts between functions: the roles of some kinds of instruction, as lists.
 use Prim.Native.Nat.{ℕ}
 use mathlib.Core.List.{[], _∷_}
 use Rattle.inst.specs.declared.Reg.{Reg}

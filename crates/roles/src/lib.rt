@@ -9,8 +9,8 @@ use inst::OptReg;
 use inst::Reg;
 use inst::Regs;
 
-// The registers of an instruction, in the order of visit_mut: the first `defs` of reg are written, the others
-// up to `n` are read. Then the list of operands that it reads too, empty where it has none.
+// The registers of an instruction, in the order of visit_mut: the first `defs` of reg are written,
+// the others up to `n` are read. Then the list of operands that it reads too, empty if it has none.
 pub struct Roles {
     pub defs: usize,
     pub n: usize,

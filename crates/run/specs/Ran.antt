@@ -32,7 +32,7 @@ module _ (n : ℕ) where
   abbrev pub still : Threaded
   still = record { top = n; grown = 0; fresh = 0; edited = false }
 
-  -- "n/2 + 32 (rounded down)", no larger than a 32-bit field can say
+  -- "n/2 + 32 (rounded down)", capped at what a 32-bit field can hold
   abbrev pub budgetIn : ℕ
   budgetIn = min (n / 2 + 32) 4294967295
 

@@ -10,7 +10,7 @@ ghost use Rattle.run.specs.Ran as r;
 use pause::Pause;
 use thread::Threaded;
 
-// How far `run` came before emit: if equal arms were joined, and how far threading is.
+// How far `run` got before Emit: whether equal arms were joined, and how far threading got.
 pub struct Ran {
     pub joined: bool,
     pub at: Threaded,
@@ -43,7 +43,7 @@ fn counted(work: &[u8], facts: &mut [u64], operands: &[u8], registers: &[u8], n:
     count_facts::facts(&work[..32 * m], operands, registers, &work[..0], facts);
 }
 
-// Some block leads back, and some hop may do something.
+// Whether some block leads back, and some hop may do something.
 fn opens(work: &[u8], table: &[u8], pause: Pause) -> bool
     ensures { λ z. ⌜ z ≡ r.opensIn (bodyIn pause) (now (work .entry)) (now (table .entry)) ⌝ }
 {
@@ -82,7 +82,8 @@ fn gated(
     }
 }
 
-// The source's `run` before emit: equal arms, then threading where the gate opens. Fewer than 6 instructions stay.
+// The Rust's `run` before emit: equal arms, then threading if the gate opens. Fewer than 6
+// instructions stay.
 pub fn run(
     work: &mut [u8],
     table: &mut [u8],
@@ -121,7 +122,7 @@ pub fn run(
     )
 }
 
-// No step does anything to a code.
+// True implies that no step would change the code.
 pub fn no_step(code: &[u8], table: &[u8], pause: Pause) -> bool
     ensures { λ z. ⌜ (z ≡ true → r.NoStep (bodyIn pause) (now (code .entry)) (now (table .entry))) ⌝ }
 {

@@ -14,7 +14,8 @@ use inst::IntOp;
 use inst::kinds;
 use records::Record;
 
-// Cheap instructions without effects: what a copied block may hold besides its end. By the record's kind.
+// Whether a record's kind is cheap and has no effects: what a copied block may hold besides its
+// end.
 pub fn dupable(r: Record) -> bool
     ensures { λ z. ⌜ z ≡ steps.dupable (instOf r) ⌝ }
 {
@@ -38,7 +39,7 @@ fn small_end(r: Record) -> bool
     kind == kinds::RET
 }
 
-// At most four instructions: dupable ones, then a Br, CondBr or Ret.
+// Whether there are at most four instructions: dupable ones, then a Br, CondBr or Ret.
 pub fn small(code: &[u8]) -> bool
     ensures { λ z. ⌜ z ≡ steps.small (codesOf (now (code .entry))) ⌝ }
 {
@@ -73,7 +74,7 @@ fn add_or_sub(op: IntOp) -> bool
     }
 }
 
-// A Bin, or where wide a BinRange, that adds or subtracts.
+// Whether it is a Bin, or if `wide` a BinRange, that adds or subtracts.
 fn step_by(wide: bool, r: Record) -> bool
     ensures { λ z. ⌜ z ≡ steps.stepBy wide (instOf r) ⌝ }
 {
@@ -99,7 +100,7 @@ fn any_step(wide: bool, code: &[u8]) -> bool
     false
 }
 
-// A CondBr with an arm to the block after l.
+// Whether it is a CondBr with an arm to the block after l.
 fn tests_after(l: BlockId, e: End) -> bool
     ensures { λ z. ⌜ z ≡ steps.testsInto (l .0 + 1) e ⌝ }
 {
@@ -112,7 +113,7 @@ fn tests_after(l: BlockId, e: End) -> bool
     }
 }
 
-// A Br to block l or before.
+// Whether it is a Br to block l or an earlier one.
 fn jumps_back(l: BlockId, e: End) -> bool
     ensures { λ z. ⌜ z ≡ steps.jumpsBack (l .0) e ⌝ }
 {
@@ -141,7 +142,7 @@ fn two_to_br(n: usize, e: End) -> bool
     n == 2 && is_br(e)
 }
 
-// The length and the end of a step block.
+// Whether length and end are those of a step block.
 fn step_shape(wide: bool, l: BlockId, code: &[u8]) -> bool
     ensures { λ z. ⌜ z ≡ steps.stepShape wide (l .0) (codesOf (now (code .entry))) ⌝ }
 {
@@ -159,7 +160,8 @@ fn step_shape(wide: bool, l: BlockId, code: &[u8]) -> bool
     jumps_back(l, e)
 }
 
-// A loop test of block l, followed by its step block; `next` is empty where there is no next block.
+// Whether block l is a loop test followed by its step block; `next` is empty if there is no next
+// block.
 pub fn latch(code: &[u8], next: &[u8], l: BlockId, wide: bool) -> bool
     ensures { λ z. ⌜ z ≡ steps.latch (codesOf (now (code .entry))) (codesOf (now (next .entry))) (l .0) wide ⌝ }
 {

@@ -1,1 +1,1 @@
-// Laws alone: what the steps leave is well formed and within the sizes of document 01.
+// Only laws: what the steps leave is well formed and within the sizes of document 01.

@@ -13,7 +13,7 @@ use Rattle.ends.specs.Forms.{Fixed, word, real, address, varying, fixedOf}
 use Rattle.codec.specs.Codec.{withInst}
 use Rattle.steps.specs.Facts.{Facts}
 
--- what becomes of an instruction in the copy
+-- what happens to an instruction in the copy
 pub data How : Type 0 where
   -- "A singly written Const or ConstF is left out."
   leftOut : How
@@ -21,7 +21,7 @@ pub data How : Type 0 where
   renumbered : ℕ → How
   kept : How
 
--- of a register that is old and singly written; own are its uses in l
+-- for an old, singly written register; own is the number of its uses in l
 abbrev pub howFixed : Facts → ℕ → ℕ → Fixed → How
 howFixed f own d (word v) = leftOut
 howFixed f own d real = leftOut
@@ -61,7 +61,7 @@ place (renumbered d) x local m rest = renamed local (written d m) x ∷ rest (lo
 place kept x local m rest = renamed local (λ r. r) x ∷ rest local m
 
 module _ (f : Facts) (own : ℕ → ℕ) where
-  -- the copy of some code of l, where m is the next new number
+  -- the copy of some code of l; m is the next new number
   unfoldable pub copyFrom : List Code → List (ℕ × ℕ) → ℕ → List Code
   copyFrom [] local m = []
   copyFrom (x ∷ c) local m = place (howOf f own (x .inst)) x local m (copyFrom c)

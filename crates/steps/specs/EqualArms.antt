@@ -27,7 +27,7 @@ follow (suc k) P b = follow k P (past b (loneOf (getD P b [])))
 abbrev pub reachedFrom : List (List Code) → ℕ → ℕ
 reachedFrom P b = follow 4 P b
 
--- the blocks, and whether some CondBr was written over
+-- the blocks, and whether some CondBr was replaced
 pub record Arms : Type 0 where
   pub blocks : List (List Code)
   pub edited : Bool

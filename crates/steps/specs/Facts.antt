@@ -1,4 +1,4 @@
--- What Thread asks about the file: it is counted once, after the equal-arms step.
+-- What Thread needs to know about the file: it is counted once, after the equal-arms step.
 use Prim.Native.Nat.{ℕ, _+_, _/_}
 use mathlib.Core.List.{List, [], _∷_}
 use mathlib.Core.Option.{Option, none, some}
@@ -54,7 +54,7 @@ pub record Facts : Type 0 where
   -- "n/2 + 32 (rounded down)"
   pub budget : ℕ
 
--- of the registers' kinds, the operands, the body, and all code
+-- from the registers' kinds, the operands, the body, and all code
 unfoldable pub factsOf : List ℕ → List ℕ → Option ℕ → List Code → Facts
 factsOf registers ops body c = record {
   registers = registers;

@@ -11,7 +11,7 @@ use Rattle.ends.specs.declared.End.the-variants as e
 use Rattle.ends.specs.Ends.{endOf, loneOf, targets}
 use Rattle.steps.specs.Small.{small, latch}
 
--- of the blocks from block b on
+-- for the blocks from block b on
 unfoldable pub backEdgeFrom : ℕ → List (List Code) → Bool
 backEdgeFrom b [] = false
 backEdgeFrom b (c ∷ cs) = anyOf (λ t. leb t b) (targets (endOf c)) || backEdgeFrom (suc b) cs
@@ -25,7 +25,7 @@ isCondBr (e.CondBr c t f) = true
 isCondBr (e.Case n) = false
 isCondBr e.Other = false
 
--- a block that is small and no latch, as Thread copies it; wide where there is a body
+-- a block that is small and not a latch, so that Thread may copy it; wide if there is a body
 unfoldable pub copied : Bool → List (List Code) → ℕ → Bool
 copied wide P l = small (getD P l []) && not (latch (getD P l []) (getD P (suc l) []) l wide)
 
@@ -36,7 +36,7 @@ mayHop wide P a (e.CondBr c t f) = isCondBr (loneOf (getD P (t .0) [])) || isCon
 mayHop wide P a (e.Case n) = false
 mayHop wide P a e.Other = false
 
--- of the blocks from block a on
+-- for the blocks from block a on
 unfoldable pub mayThreadFrom : Bool → List (List Code) → ℕ → List (List Code) → Bool
 mayThreadFrom wide P a [] = false
 mayThreadFrom wide P a (c ∷ cs) = mayHop wide P a (endOf c) || mayThreadFrom wide P (suc a) cs

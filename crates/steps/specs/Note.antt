@@ -36,7 +36,7 @@ copiesWithout d (x ∷ xs) = cond (eqb (x .0) d || eqb (x .1) d) (copiesWithout 
 abbrev pub forget : ℕ → Known → Known
 forget d k = record { values = valuesWithout d (k .values); copies = copiesWithout d (k .copies) }
 
--- what is known after registers are written: of more than two, nothing
+-- what is known after registers are written: nothing if they are more than two
 unfoldable pub forgetAll : List ℕ → Known → Known
 forgetAll [] k = k
 forgetAll (d ∷ []) k = forget d k
@@ -61,7 +61,7 @@ sourceOf k r = valueOr r (found r (k .copies))
 abbrev pub valueOf : Facts → Known → ℕ → Option ℕ
 valueOf f k r = orElse (found r (k .values)) (f .const r)
 
--- both of one kind, I64 or Ptr, and the file's own
+-- both of the same kind, I64 or Ptr, and the file's own
 abbrev pub alike : Facts → ℕ → ℕ → Bool
 alike f d s =
     let kind = getD (f .registers) d 5 in
@@ -73,14 +73,14 @@ noteMove f d s k =
     let k′ = withValueIf d (valueOf f k s) k in
     cond (alike f d s) (withCopy d s k′) k′
 
--- Bool of one known operand: Not reads the first alone
+-- Bool with one known operand: Not reads only the first
 abbrev pub boolOfOne : BoolOp → ℕ → Option ℕ
 boolOfOne b.And x = none
 boolOfOne b.Or x = none
 boolOfOne b.Xor x = none
 boolOfOne b.Not x = some (tests b.Not x 0)
 
--- Bool, of what is known of its operands, by the machine's rule
+-- Bool, from what is known of its operands, by the machine's rule
 abbrev pub boolOf : BoolOp → Option ℕ → Option ℕ → Option ℕ
 boolOf op none y = none
 boolOf op (some x) none = boolOfOne op x

@@ -80,7 +80,7 @@ abbrev pub threadIf : Bool → Shortened → Shortened
 threadIf true s = threadBy (countedIn (s .procedure)) s
 threadIf false s = s
 
--- "Gate.", of `looped`
+-- "Gate.", given `looped`
 abbrev pub threaded : Bool → Shortened → Shortened
 threaded looped s = threadIf (looped && mayThread (present (s .procedure .body)) (s .procedure .blocks)) s
 

@@ -69,7 +69,7 @@ acceptIf false r registers code rs out = refusal (r .number) (r .place) out
 abbrev pub accept : Reading → ℕ → ℕ → List ℕ → List ℕ → Outcome
 accept r registers code b out = acceptIf (eqb (r .number) 0) r registers code (recordsOf b) out
 
--- with limits for registers and instructions, of a file's bytes and the output buffer at entry
+-- with limits for registers and instructions, from a file's bytes and the output buffer at entry
 unfoldable pub shortenWithin : ℕ → ℕ → List ℕ → List ℕ → Outcome
 shortenWithin registers code b out = accept (reading b) registers code b out
 

@@ -59,7 +59,7 @@ stepIn wide (bin true op) = wide && addOrSub op
 stepIn wide (jump x) = false
 stepIn wide other = false
 
--- `latch`, step: a Bin, or where wide a BinRange, that adds or subtracts
+-- `latch`, step: a Bin, or if wide a BinRange, that adds or subtracts
 unfoldable pub stepBy : Bool → Inst → Bool
 stepBy wide x = stepIn wide (formOf x)
 
@@ -70,7 +70,7 @@ testsInto l (e.CondBr c t f) = eqb (t .0) l || eqb (f .0) l
 testsInto l (e.Case n) = false
 testsInto l e.Other = false
 
--- a Br to block l or before
+-- a Br to block l or an earlier one
 abbrev pub jumpsBack : ℕ → End → Bool
 jumpsBack l (e.Br t) = leb (t .0) l
 jumpsBack l (e.CondBr c t f) = false
@@ -83,14 +83,14 @@ isBr (e.CondBr c t f) = false
 isBr (e.Case n) = false
 isBr e.Other = false
 
--- `latch`: "[Bin add/sub, Br]"; "any short block that jumps back with an add or subtract" where wide
+-- `latch`: "[Bin add/sub, Br]"; "any short block that jumps back with an add or subtract" if wide
 abbrev pub stepShape : Bool → ℕ → List Code → Bool
 stepShape wide l c = eqb (length c) 2 && isBr (endOf c) || wide && leb (length c) 4 && jumpsBack l (endOf c)
 
 unfoldable pub stepBlock : Bool → ℕ → List Code → Bool
 stepBlock wide l c = stepShape wide l c && anyOf (λ x. stepBy wide (x .inst)) c
 
--- `latch`: block l tests, and the next one, [] if there is none, is its step block; wide where there is a body
+-- `latch`: block l tests, and the next one, [] if there is none, is its step block; wide if there is a body
 unfoldable pub latch : List Code → List Code → ℕ → Bool → Bool
 latch code next l wide = testsInto (suc l) (endOf code) && stepBlock wide l next
 

@@ -1,6 +1,6 @@
-// Document 01's steps and its Shorten, defined; of the code only Shorten's answer.
+// Definitions of document 01's steps and of Shorten. The only code is Shorten's answer.
 
-// number is 0 on success, and place the offending record on a refusal; length is that of the result in bytes.
+// number is 0 on success; on a refusal, place is the offending record; length is in bytes.
 pub struct Answer {
     pub number: u32,
     pub place: u32,

@@ -1,4 +1,4 @@
--- Storage, not the paper's: what the hops leave of the code, the block table, the kinds of the new registers and the counts, for any bytes.
+-- Storage, not the paper's: how the hops leave code, block table, the new registers' kinds and the counts, for any bytes.
 use Prim.Native.Nat.{ℕ, zero, suc, _+_, _/_, min}
 use mathlib.Core.List.{List, []}
 use mathlib.Core.Option.{Option}
@@ -47,7 +47,7 @@ stayIn s = record { to = s; more = false }
 abbrev pub editedAt : Threaded → Threaded
 editedAt s = record { top = s .top; grown = s .grown; fresh = s .fresh; edited = true }
 
--- how the hops go on behind a CondBr
+-- whether the hops go on after a CondBr
 abbrev pub turnAt : Turn → Threaded → Hopped
 turnAt u.Stay s = hopped s false
 turnAt u.Last s = hopped (editedAt s) false
@@ -56,7 +56,7 @@ turnAt u.Next s = hopped (editedAt s) true
 abbrev pub turnedAt : Store → Turned → Hopping
 turnedAt s z = hopping (z .code) (s .table) (s .kinds) (turnAt (z .turn) (s .at))
 
--- the new registers, whose numbers are of 16 bits
+-- the new registers, at most 65535
 abbrev pub freshTo : ℕ → ℕ → ℕ
 freshTo fresh n = min (fresh + n) 65535
 

@@ -1,4 +1,4 @@
-// Thread: blocks ascending, six hops each at most.
+// Thread: goes over the blocks in order, with at most six hops for each.
 ghost use mathlib.Core.Path.{_≡_};
 ghost use mathlib.Core.List.{List};
 ghost use Prim.Native.Nat.{ℕ};
@@ -11,7 +11,8 @@ use inst::BlockId;
 use inst::Reg;
 use pause::Pause;
 
-// How far threading is: the arena's top, how many instructions and new registers came, and if some block was edited.
+// How far threading got: the arena's top, how many instructions and registers were added, whether a
+// block was edited.
 pub struct Threaded {
     pub top: usize,
     pub grown: u64,
@@ -19,7 +20,7 @@ pub struct Threaded {
     pub edited: bool,
 }
 
-// The same after a hop, and if the next hop follows.
+// The same after a hop, and whether the next hop follows.
 pub struct Hopped {
     pub at: Threaded,
     pub more: bool,
@@ -74,7 +75,7 @@ fn hop_cond_br(
     turned(n, s)
 }
 
-// The new registers given so far and n more; their numbers are of 16 bits.
+// The new registers given so far plus n more, at most 65535.
 fn fresh_to(fresh: usize, n: usize) -> usize
     ensures { λ r. ⌜ r ≡ freshTo fresh n ⌝ }
 {
@@ -113,7 +114,7 @@ fn hop_br(
     }
 }
 
-// The hops of block a, six at most.
+// The hops of block a, at most six.
 fn hops(
     work: &mut [u8],
     table: &mut [u8],
@@ -154,7 +155,7 @@ fn hops(
     s
 }
 
-// Blocks ascending, each with its hops: those that a BlockId can name.
+// Threads the blocks in order, each with its hops: those that a BlockId can name.
 pub fn thread(
     work: &mut [u8],
     table: &mut [u8],

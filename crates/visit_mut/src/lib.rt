@@ -1,4 +1,4 @@
-// Registers of an instruction exchanged by their roles (`Inst::visit_mut`).
+// The registers of an instruction, replaced by their roles (`Inst::visit_mut`).
 ghost use mathlib.Core.Path.{_≡_};
 ghost use Prim.Native.Nat.{ℕ};
 ghost use Rattle.roles.specs.Exchange.{over, overOptional, boolSecond, checkLow, checkHigh, exchanged, through, written, firstPairs};
@@ -8,7 +8,7 @@ use inst::Inst;
 use inst::OptReg;
 use inst::Reg;
 
-// A register as the first of n pairs of an old and a new one has it, four at most.
+// The new number of a register, by the first of n pairs (old, new) that has it; n is at most four.
 fn read_as(r: Reg, from: [Reg; 4], to: [Reg; 4], n: usize) -> Reg
     ensures { λ z. ⌜ z ≡ over (through (firstPairs n from to)) r ⌝ }
 {
@@ -86,7 +86,8 @@ fn check_high(kind: CheckKind, r: Reg, from: [Reg; 4], to: [Reg; 4], n: usize) -
     }
 }
 
-// The registers that an instruction reads by the first n pairs, and old for new among those that it writes.
+// An instruction with the registers that it reads replaced by the first n pairs, and `new` for
+// `old` where it writes.
 pub fn exchange(i: Inst, from: [Reg; 4], to: [Reg; 4], n: usize, old: Reg, new: Reg) -> Inst
     ensures { λ z. ⌜ z ≡ exchanged (through (firstPairs n from to)) (written (old .0) (new .0)) i ⌝ }
 {
@@ -224,7 +225,8 @@ pub fn exchange(i: Inst, from: [Reg; 4], to: [Reg; 4], n: usize, old: Reg, new: 
     }
 }
 
-// visit_mut of what is read: each register by the first of n pairs of an old and a new one, four at most.
+// visit_mut for what is read: each register is replaced by the first of n pairs (old, new); n is at
+// most four.
 pub fn renamed(i: Inst, from: [Reg; 4], to: [Reg; 4], n: usize) -> Inst
     ensures { λ z. ⌜ z ≡ exchanged (through (firstPairs n from to)) (λ (r : ℕ). r) i ⌝ }
 {
