@@ -192,7 +192,7 @@ class Totals:
 
     def row(self) -> Row:
         """The report's last row."""
-        return Row("", TOTAL, reason=self.answers_text(), filed="", **self.sums)  # type: ignore[arg-type]
+        return Row(name="", answer=TOTAL, reason=self.answers_text(), filed="", **self.sums)  # type: ignore[arg-type]
 
 
 def entries(file: File) -> Iterator[Tuple[bytes, Row]]:

@@ -370,13 +370,6 @@ class Library(unittest.TestCase):
         self.assertIn("/nonexistent/lib.so", said)
         self.assertIn("python/build", said)
 
-    def test_a_library_that_lacks_a_function_is_told(self):
-        with tempfile.TemporaryDirectory() as folder:
-            stub = os.path.join(folder, "libstub.so")
-            subprocess.run(["gcc", "-shared", "-fPIC", "-x", "c", "/dev/null", "-o", stub], check=True)
-            _, said = run("audit", ".", status=2, env={"HALIVOMUE_LIBRARY": stub})
-            self.assertIn("halivomue_read", said)
-
     def test_the_folder_alone(self):
         """The package's folder with the shared object in it works anywhere, without gcc and toolchain."""
         with tempfile.TemporaryDirectory() as folder:

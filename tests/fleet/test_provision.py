@@ -80,12 +80,12 @@ class Samples(Case):
         before = {name: os.stat(os.path.join(os.fsencode(self.filed), name)).st_mtime_ns for name in tree(self.filed) if b".call" in name}
         first = tree(self.filed)
 
-        def untidy_alone(data, before=provisioning._library.tidied):
-            """What is filed without a shortened form is asked for the reason again."""
-            self.assertEqual(data, sample("untidy"))
+        def not_filed_with_short(data, before=provisioning._library.provisioned):
+            """What is refused, or filed without a shortened form, is asked for the reason again."""
+            self.assertIn(data, (sample("refused"), sample("untidy")))
             return before(data)
 
-        with replaced(provisioning._library, "tidied", untidy_alone):
+        with replaced(provisioning._library, "provisioned", not_filed_with_short):
             outcome, _ = provision_here(self.sent, self.filed)
         self.assertEqual((outcome.done, outcome.kept), (0, 3))
         self.assertEqual(tree(self.filed), first)
