@@ -119,6 +119,7 @@ def described(name: str, answer: str, filed: str, both: Both) -> Row:
     sent, short, counts, _ = both
     if short is None:
         return without_short(name, answer, "as sent" if filed == "yes" else filed, both)
+    digest = _sha256(sent).hexdigest()
     return Row(
         name=name,
         answer=answer,
@@ -133,8 +134,8 @@ def described(name: str, answer: str, filed: str, both: Both) -> Row:
         grown=counts.grown,
         fresh=counts.fresh,
         rescued=counts.rescued,
-        sha256_sent=_sha256(sent).hexdigest(),
-        sha256_short=_sha256(short).hexdigest(),
+        sha256_sent=digest,
+        sha256_short=digest if short == sent else _sha256(short).hexdigest(),
     )
 
 
@@ -167,7 +168,7 @@ class Target:
     def at(self, name: bytes) -> Tuple[Folder, bytes]:
         """Holds the folder for a file. Which folders are in it is learnt before its first file: none of
         them can become a file."""
-        below = os.path.dirname(name)
+        below = name.rpartition(b"/")[0]
         if below != self.held.name:
             self.leave()
         held = self.held.folder
