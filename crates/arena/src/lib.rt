@@ -30,7 +30,7 @@ fn is_last(r: Record, top: usize) -> bool
 pub fn has_room(work: &[u8], top: usize, n: usize) -> bool
     ensures { λ z. ⌜ z ≡ spec.room (now (work .entry)) top n ⌝ }
 {
-    let limit = blocks::least(work.len() / 32, 4294967295);
+    let limit = general::least(work.len() / 32, 4294967295);
     top <= limit && n <= limit - top
 }
 
@@ -129,7 +129,7 @@ pub fn append(
 ) -> usize
     ensures { λ r. ⌜ arena (now (work .exit)) (now (table .exit)) r ≡ spec.pushAll (k .0) (take n code) (arena (now (work .entry)) (now (table .entry)) top) ⌝ }
 {
-    let end = blocks::least(n, 4);
+    let end = general::least(n, 4);
     let mut at = top;
     let mut i = 0;
     while i < end {

@@ -1,7 +1,6 @@
 // The blocks of a code by its block table: each is a part of the code's bytes.
 ghost use mathlib.Core.Path.{_≡_};
 ghost use mathlib.Core.List.{[]};
-ghost use Prim.Native.Nat.{ℕ, min};
 ghost use lib.Dec.{eqb};
 ghost use lib.ListN.{length, getD};
 ghost use Rattle.records.specs.Record.{recordAt};
@@ -16,19 +15,12 @@ use inst::Inst;
 use inst::StmtId;
 use records::Record;
 
-// The lesser of two numbers.
-pub fn least(a: usize, b: usize) -> usize
-    ensures { λ r. ⌜ r ≡ min a b ⌝ }
-{
-    if a <= b { a } else { b }
-}
-
 // The part of a code from start to end, kept within it.
 pub fn part<'a>(code: &'a [u8], start: u32, end: u32) -> &'a [u8]
     ensures { λ r. ⌜ now r ≡ partBytes (now (code .entry)) start end ⌝ }
 {
-    let e = least(end as usize, code.len() / 32);
-    let s = least(start as usize, e);
+    let e = general::least(end as usize, code.len() / 32);
+    let s = general::least(start as usize, e);
     &code[32 * s..32 * e]
 }
 
@@ -50,7 +42,7 @@ pub fn block<'a>(code: &'a [u8], table: &[u8], k: BlockId) -> &'a [u8]
 pub fn end_by(code: &[u8], r: Record) -> End
     ensures { λ e. ⌜ e ≡ endOf (codesOf (bytesOfBlock (now (code .entry)) r)) ⌝ }
 {
-    let end = least(r.p2 as usize, code.len() / 32);
+    let end = general::least(r.p2 as usize, code.len() / 32);
     if end <= r.p1 as usize {
         return End::Other;
     }
@@ -69,7 +61,7 @@ pub fn is_lone(code: &[u8], table: &[u8], k: BlockId) -> bool
     ensures { λ z. ⌜ z ≡ eqb (length (getD (blocksOf (now (code .entry)) (now (table .entry))) (k .0) [])) 1 ⌝ }
 {
     let r = records::record_at(table, k.0 as usize);
-    r.p1 as usize + 1 == least(r.p2 as usize, code.len() / 32)
+    r.p1 as usize + 1 == general::least(r.p2 as usize, code.len() / 32)
 }
 
 // A block's code without its last instruction.
@@ -77,7 +69,7 @@ pub fn front<'a>(code: &'a [u8]) -> &'a [u8]
     ensures { λ r. ⌜ now r ≡ spec.frontBytes (now (code .entry)) ⌝ }
 {
     let n = code.len() / 32;
-    let last = least(1, n);
+    let last = general::least(1, n);
     &code[..32 * (n - last)]
 }
 

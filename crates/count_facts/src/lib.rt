@@ -1,7 +1,7 @@
 // Fills the table of facts: definitions and uses are counted, constants noted.
 ghost use mathlib.Core.Path.{_≡_};
 ghost use mathlib.Core.List.{_++_};
-ghost use Prim.Native.Nat.{_*_, _/_, min};
+ghost use Prim.Native.Nat.{_*_, _/_};
 ghost use lib.ListN.{length};
 ghost use Rattle.procedure.specs.Procedure.{codesOf};
 ghost use Rattle.facts.specs.Storage.{rows, rowOf, tableOf, kindsOf, operandsIn};
@@ -9,15 +9,6 @@ ghost use Rattle.facts.specs.Storage.{rows, rowOf, tableOf, kindsOf, operandsIn
 mod class;
 mod count;
 mod start;
-
-fn least(a: usize, b: usize) -> usize
-    ensures { λ z. ⌜ z ≡ min a b ⌝ }
-{
-    if a < b {
-        return a;
-    }
-    b
-}
 
 // A row for each register of the table.
 fn fill(code: &[u8], operands: &[u8], registers: &[u8], kinds: &[u8], table: &mut [u64])
@@ -38,6 +29,6 @@ pub fn facts(code: &[u8], operands: &[u8], registers: &[u8], kinds: &[u8], table
         ≡ tableOf (now (table .entry)) (kindsOf (now (registers .entry)) ++ now (kinds .entry)) (operandsIn (now (operands .entry)))
         (codesOf (now (code .entry))) ⌝ }
 {
-    let n = least(registers.len() / 32 + kinds.len(), table.len() / 5);
+    let n = general::least(registers.len() / 32 + kinds.len(), table.len() / 5);
     fill(code, operands, registers, kinds, &mut table[..5 * n]);
 }

@@ -32,9 +32,9 @@ pub fn emit(
     let room = code.len() / 32;
     let seen = reach::reached(work, table, arms);
     let kept = emit_records::put_keep(code, 0, work, table, &seen, facts);
-    let rescued = blocks::least(kept, 4294967295) as u32;
+    let rescued = general::least(kept, 4294967295) as u32;
     emit_records::put_heads(heads, 0, rescued, work, table, &seen);
     let top = emit_records::put_code(code, kept, work, table, &seen);
-    let n = blocks::least(top, room);
+    let n = general::least(top, room);
     Staged { n, rescued }
 }

@@ -174,7 +174,7 @@ fn code_at<'a>(work: &'a [u8], table: &[u8], b: usize) -> &'a [u8]
 fn mark_at(seen: &[bool], b: usize) -> bool
     ensures { λ z. ⌜ z ≡ getD (marksIn (now (seen .entry))) b true ⌝ }
 {
-    if b < blocks::least(160, seen.len()) {
+    if b < general::least(160, seen.len()) {
         return seen[b];
     }
     true
@@ -185,7 +185,7 @@ fn keeps(work: &[u8], table: &[u8], seen: &[bool], b: usize) -> bool
     ensures { λ z. ⌜ z ≡ staysAt (marksIn (now (seen .entry))) (blocksOf (now (work .entry)) (now (table .entry))) b ⌝ }
 {
     let nb = table.len() / 32;
-    let last = nb - blocks::least(1, nb) <= b;
+    let last = nb - general::least(1, nb) <= b;
     stays(mark_at(seen, b), last, code_at(work, table, b))
 }
 
@@ -274,8 +274,8 @@ fn size_at(work: &[u8], table: &[u8], seen: &[bool], b: usize) -> usize
 fn end_after(start: u32, front: u32, size: usize) -> u32
     ensures { λ z. ⌜ z ≡ endAfter start front size ⌝ }
 {
-    let n = blocks::least(size, 4294967295);
-    blocks::least(start as usize + front as usize + n, 4294967295) as u32
+    let n = general::least(size, 4294967295);
+    general::least(start as usize + front as usize + n, 4294967295) as u32
 }
 
 // The records of the emitted blocks, of which the first has keep records more, are written from a place on; returns the next place.

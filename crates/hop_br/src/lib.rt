@@ -66,8 +66,8 @@ pub struct Joined {
 fn next_number(facts: &[u64], fresh: usize) -> Reg
     ensures { λ r. ⌜ r .0 ≡ nextIn (now (facts .entry)) fresh ⌝ }
 {
-    let m = blocks::least(facts::registers(facts), 65535);
-    Reg((m + blocks::least(fresh, 65535 - m)) as u32)
+    let m = general::least(facts::registers(facts), 65535);
+    Reg((m + general::least(fresh, 65535 - m)) as u32)
 }
 
 // A register's kind; 0 for a register that the file doesn't have.
@@ -85,7 +85,7 @@ fn put_kinds(kinds: &mut [u8], facts: &[u64], old: [Reg; 4], n: usize, from: usi
     ensures { λ u. ⌜ now (kinds .exit) ≡ kindsPut (now (kinds .entry)) from
         (map (λ (d : ℕ). getD (kindsIn (now (facts .entry))) d 0) (take n (numbersOf old))) ⌝ }
 {
-    let end = blocks::least(n, 4);
+    let end = general::least(n, 4);
     let mut at = from;
     let mut k = 0;
     while k < end {

@@ -3,7 +3,7 @@ ghost use mathlib.Core.Path.{_≡_};
 ghost use mathlib.Core.Bool.{cond, _||_};
 ghost use mathlib.Core.List.{[]};
 ghost use mathlib.Core.Option.{none};
-ghost use Prim.Native.Nat.{_/_, _≤_, min};
+ghost use Prim.Native.Nat.{_/_, _≤_};
 ghost use lib.Dec.{eqb};
 ghost use lib.ListN.{length};
 ghost use Rattle.procedure.specs.Lists.{found, valueOr};
@@ -18,15 +18,6 @@ use inst::Reg;
 pub struct Held {
     pub known: usize,
     pub copy: usize,
-}
-
-fn least(a: usize, b: usize) -> usize
-    ensures { λ z. ⌜ z ≡ min a b ⌝ }
-{
-    if a < b {
-        return a;
-    }
-    b
 }
 
 // 0 for a value that a write of d ends, else 1.
@@ -92,8 +83,8 @@ fn retain_copies(copy: &mut [u32], n: usize, d: u32) -> usize
 pub fn forget(known: &mut [u64], copy: &mut [u32], h: Held, d: Reg) -> Held
     ensures { λ z. ⌜ (heldIn z (now (known .exit)) (now (copy .exit)) ≡ forgetOf (d .0) (heldIn h (now (known .entry)) (now (copy .entry)))) × NoMore z h ⌝ }
 {
-    let n = least(h.known, known.len() / 2);
-    let m = least(h.copy, copy.len() / 2);
+    let n = general::least(h.known, known.len() / 2);
+    let m = general::least(h.copy, copy.len() / 2);
     let left = retain_values(known, n, d.0 as u64);
     Held {
         known: left,
@@ -135,7 +126,7 @@ fn find_copy(copy: &[u32], n: usize, r: u32) -> u32
 pub fn source_of(copy: &[u32], h: Held, r: Reg) -> Reg
     ensures { λ z. ⌜ z .0 ≡ sourceOf (heldIn h [] (now (copy .entry))) (r .0) ⌝ }
 {
-    let n = least(h.copy, copy.len() / 2);
+    let n = general::least(h.copy, copy.len() / 2);
     Reg(find_copy(copy, n, r.0))
 }
 
@@ -143,7 +134,7 @@ pub fn source_of(copy: &[u32], h: Held, r: Reg) -> Reg
 pub fn value_of(known: &[u64], h: Held, facts: &[u64], r: Reg) -> Word
     ensures { λ z. ⌜ wordIn z ≡ valueOf (factsIn (now (facts .entry)) none 0) (heldIn h (now (known .entry)) []) (r .0) ⌝ }
 {
-    let n = least(h.known, known.len() / 2);
+    let n = general::least(h.known, known.len() / 2);
     let f = find(known, n, r.0 as u64);
     match f {
         Word::Some(x) => Word::Some(x),

@@ -43,7 +43,7 @@ fn answered(n: usize, moved: bool, grown: u32, fresh: u32, rescued: u32) -> Answ
 fn short(n: usize) -> u32
     ensures { λ r. ⌜ r ≡ shortOf n ⌝ }
 {
-    blocks::least(n, 4294967295) as u32
+    general::least(n, 4294967295) as u32
 }
 
 // How many records a result has, by the bytes of each class and the kinds of its new registers.

@@ -1,16 +1,8 @@
 // A file that is read, cut into the bytes of its classes.
 ghost use mathlib.Core.Path.{_≡_};
-ghost use Prim.Native.Nat.{min};
 ghost use Rattle.records.specs.Record.{recordsOf};
 ghost use Rattle.parts.specs.Parts.{startAt, startsIn, partOf};
 use layout::Layout;
-
-// The lesser of two numbers.
-fn least(a: usize, b: usize) -> usize
-    ensures { λ r. ⌜ r ≡ min a b ⌝ }
-{
-    if a <= b { a } else { b }
-}
 
 // The end of the records of a class before `class` that stand together from `first` on.
 fn start_of(b: &[u8], first: usize, class: u32) -> usize
@@ -50,7 +42,7 @@ pub fn starts(b: &[u8]) -> Layout
 pub fn part<'a>(b: &'a [u8], first: usize, end: usize) -> &'a [u8]
     ensures { λ r. ⌜ now r ≡ partOf (now (b .entry)) first end ⌝ }
 {
-    let e = least(end, b.len() / 32);
-    let s = least(first, e);
+    let e = general::least(end, b.len() / 32);
+    let s = general::least(first, e);
     &b[32 * s..32 * e]
 }

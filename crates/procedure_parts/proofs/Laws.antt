@@ -14,7 +14,7 @@ use Rattle.layout.specs.declared.Layout.{Layout}
 use Rattle.layout.specs.Classes.{ofClass, before}
 use Rattle.layout.proofs.Order.{before-none, sorted-of}
 use Rattle.put_record.specs.Store.{Bytes, Fits}
-use Rattle.read.specs.Reading.{reading}
+use Rattle.read.specs.Reading.{checked}
 use Rattle.read.specs.Structure.{numbered, codeOf as recordsOfBlock}
 use Rattle.read.specs.Work.{LaidOut}
 use Rattle.read.proofs.Laid.{sizes, class-part}
@@ -131,7 +131,7 @@ module _ {p : Procedure} {x : Parts} (h : Parted p x) where
   pub registers-sent : length (x .registers) ≡ 32 * length (p .registers)
   registers-sent = h .registers-length ∙ ap (λ (k : List ℕ). 32 * length k) kinds-sent
 
-module _ (b : List ℕ) (h : Bytes b) (e : reading b .number ≡ 0) where
+module _ (b : List ℕ) (h : Bytes b) (e : checked b .number ≡ 0) where
   abbrev rs : List Record
   rs = recordsOf b
 

@@ -84,7 +84,7 @@ fn push_targets(
 pub fn reached(code: &[u8], table: &[u8], arms: &[u8]) -> [bool; 160]
     ensures { λ z. ⌜ z ≡ seenIn (now (code .entry)) (now (table .entry)) (now (arms .entry)) ⌝ }
 {
-    let nb = blocks::least(table.len() / 32, 160);
+    let nb = general::least(table.len() / 32, 160);
     let mut seen = [false; 160];
     let mut stack = [0u32; 160];
     let mut top = push(&mut seen, &mut stack, 0, nb, BlockId(0));

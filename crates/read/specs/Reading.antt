@@ -74,6 +74,10 @@ readBlocks rs =
 unfoldable pub readRecords : List Record → Reading
 readRecords rs = unless 2 0 (ordered rs) (length rs) (cond (beyondLimit rs) (answer 3 0) (readBlocks rs))
 
--- "In order: 1 .. 7. Result: 0 and 0 if accepted, else number and first offending record"
-unfoldable pub reading : List ℕ → Reading
-reading b = cond (wrongLength b) (answer 1 0) (readRecords (recordsOf b))
+-- "In order: 1 .. 7": the seven conditions of a file
+unfoldable pub checked : List ℕ → Reading
+checked b = cond (wrongLength b) (answer 1 0) (readRecords (recordsOf b))
+
+-- Read. "Result: 0 and 0 if accepted, else number and first offending record"
+abbrev pub reading : List ℕ → Reading
+reading b = checked b

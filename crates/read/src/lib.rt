@@ -5,7 +5,7 @@ ghost use Prim.Native.Nat.{ℕ, _+_, _≤_};
 ghost use lib.Dec.{ltb, eqb};
 ghost use lib.ListN.{length};
 ghost use Rattle.records.specs.Record.{recordsOf};
-ghost use Rattle.read.specs.Reading.{answer, beyond as beyondLimits, readTables, readBlocks, readRecords, reading};
+ghost use Rattle.read.specs.Reading.{answer, beyond as beyondLimits, readTables, readBlocks, readRecords, checked, reading};
 ghost use Rattle.read.specs.Work.{LaidOut};
 use layout::Layout;
 use record_rules::exist::Counts;
@@ -126,9 +126,9 @@ fn read_records(b: &[u8]) -> Reading
     read_blocks(b, l)
 }
 
-// Reads a file: accepted, or refused with number and record.
-pub fn read(b: &[u8]) -> Reading
-    ensures { λ r. ⌜ r ≡ reading (now (b .entry)) ⌝ }
+// Asks the seven conditions of a file.
+pub fn check(b: &[u8]) -> Reading
+    ensures { λ r. ⌜ r ≡ checked (now (b .entry)) ⌝ }
 {
     let length = b.len();
     if length % 32 != 0 {
@@ -138,4 +138,11 @@ pub fn read(b: &[u8]) -> Reading
         return refused(1, 0);
     }
     read_records(b)
+}
+
+// Reads a file: accepted, or refused with number and record.
+pub fn read(b: &[u8]) -> Reading
+    ensures { λ r. ⌜ r ≡ reading (now (b .entry)) ⌝ }
+{
+    check(b)
 }

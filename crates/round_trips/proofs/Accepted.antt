@@ -16,7 +16,7 @@ use Rattle.layout.specs.Classes.{ofClass, ordered, before, inOrder}
 use Rattle.layout.proofs.Walks.{walk-le, lead-le}
 use Rattle.read.specs.declared.Reading.{Reading}
 use Rattle.read.specs.Structure.{tiles, nextBlock, tiled, endsWell, ended, numbers, nextArm, numbered, codeOf as recordsOfBlock}
-use Rattle.read.specs.Reading.{unless, answer, reading, readRecords, readBlocks, readTables, countsOf, named, beyond, beyondLimit, wrongLength}
+use Rattle.read.specs.Reading.{unless, answer, checked, readRecords, readBlocks, readTables, countsOf, named, beyond, beyondLimit, wrongLength}
 use Rattle.read.proofs.Laid.{pass-on}
 use Rattle.round_trips.specs.WellFormed.{All}
 use Rattle.round_trips.proofs.Lists.{lead-all, all-lead}
@@ -139,14 +139,14 @@ module _ (rs : List Record) where
       (pass-on 7 0 (named rs) (length rs) (at-least (lead-all (namesExist (countsOf rs)) rs (a .name))) refl))))))
 
 module _ (b : List ℕ) where
-  pub read-accepted : reading b .number ≡ 0 → (length b % 32 ≡ 0) × (length b ≤ 65536) × Accepted (recordsOf b)
-  unfolding reading
+  pub read-accepted : checked b .number ≡ 0 → (length b % 32 ≡ 0) × (length b ≤ 65536) × Accepted (recordsOf b)
+  unfolding checked
   read-accepted e =
       let one = held (wrongLength b) 1 0 (readRecords (recordsOf b)) (omega arith) e in
       let m = or-first (not (eqb (length b % 32) 0)) _ (one .0) in
       let s = or-second (not (eqb (length b % 32) 0)) _ (one .0) in
       (eqb-true (length b % 32) 0 (not-false (eqb (length b % 32) 0) m), ltb-false 65536 (length b) s, records-accepted (recordsOf b) (one .1))
 
-  pub accepted-read : length b % 32 ≡ 0 → length b ≤ 65536 → Accepted (recordsOf b) → reading b ≡ answer 0 0
-  unfolding reading
+  pub accepted-read : length b % 32 ≡ 0 → length b ≤ 65536 → Accepted (recordsOf b) → checked b ≡ answer 0 0
+  unfolding checked
   accepted-read m s a = rw (eq-eqb (length b % 32) 0 m, le-ltb 65536 (length b) s) (accepted-records (recordsOf b) a)

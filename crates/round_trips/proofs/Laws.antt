@@ -6,7 +6,7 @@ use mathlib.Core.List.{List}
 use lib.ListN.{length}
 use Rattle.records.specs.Record.{recordsOf}
 use Rattle.put_record.specs.Store.{Bytes}
-use Rattle.read.specs.Reading.{reading, answer}
+use Rattle.read.specs.Reading.{checked, answer}
 use Rattle.layout.specs.Classes.{ofClass}
 use Rattle.procedure.specs.Procedure.{Procedure, procedureOf}
 use Rattle.procedure.specs.Lists.{joined}
@@ -17,7 +17,7 @@ use Rattle.round_trips.proofs.Accepted.{Accepted, read-accepted, accept
 use Rattle.round_trips.proofs.FromRecords as From
 use Rattle.round_trips.proofs.ToRecords as To
 
-module _ (b : List ℕ) (h : Bytes b) (e : reading b .number ≡ 0) where
+module _ (b : List ℕ) (h : Bytes b) (e : checked b .number ≡ 0) where
   -- an accepted file's procedure is well formed
   pub read-well-formed : WellFormed (procedureOf (recordsOf b))
   read-well-formed = From.well-formed (recordsOf b) (read-accepted b e .2) (records-fit b h)
@@ -42,7 +42,7 @@ module _ (p : Procedure) (w : WellFormed p) where
   written-few = let e = bytes-length (recordsFor p) in let i = To.records-few p w in omega arith
 
   -- are accepted
-  pub written-accepted : reading (bytesOf (recordsFor p)) ≡ answer 0 0
+  pub written-accepted : checked (bytesOf (recordsFor p)) ≡ answer 0 0
   written-accepted =
       let e = bytes-length (recordsFor p) in
       let i = written-few in

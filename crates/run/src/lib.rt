@@ -32,14 +32,14 @@ fn still(n: usize) -> Threaded
 fn budget(n: usize) -> u32
     ensures { λ z. ⌜ z ≡ r.budgetIn n ⌝ }
 {
-    blocks::least(n / 2 + 32, 4294967295) as u32
+    general::least(n / 2 + 32, 4294967295) as u32
 }
 
 // The facts of the first n instructions.
 fn counted(work: &[u8], facts: &mut [u64], operands: &[u8], registers: &[u8], n: usize)
     ensures { λ u. ⌜ now (facts .exit) ≡ r.countedIn n (now (operands .entry)) (now (registers .entry)) (now (facts .entry)) (now (work .entry)) ⌝ }
 {
-    let m = blocks::least(n, work.len() / 32);
+    let m = general::least(n, work.len() / 32);
     count_facts::facts(&work[..32 * m], operands, registers, &work[..0], facts);
 }
 

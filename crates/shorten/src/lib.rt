@@ -61,8 +61,8 @@ fn shorten_over(
         (length (now facts)) (length (now staged)) (length (now heads)) ⌝ }
     ensures { λ r. ⌜ (Fits most blocks (partsOf (now (b .entry)) l) → Done (partsOf (now (b .entry)) l) r (now (out .entry)) (now (out .exit))) ⌝ }
 {
-    let nb = blocks::least(parts::part(b, l.blocks, l.bodies).len() / 32, blocks);
-    let nr = blocks::least(parts::part(b, 0, l.blocks).len() / 32, most);
+    let nb = general::least(parts::part(b, l.blocks, l.bodies).len() / 32, blocks);
+    let nr = general::least(parts::part(b, 0, l.blocks).len() / 32, most);
     shortening::shorten_in(
         b,
         l,
@@ -281,8 +281,8 @@ pub fn shorten_within(bytes: &[u8], out: &mut [u8], registers: usize, code: usiz
     shorten_below(
         bytes,
         out,
-        blocks::least(registers, 480),
-        blocks::least(code, 480),
+        general::least(registers, 480),
+        general::least(code, 480),
     )
 }
 

@@ -22,7 +22,7 @@ use steps::Answer;
 fn put_front(b: &mut [u8], s: &[u8])
     ensures { λ u. ⌜ now (b .exit) ≡ fronted (now (b .entry)) (now (s .entry)) ⌝ }
 {
-    let n = blocks::least(s.len(), b.len());
+    let n = general::least(s.len(), b.len());
     let mut i = 0;
     while i < n {
         b[i] = s[i];
@@ -138,7 +138,7 @@ fn write_same(
         → r .at .edited ≡ false → outcome z (now (out .exit)) ≡ shortened (runOf p) (now (out .entry))) ⌝ }
 {
     let n = parts::part(b, l.code, l.operands).len() / 32;
-    let m = blocks::least(n, work.len() / 32);
+    let m = general::least(n, work.len() / 32);
     finish(
         out,
         b,
@@ -174,7 +174,7 @@ fn write_emitted(
     let e = emit::emit(code, heads, work, table, arms, facts);
     let n = e.n;
     let at = r.at;
-    let m = blocks::least(at.fresh, kinds.len());
+    let m = general::least(at.fresh, kinds.len());
     let grown = if at.grown < 4294967295 {
         at.grown as u32
     } else {

@@ -14,7 +14,7 @@ use Rattle.records.specs.Record.{recordsOf}
 use Rattle.put_record.specs.Store.{Bytes}
 use Rattle.layout.specs.Classes.{ofClass}
 use Rattle.read.specs.declared.Reading.{Reading}
-use Rattle.read.specs.Reading.{unless, answer, reading, readRecords, readBlocks, readTables, wrongLength, beyondLimit}
+use Rattle.read.specs.Reading.{unless, answer, checked, readRecords, readBlocks, readTables, wrongLength, beyondLimit}
 use Rattle.procedure.specs.Procedure.{procedureOf}
 use Rattle.word.specs.Word.{bit}
 use Rattle.steps.specs.Run.{Shortened, run}
@@ -38,8 +38,8 @@ either : (t : Bool) (x o : Reading) → x .number ≤ 7 → o .number ≤ 7 → 
 either true x o i j = i
 either false x o i j = j
 
-seven : (b : List ℕ) → reading b .number ≤ 7
-unfolding reading readRecords readBlocks readTables
+seven : (b : List ℕ) → checked b .number ≤ 7
+unfolding checked readRecords readBlocks readTables
 seven b =
     either (wrongLength b) (answer 1 0) _ (omega arith)
     (few-numbers 2 _ _ _ _ (omega arith)
@@ -54,13 +54,13 @@ shortBytes b = bytesOf (recordsFor (run (procedureOf (recordsOf b)) .procedure))
 
 -- a file within the shortening limits
 pub record Within (b : List ℕ) : Type 0 where
-  pub accepted : reading b .number ≡ 0
+  pub accepted : checked b .number ≡ 0
   pub registers : length (ofClass 1 (recordsOf b)) ≤ 480
   pub code : length (ofClass 4 (recordsOf b)) ≤ 480
 
 -- "The same seven; 8 above the shortening limits; 9 output shorter than the result", or success
 pub data Fate (b out : List ℕ) : Type 0 where
-  unread : (reading b .number ≡ 0 → ⊥) → shorten b out ≡ refusal (reading b .number) (reading b .place) out → Fate b out
+  unread : (checked b .number ≡ 0 → ⊥) → shorten b out ≡ refusal (checked b .number) (checked b .place) out → Fate b out
   over : shorten b out ≡ refusal 8 0 out → Fate b out
   short : Within b → length out < length (shortBytes b) → shorten b out ≡ refusal 9 0 out → Fate b out
   done : Within b → length (shortBytes b) ≤ length out → shorten b out ≡ success (run (procedureOf (recordsOf b))) (shortBytes b) out → Fate b out
@@ -76,20 +76,20 @@ module _ (b out : List ℕ) where
   room true e w q = short w (ltb-true (length out) (length (shortBytes b)) e) q
   room false e w q = done w (ltb-false (length out) (length (shortBytes b)) e) q
 
-  limits : (t : Bool) → above 480 480 rs ≡ t → reading b .number ≡ 0 → shorten b out ≡ runUnless t rs out → Fate b out
+  limits : (t : Bool) → above 480 480 rs ≡ t → checked b .number ≡ 0 → shorten b out ≡ runUnless t rs out → Fate b out
   limits true e r q = over q
   limits false e r q =
       let few = ltb-false 480 (length (ofClass 1 rs)) (or-first (ltb 480 (length (ofClass 1 rs))) _ e) in
       let less = ltb-false 480 (length (ofClass 4 rs)) (or-second (ltb 480 (length (ofClass 1 rs))) _ e) in
       room (ltb (length out) (length (shortBytes b))) refl (record { accepted = r; registers = few; code = less }) q
 
-  read-first : (t : Bool) → eqb (reading b .number) 0 ≡ t → shorten b out ≡ acceptIf t (reading b) 480 480 rs out → Fate b out
-  read-first true e q = limits (above 480 480 rs) refl (eqb-true (reading b .number) 0 e) q
-  read-first false e q = unread (eqb-false (reading b .number) 0 e) q
+  read-first : (t : Bool) → eqb (checked b .number) 0 ≡ t → shorten b out ≡ acceptIf t (checked b) 480 480 rs out → Fate b out
+  read-first true e q = limits (above 480 480 rs) refl (eqb-true (checked b .number) 0 e) q
+  read-first false e q = unread (eqb-false (checked b .number) 0 e) q
 
   pub fate : Fate b out
   unfolding shortenWithin
-  fate = read-first (eqb (reading b .number) 0) refl refl
+  fate = read-first (eqb (checked b .number) 0) refl refl
 
   -- the procedure that is shortened, and what is left of it
   module _ (h : Bytes b) (w : Within b) where
@@ -114,14 +114,14 @@ module _ (b out : List ℕ) where
   taken : shorten b out ≡ success s (shortBytes b) out → take (shorten b out .answer .length) (shorten b out .output) ≡ shortBytes b
   taken q = rw q (take-append-seam (shortBytes b) (drop (length (shortBytes b)) out))
 
-  pub shortened-accepted : Bytes b → shorten b out .answer .number ≡ 0 → reading (take (shorten b out .answer .length) (shorten b out .output)) ≡ answer 0 0
+  pub shortened-accepted : Bytes b → shorten b out .answer .number ≡ 0 → checked (take (shorten b out .answer .length) (shorten b out .output)) ≡ answer 0 0
   shortened-accepted h e = by fate
     where
-      by : Fate b out → reading (take (shorten b out .answer .length) (shorten b out .output)) ≡ answer 0 0
+      by : Fate b out → checked (take (shorten b out .answer .length) (shorten b out .output)) ≡ answer 0 0
       by (unread n q) = absurd (n (sym (ap (λ o. o .answer .number) q) ∙ e))
       by (over q) = absurd (let z = ap (λ o. o .answer .number) q in omega arith)
       by (short w i q) = absurd (let z = ap (λ o. o .answer .number) q in omega arith)
-      by (done w i q) = ap reading (taken q) ∙ written-accepted (s .procedure) (after h w)
+      by (done w i q) = ap checked (taken q) ∙ written-accepted (s .procedure) (after h w)
 
   -- 1,929 records hold every result
   pub room-enough : Bytes b → 61728 ≤ length out → shorten b out .answer .number ≡ 9 → ⊥

@@ -11,7 +11,7 @@ use Rattle.record_rules.specs.Exist.{namesExist}
 use Rattle.layout.specs.Walk.{walk as passed}
 use Rattle.layout.specs.Classes.{ofClass, before}
 use Rattle.read.specs.Structure.{tiles, numbers, tables}
-use Rattle.read.specs.Reading.{unless, readTables, readBlocks, readRecords, reading}
+use Rattle.read.specs.Reading.{unless, readTables, readBlocks, readRecords, checked}
 use Rattle.codec.specs.Codec.{instOf, instRecord}
 use Rattle.items.specs.Items.{rowOf}
 use Rattle.procedure.specs.Procedure.{tablesFrom, procedureOf}
@@ -262,7 +262,7 @@ table = P1 ∷ P2 ∷ P3 ∷ P4 ∷ P5 ∷ P6 ∷ P7 ∷ P8 ∷ []
 
 pub proved : map (λ r. shorten (r .sent) buffer) table ≡ map (λ r. r .outcome) table
 unfolding bytesOf wordBytes tagBytes recordsOf firstRecords right namesExist passed ofClass before tiles numbers tables unless readTables readBlocks
-    readRecords reading instOf instRecord tablesFrom procedureOf anyOf times found formOf viewOf endOf front withEnd copyable small stepBy
+    readRecords checked instOf instRecord tablesFrom procedureOf anyOf times found formOf viewOf endOf front withEnd copyable small stepBy
     stepBlock latch readsKonst writesIn useCount fixedOf constIn constOf konstOf factsOf valuesWithout copiesWithout forgetAll learn notes
     follow joinArms joinFrom backEdgeFrom copied mayThreadFrom exchanged howOf ownUses copyFrom kindsGiven armOf hopCondBr stops hopBr hop hops
     threadFrom total walk reachedFrom reached stays emptyFrom rescuedOf rescues emit threadedForm blockRecords tableRecords recordsFor shortenWithin

@@ -78,8 +78,8 @@ fn hop_cond_br(
 fn fresh_to(fresh: usize, n: usize) -> usize
     ensures { λ r. ⌜ r ≡ freshTo fresh n ⌝ }
 {
-    let m = blocks::least(fresh, 65535);
-    m + blocks::least(n, 65535 - m)
+    let m = general::least(fresh, 65535);
+    m + general::least(n, 65535 - m)
 }
 
 // A hop of block a, which ends with Br l.
@@ -170,7 +170,7 @@ pub fn thread(
         ≡ threadIn (now (facts .entry)) (bodyIn pause) budget (length (now (known .entry))) (length (now (copy .entry)))
         (now (work .entry)) (now (table .entry)) (now (kinds .entry)) top ⌝ }
 {
-    let n = blocks::least(table.len() / 32, 4294967296);
+    let n = general::least(table.len() / 32, 4294967296);
     let mut s = Threaded {
         top,
         grown: 0,

@@ -17,7 +17,7 @@ use Rattle.general.proofs.Booleans.{cases}
 use Rattle.layout.proofs.Walks.{walk-le}
 use Rattle.read.specs.declared.Reading.{Reading}
 use Rattle.read.specs.Structure.{tiles, nextBlock, tiled, codeOf as recordsOfBlock}
-use Rattle.read.specs.Reading.{unless, answer, reading, readRecords, readBlocks, beyond, beyondLimit, wrongLength}
+use Rattle.read.specs.Reading.{unless, answer, checked, readRecords, readBlocks, beyond, beyondLimit, wrongLength}
 use Rattle.read.specs.Work.{InCode, LaidOut}
 use Rattle.read.proofs.Laid.{sizes, class-part, in-tiles}
 use Rattle.codec.specs.Codec.{codeOf}
@@ -81,12 +81,12 @@ within : (a b c d e f : ℕ) → beyond a b c d e f ≡ false → (a ≤ 756) ×
 within a b c d e f h = (ltb-false 756 a (or-first (ltb 756 a) _ h), ltb-false 160 b (or-first (ltb 160 b) _ (or-second (ltb 756 a) _ h)))
 
 -- a file that Read accepts is in order
-module _ (b : List ℕ) (e : reading b .number ≡ 0) where
+module _ (b : List ℕ) (e : checked b .number ≡ 0) where
   abbrev rs : List Record
   rs = recordsOf b
 
   length-right : (wrongLength b ≡ false) × (readRecords rs .number ≡ 0)
-  unfolding reading
+  unfolding checked
   length-right = held (wrongLength b) 1 0 (readRecords rs) (omega arith) e
 
   all-ordered : (length rs ≤ ordered rs) × (cond (beyondLimit rs) (answer 3 0) (readBlocks rs) .number ≡ 0)
@@ -165,15 +165,15 @@ module _ {rs : List Record} {l : Layout} (h : LaidOut rs l) (f : Fit rs l) (n : 
       ∙ answer-is p (edgesIn ts) ws few-blocks same table-is
 
 -- the answer by Read's number
-module _ (b : List ℕ) {r : Reading} (e : r ≡ reading b) where
+module _ (b : List ℕ) {r : Reading} (e : r ≡ checked b) where
   pub refused-is : (r .number ≡ 0 → ⊥) → told (r .number) (r .place) 0 0 ≡ tidiness b
   unfolding tidiness
   refused-is h = ap (λ (x : Reading). told (x .number) (x .place) 0 0) e
-      ∙ sym (rw (ne-eqb (reading b .number) 0 (λ i. h (ap (λ (x : Reading). x .number) e ∙ i))))
+      ∙ sym (rw (ne-eqb (checked b .number) 0 (λ i. h (ap (λ (x : Reading). x .number) e ∙ i))))
 
-  pub number-is : r .number ≡ 0 → reading b .number ≡ 0
+  pub number-is : r .number ≡ 0 → checked b .number ≡ 0
   number-is h = ap (λ (x : Reading). x .number) (sym e) ∙ h
 
   pub accepted-is : r .number ≡ 0 → {t : Tidiness} → t ≡ verdict (offenders (procedureOf (recordsOf b))) → t ≡ tidiness b
   unfolding tidiness
-  accepted-is h i = i ∙ sym (rw (eq-eqb (reading b .number) 0 (number-is h)))
+  accepted-is h i = i ∙ sym (rw (eq-eqb (checked b .number) 0 (number-is h)))
