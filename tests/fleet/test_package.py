@@ -344,7 +344,9 @@ class Threads(unittest.TestCase):
         source = """#include <unistd.h>
             struct reading { unsigned number, record; };
             struct reading halivomue_read(const void *b, unsigned long n) { usleep(200000); return (struct reading){0, 0}; }
-            void halivomue_tidy(void) {} void halivomue_shorten(void) {}"""
+            unsigned halivomue_version(void) { return 65536 * %d + %d; }
+            void halivomue_tidy(void) {} void halivomue_shorten(void) {} void halivomue_provision(void) {}"""
+        source %= tuple(map(int, halivomue.__version__.split(".")))
         with tempfile.TemporaryDirectory() as folder:
             stub = os.path.join(folder, "libstub.so")
             subprocess.run(["gcc", "-shared", "-fPIC", "-x", "c", "-", "-o", stub], input=source.encode(), check=True)
