@@ -15,10 +15,10 @@
 #include <unistd.h>
 
 /* Where a procedure arrives, and where it is to be run from. */
-static uint8_t arrived[65536];
+static uint8_t arrived[HALIVOMUE_LONGEST + 1]; /* with one more, a longer procedure is refused */
 static uint8_t loaded[HALIVOMUE_ROOM];
 
-enum loading { LOADED, LOADED_AS_SENT, NOT_LOADED };
+enum loading { LOADED, LOADED_AS_SENT, NOT_LOADED, WIRE_FAILED };
 
 /* Makes the procedure ready: shortened where it is tidy, since only then its whole run is promised to be the same; as
  * sent where it isn't, or is too large to be shortened; not at all where it is refused. */
@@ -44,27 +44,34 @@ static enum loading load(size_t length, size_t *ready)
     return LOADED_AS_SENT;
 }
 
-static size_t receive(void)
+/* Receives a procedure to its end; is it whole? A wire that fails is not the end of a procedure. */
+static int receive(size_t *length)
 {
-    size_t length = 0;
-    ssize_t more;
+    *length = 0;
+    while (*length < sizeof arrived) {
+        ssize_t more = read(0, arrived + *length, sizeof arrived - *length);
 
-    while (length < sizeof arrived && (more = read(0, arrived + length, sizeof arrived - length)) > 0)
-        length += (size_t)more;
-    return length;
+        if (more <= 0)
+            return more == 0;
+        *length += (size_t)more;
+    }
+    return 1;
 }
 
 /* Here the keypad's wire is standard input, and what it would run goes to standard output. */
 int main(void)
 {
-    size_t ready, sent = 0;
-    enum loading how = load(receive(), &ready);
+    size_t length, ready, sent = 0;
+    enum loading how;
 
+    if (!receive(&length))
+        return WIRE_FAILED;
+    how = load(length, &ready);
     while (sent < ready) {
         ssize_t more = write(1, loaded + sent, ready - sent);
 
         if (more <= 0)
-            return NOT_LOADED;
+            return WIRE_FAILED;
         sent += (size_t)more;
     }
     return how;

@@ -4,6 +4,8 @@
  * Linking  `rt staticlib halivomue_c` writes target/staticlib/libhalivomue_c.a,
  *          for x86-64 Linux, position independent. It needs no other library
  *          than C's:  cc program.c libhalivomue_c.a
+ *          Installed (make install) it is found by pkg-config:
+ *          cc program.c $(pkg-config --cflags --libs halivomue)
  * Memory   nothing is allocated, nothing is kept between calls, and there is no
  *          global state. A function reads the bytes it is given, while the call
  *          lasts, and writes nowhere but to its own stack, its answer and, where
@@ -15,10 +17,11 @@
  *          not be memory that another thread or a device changes during the
  *          call, and the buffer none that one reads or changes. The bytes and
  *          the buffer must not overlap: a file can't be shortened in place.
- * Stack    HALIVOMUE_READ_STACK, HALIVOMUE_TIDY_STACK and HALIVOMUE_SHORTEN_STACK
- *          bytes suffice below the caller's frame, for every file: there is no
- *          recursion. Signal handlers come on top.
+ * Stack    HALIVOMUE_READ_STACK, HALIVOMUE_TIDY_STACK, HALIVOMUE_SHORTEN_STACK and
+ *          HALIVOMUE_PROVISION_STACK bytes suffice below the caller's frame, for
+ *          every file: there is no recursion. Signal handlers come on top.
  * Errors   there are none: every function ends, on any bytes, with its answer.
+ * Version  HALIVOMUE_VERSION is this header's, halivomue_version() the library's.
  */
 #ifndef HALIVOMUE_H
 #define HALIVOMUE_H
@@ -30,12 +33,19 @@
 extern "C" {
 #endif
 
-#define HALIVOMUE_VERSION "0.3"
+/* The version of this header; halivomue_version tells that of the library. */
+#define HALIVOMUE_VERSION "0.4"
+#define HALIVOMUE_VERSION_MAJOR 0
+#define HALIVOMUE_VERSION_MINOR 4
 
 /* Bytes of stack that suffice for a call. tests/stack/run measures them. */
 #define HALIVOMUE_READ_STACK 1024
 #define HALIVOMUE_TIDY_STACK 8192
 #define HALIVOMUE_SHORTEN_STACK 131072
+#define HALIVOMUE_PROVISION_STACK 131072
+
+/* Bytes of the longest file that is accepted. */
+#define HALIVOMUE_LONGEST 65536
 
 /* Bytes of output buffer that suffice for the shortened form of every file. */
 #define HALIVOMUE_ROOM 61728
@@ -62,12 +72,50 @@ enum halivomue_refusal {
     /* a record names a register, block, table or list that does not exist */
     HALIVOMUE_NAME = 7,
     /* more registers or instructions than shortening takes, 480 of each; given
-       by halivomue_shorten alone, with record 0 */
+       by halivomue_shorten and halivomue_provision alone, with record 0 */
     HALIVOMUE_SHORTENING_LIMIT = 8,
     /* the output buffer is shorter than the shortened form; given by
-       halivomue_shorten alone, with record 0 */
+       halivomue_shorten and halivomue_provision alone, with record 0 */
     HALIVOMUE_OUTPUT = 9
 };
+
+/* A refusal in words, without its record; the empty string where a file is
+ * accepted, and a null pointer where no refusal has the number.
+ */
+static inline const char *halivomue_reason(uint32_t number)
+{
+    switch (number) {
+    case HALIVOMUE_ACCEPTED:
+        return "";
+    case HALIVOMUE_LENGTH:
+        return "the file is not a multiple of 32 bytes long, or is longer than 65536";
+    case HALIVOMUE_RECORD:
+        return "the record is wrong in itself, or its class is below that of the record before";
+    case HALIVOMUE_LIMIT:
+        return "the file has more records of a class than its limit, or no block";
+    case HALIVOMUE_TILING:
+        return "the block is empty, starts elsewhere than the one before ends, ends past the code, "
+               "or is the last and leaves code over";
+    case HALIVOMUE_TERMINATOR:
+        return "the block ends without a terminator, or has one before its end";
+    case HALIVOMUE_TABLE:
+        return "the arm's table is not the one due, or the last default is missing";
+    case HALIVOMUE_NAME:
+        return "the record names a register, block, table or list that does not exist";
+    case HALIVOMUE_SHORTENING_LIMIT:
+        return "the file has more than 480 registers or 480 instructions, the most that are shortened";
+    case HALIVOMUE_OUTPUT:
+        return "the buffer is too short for the shortened form";
+    default:
+        return (const char *)0;
+    }
+}
+
+/* The version of the library: 65536 times its major number, and its minor one.
+ * A program that was compiled with another header than the library's can notice:
+ * it is 65536 * HALIVOMUE_VERSION_MAJOR + HALIVOMUE_VERSION_MINOR.
+ */
+uint32_t halivomue_version(void);
 
 /* The answer of halivomue_read.
  *
@@ -159,6 +207,31 @@ struct halivomue_shortening {
  */
 struct halivomue_shortening halivomue_shorten(const uint8_t *bytes, size_t length,
                                               uint8_t *out, size_t room);
+
+/* The answer of halivomue_provision.
+ *
+ * tidy, reg         as halivomue_tidy gives them, also of a file that is refused
+ *                   with one of the last two refusals
+ * all else          as halivomue_shorten gives it
+ */
+struct halivomue_provisioning {
+    uint32_t number;
+    uint32_t record;
+    uint32_t tidy;
+    uint32_t reg;
+    size_t length;
+    uint32_t moved;
+    uint32_t grown;
+    uint32_t fresh;
+    uint32_t rescued;
+};
+
+/* Asks of a file both whether it is tidy and for its shortened form: what
+ * halivomue_tidy and halivomue_shorten answer, and write, on the same bytes and
+ * buffer. The file is read once for both.
+ */
+struct halivomue_provisioning halivomue_provision(const uint8_t *bytes, size_t length,
+                                                  uint8_t *out, size_t room);
 
 #ifdef __cplusplus
 }

@@ -11,14 +11,13 @@
 `python3 -m halivomue --help` has the provisioning run, the audit and the page as commands.
 """
 
+from ._library import VERSION as __version__
 from ._library import Data, LibraryError, read, shorten, tidy
 from .answers import LONGEST, ROOM, Reading, Refused, Shortening, Tidiness
 from .filing import Failed
 from .procedure import Arm, Instruction, Procedure, Table, instruction
 from .provisioning import Outcome, provision
 from .report import Row
-
-__version__ = "0.3"
 
 __all__ = [
     "Arm",
@@ -36,6 +35,7 @@ __all__ = [
     "Shortening",
     "Table",
     "Tidiness",
+    "__version__",
     "instruction",
     "provision",
     "read",

@@ -1,4 +1,4 @@
-"""The shared object and its three functions.
+"""The shared object and its functions.
 
 It stands beside this file as libhalivomue.so; HALIVOMUE_LIBRARY names another. ctypes lets go of the
 interpreter's lock while a function works. The functions keep nothing between calls and write only to
@@ -18,11 +18,14 @@ from .answers import LONGEST, ROOM, Reading, Refused, Shortening, Tidiness, is_b
 #: What a file's bytes may be given as.
 Data = Union[bytes, bytearray, memoryview, mmap.mmap]
 
+#: The version of the package, and of the library that it goes with.
+VERSION = "0.4"
+
 _NAME = "libhalivomue.so"
 
 
 class LibraryError(RuntimeError):
-    """The shared object isn't there, can't be loaded, or lacks a function."""
+    """The shared object isn't there, can't be loaded, is of another version, or lacks a function."""
 
 
 class _Reading(ctypes.Structure):
@@ -37,6 +40,20 @@ class _Shortening(ctypes.Structure):
     _fields_ = [
         ("number", ctypes.c_uint32),
         ("record", ctypes.c_uint32),
+        ("length", ctypes.c_size_t),
+        ("moved", ctypes.c_uint32),
+        ("grown", ctypes.c_uint32),
+        ("fresh", ctypes.c_uint32),
+        ("rescued", ctypes.c_uint32),
+    ]
+
+
+class _Provisioning(ctypes.Structure):
+    _fields_ = [
+        ("number", ctypes.c_uint32),
+        ("record", ctypes.c_uint32),
+        ("tidy", ctypes.c_uint32),
+        ("reg", ctypes.c_uint32),
         ("length", ctypes.c_size_t),
         ("moved", ctypes.c_uint32),
         ("grown", ctypes.c_uint32),
@@ -76,6 +93,17 @@ def path() -> str:
     return os.environ.get("HALIVOMUE_LIBRARY") or os.path.join(os.path.dirname(os.path.abspath(__file__)), _NAME)
 
 
+def _version_of(library: ctypes.CDLL) -> str:
+    """The version that a library says it has."""
+    try:
+        version = library.halivomue_version
+    except AttributeError:
+        return "0.3 or earlier"
+    version.argtypes, version.restype = [], ctypes.c_uint32
+    major, minor = divmod(version(), 65_536)
+    return f"{major}.{minor}"
+
+
 class _Functions:
     """The C functions, found once."""
 
@@ -83,9 +111,13 @@ class _Functions:
         where = path()
         try:
             library = ctypes.CDLL(where)
+            found = _version_of(library)
+            if found != VERSION:
+                raise LibraryError(f"{where} is of version {found}, and the package of {VERSION} (python/build makes {_NAME} anew)")
             self.read = self._function(library, "halivomue_read", _Reading, 0)
             self.tidy = self._function(library, "halivomue_tidy", _Tidiness, 0)
             self.shorten = self._function(library, "halivomue_shorten", _Shortening, 1)
+            self.provision = self._function(library, "halivomue_provision", _Provisioning, 1)
         except (OSError, AttributeError) as error:
             raise LibraryError(f"{error} (python/build makes {_NAME})") from None
 
@@ -152,36 +184,36 @@ def read(data: Data) -> Reading:
     return Reading(answer.number, answer.record)
 
 
-def tidied(data: Data) -> Any:
-    """The C answer of Tidy."""
-    return _call(functions().tidy, data)
-
-
 def tidy(data: Data) -> Tidiness:
     """Is this procedure tidy, so that its shortened form is promised to do what it does?"""
-    answer = tidied(data)
+    answer = _call(functions().tidy, data)
     untidy = answer.number == 0 and answer.tidy == 0
     by_addr_of = untidy and is_by_addr_of(memoryview(data).cast("B"), answer.reg)
     return tidiness(answer.number, answer.record, answer.tidy == 1, answer.reg, by_addr_of)
 
 
-def shortened(data: Data) -> Tuple[Any, bytes]:
-    """The C answer of Shorten and the bytes written; no byte where it refuses."""
+def _written(function: Any, data: Data) -> Tuple[Any, bytes]:
+    """What a function with an output buffer answers, and the bytes that it writes."""
     free = _rooms.free
     room = free.pop() if free else _Room()
     try:
-        answer = _call(functions().shorten, data, room.address, ROOM)
+        answer = _call(function, data, room.address, ROOM)
         return answer, room.bytes[: answer.length].tobytes()
     finally:
         free.append(room)
 
 
+def provisioned(data: Data) -> Tuple[Any, bytes]:
+    """The C answer of both Tidy and Shorten, and the bytes written; no byte where Shorten refuses."""
+    return _written(functions().provision, data)
+
+
 def shorten(data: Data) -> Shortening:
     """The procedure with its branches shortened, and the counts; raises `Refused`."""
-    answer, short = shortened(data)
+    answer, short = _written(functions().shorten, data)
     if answer.number:
         raise Refused(answer.number, answer.record)
     return Shortening(short, answer.moved, answer.grown, answer.fresh, answer.rescued)
 
 
-__all__ = ["Data", "LONGEST", "LibraryError", "functions", "path", "read", "shorten", "shortened", "tidied", "tidy"]
+__all__ = ["Data", "LONGEST", "LibraryError", "VERSION", "functions", "path", "provisioned", "read", "shorten", "tidy"]

@@ -84,10 +84,10 @@ def findings(filed: Held, row: Row) -> List[str]:
         return found
     both = asked(sent)
     if is_refused(both):
-        number, record = both.shortening.number, both.shortening.record
+        number, record = both.answer.number, both.answer.record
         return [*found, f"altered: the sent form is refused {number} {record} ({causes.reason(sent, number, record)})"]
     if row.sha256_short == "":
-        if both.short is not None and both.tidiness.tidy:
+        if both.short is not None and both.answer.tidy:
             return [*found, "report: it has no shortened form in the report and has one by the library"]
         both = both._replace(short=None)
     elif short is None:

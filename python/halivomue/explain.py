@@ -196,7 +196,7 @@ def lines(data: bytes, name: str, width: int = 100) -> Tuple[List[Line], int]:
     else:
         out[0].append(("bad", f"accepted, not tidy: register {tidiness.reg} ({p.registers[tidiness.reg]})"))
         out += _untidy(p, tidiness.reg, width)
-    answer, _ = _library.shortened(data)
+    answer, _ = _library.provisioned(data)
     if answer.number:
         out.append([("title", f"{name}: "), ("bad", f"shortening is refused {answer.number} {answer.record}")])
         out += _refused(data, answer.number, answer.record, width)

@@ -59,27 +59,29 @@ class Done(NamedTuple):
 
 
 class Both(NamedTuple):
-    """The two forms of a file that is accepted, the library's answers, and the mode that the forms get.
-    There is no shortened form of a file that is too large, or untidy where that is not wanted."""
+    """The two forms of a file, the library's answer, and the mode that the forms get. There is no shortened
+    form of a file that is refused or too large, or untidy where that is not wanted."""
 
     sent: bytes
     short: Optional[bytes]
-    shortening: Any
-    tidiness: Any
+    answer: Any
     mode: int = 0o666
 
 
-def asked(sent: bytes) -> Both:
-    """What the library makes of a file; nothing of a refused one can be used but `shortening`."""
-    shortening, short = _library.shortened(sent)
-    if shortening.number not in (0, _TOO_LARGE):
-        return Both(sent, None, shortening, None)
-    return Both(sent, None if shortening.number else short, shortening, _library.tidied(sent))
+def asked(sent: bytes, mode: int = 0o666) -> Both:
+    """What the library makes of a file."""
+    answer, short = _library.provisioned(sent)
+    return Both(sent, None if answer.number else short, answer, mode)
 
 
 def is_refused(both: Both) -> bool:
     """Does Read refuse it?"""
-    return both.tidiness is None
+    return both.answer.number not in (0, _TOO_LARGE)
+
+
+def why_untidy(both: Both) -> str:
+    """What makes an accepted file untidy, in words."""
+    return untidy_reason(both.answer.reg, is_by_addr_of(both.sent, both.answer.reg))
 
 
 def filed_as(sent: Optional[bytes], short: Optional[bytes]) -> Optional[Both]:
@@ -89,24 +91,23 @@ def filed_as(sent: Optional[bytes], short: Optional[bytes]) -> Optional[Both]:
     both = asked(sent)
     if is_refused(both):
         return None
-    if short is None and not both.tidiness.tidy:
+    if short is None and not both.answer.tidy:
         return both._replace(short=None)
     return both if short == both.short else None
 
 
 def without_short(name: str, answer: str, filed: str, both: Both) -> Row:
     """The row of a file that is filed as sent alone, with the reason."""
-    sent, tidiness, number = both.sent, both.tidiness, both.shortening.number or None
-    why = reason(number, 0) if number else untidy_reason(tidiness.reg, is_by_addr_of(sent, tidiness.reg))
+    sent, number, tidy = both.sent, both.answer.number or None, both.answer.tidy
     return Row(
-        name,
-        answer,
-        number,
-        0 if number else None,
-        why,
-        filed,
-        "yes" if tidiness.tidy else "no",
-        None if tidiness.tidy else tidiness.reg,
+        name=name,
+        answer=answer,
+        number=number,
+        record=0 if number else None,
+        reason=reason(number, 0) if number else why_untidy(both),
+        filed=filed,
+        tidy="yes" if tidy else "no",
+        reg=None if tidy else both.answer.reg,
         instructions_sent=sent[::32].count(4),
         bytes_sent=len(sent),
         sha256_sent=_sha256(sent).hexdigest(),
@@ -114,29 +115,27 @@ def without_short(name: str, answer: str, filed: str, both: Both) -> Row:
 
 
 def described(name: str, answer: str, filed: str, both: Both) -> Row:
-    """The row of a filed file, from its forms and the library's answers."""
-    sent, short, shortening, tidiness, _ = both
+    """The row of a filed file, from its forms and the library's answer."""
+    sent, short, counts, _ = both
     if short is None:
         return without_short(name, answer, "as sent" if filed == "yes" else filed, both)
+    digest = _sha256(sent).hexdigest()
     return Row(
-        name,
-        answer,
-        None,
-        None,
-        "",
-        filed,
-        "yes" if tidiness.tidy else "no",
-        None if tidiness.tidy else tidiness.reg,
-        sent[::32].count(4),
-        short[::32].count(4),
-        len(sent),
-        len(short),
-        shortening.moved,
-        shortening.grown,
-        shortening.fresh,
-        shortening.rescued,
-        _sha256(sent).hexdigest(),
-        _sha256(short).hexdigest(),
+        name=name,
+        answer=answer,
+        filed=filed,
+        tidy="yes" if counts.tidy else "no",
+        reg=None if counts.tidy else counts.reg,
+        instructions_sent=sent[::32].count(4),
+        instructions_short=short[::32].count(4),
+        bytes_sent=len(sent),
+        bytes_short=len(short),
+        moved=counts.moved,
+        grown=counts.grown,
+        fresh=counts.fresh,
+        rescued=counts.rescued,
+        sha256_sent=digest,
+        sha256_short=digest if short == sent else _sha256(short).hexdigest(),
     )
 
 
@@ -169,7 +168,7 @@ class Target:
     def at(self, name: bytes) -> Tuple[Folder, bytes]:
         """Holds the folder for a file. Which folders are in it is learnt before its first file: none of
         them can become a file."""
-        below = os.path.dirname(name)
+        below = name.rpartition(b"/")[0]
         if below != self.held.name:
             self.leave()
         held = self.held.folder
@@ -269,17 +268,15 @@ class Filer:
 
     def shorten(self, task: Task, form: Form) -> Union[Row, Both]:
         """What is to be filed, or the row of a file that is refused."""
-        both = asked(form.data)
+        both = asked(form.data, form.mode)
         if is_refused(both):
-            number, record = both.shortening.number, both.shortening.record
+            number, record = both.answer.number, both.answer.record
             return self.unfiled(task.name, "refused", reason(number, record), number, record)
-        if not both.tidiness.tidy:
-            if self.strict:
-                why = untidy_reason(both.tidiness.reg, is_by_addr_of(form.data, both.tidiness.reg))
-                return self.unfiled(task.name, "refused", why + " (--strict)")
-            if not self.untidy:
-                both = both._replace(short=None)
-        return both._replace(mode=form.mode)
+        if both.answer.tidy or self.untidy:
+            return both
+        if self.strict:
+            return self.unfiled(task.name, "refused", why_untidy(both) + " (--strict)")
+        return both._replace(short=None)
 
     def file(self, task: Task, both: Both) -> Union[Row, Both]:
         """What is filed now, or the row of a file that can't be."""
@@ -332,7 +329,7 @@ class Filer:
         self, name: bytes, answer: str, why: str = "", number: Optional[int] = None, record: Optional[int] = None
     ) -> Row:
         """The row of a file that isn't filed now, with what an earlier run filed under its name."""
-        row = Row(names.quote(name), answer, number, record, why)
+        row = Row(name=names.quote(name), answer=answer, number=number, record=record, reason=why)
         if names.reserved(name):
             return row
         try:

@@ -7,7 +7,8 @@ import heapq
 import io
 import json
 from itertools import groupby
-from typing import IO, Dict, Iterator, List, NamedTuple, Optional, Sequence, Tuple
+from operator import attrgetter
+from typing import IO, Dict, Iterator, List, NamedTuple, Optional, Tuple
 
 from . import names
 from .filing import LINE, File, lines
@@ -46,7 +47,8 @@ class Row(NamedTuple):
 
 
 COLUMNS = Row._fields
-SUMMED = COLUMNS[COLUMNS.index("instructions_sent") : COLUMNS.index("sha256_sent")]
+SUMMED = ("instructions_sent", "instructions_short", "bytes_sent", "bytes_short", "moved", "grown", "fresh", "rescued")
+_summed = attrgetter(*SUMMED)
 _NUMBERS = frozenset(("number", "record", "reg", *SUMMED))
 _IS_NUMBER = tuple(name in _NUMBERS for name in COLUMNS)
 HEADER = ",".join(COLUMNS)
@@ -95,7 +97,7 @@ def parse_line(line: str) -> Row:
         values = [(int(f) if f else None) if number else f for f, number in zip(fields, _IS_NUMBER)]
     except (ValueError, csv.Error) as error:
         raise Damaged("no row of a report") from error
-    row = Row(*values)  # type: ignore[arg-type]
+    row = Row(**dict(zip(COLUMNS, values)))  # type: ignore[arg-type]
     if csv_line(row) != line:
         raise Damaged("no row of a report")
     return row
@@ -117,20 +119,6 @@ def keyed(line: bytes) -> Tuple[bytes, Row]:
     if not right:
         raise Damaged("no name of a file")
     return names.key(name), row
-
-
-def _summed(row: Row) -> Sequence[Optional[int]]:
-    """The columns of a row that are summed."""
-    return (
-        row.instructions_sent,
-        row.instructions_short,
-        row.bytes_sent,
-        row.bytes_short,
-        row.moved,
-        row.grown,
-        row.fresh,
-        row.rescued,
-    )
 
 
 class Totals:
@@ -192,7 +180,7 @@ class Totals:
 
     def row(self) -> Row:
         """The report's last row."""
-        return Row("", TOTAL, reason=self.answers_text(), filed="", **self.sums)  # type: ignore[arg-type]
+        return Row(name="", answer=TOTAL, reason=self.answers_text(), filed="", **self.sums)  # type: ignore[arg-type]
 
 
 def entries(file: File) -> Iterator[Tuple[bytes, Row]]:

@@ -2,6 +2,7 @@
 
 import os
 import re
+import socket
 import subprocess
 
 from common import Case, ROOT, halivomue, sample, unittest
@@ -30,10 +31,25 @@ class Loader(Case):
         self.assertEqual(self.load(program, sample("untidy")), (1, sample("untidy")))
         self.assertEqual(self.load(program, sample("refused")), (2, b""))
         self.assertEqual(self.load(program, b""), (2, b""))
+        self.assertEqual(self.load(program, sample("printed") + bytes(100_000)), (2, b""))
         for seed in range(20):
             data = bytes(fleet.procedure(seed, 20 + 20 * seed))
             due = (0, halivomue.shorten(data).data) if halivomue.tidy(data).tidy else (1, data)
             self.assertEqual(self.load(program, data), due)
+
+    def test_a_wire_that_fails(self):
+        """Before, a read error was taken for the procedure's end, and what had come so far was loaded."""
+        program = self.compile()
+        here, there = socket.socketpair()
+        there.send(b"never read: closing then is a reset")
+        here.sendall(sample("printed"))
+        here.close()
+        done = subprocess.run([program], stdin=there, capture_output=True, check=False)
+        there.close()
+        self.assertEqual((done.returncode, done.stdout), (3, b""))
+        with open("/dev/full", "wb") as full:
+            done = subprocess.run([program], input=sample("printed"), stdout=full, check=False)
+        self.assertEqual(done.returncode, 3)
 
     def test_no_heap_and_no_files(self):
         """Of the C library it calls nothing that allocates or opens."""

@@ -1,5 +1,6 @@
 """The provisioning run: what it files, reports and says; its options; taken up again; odd files and folders."""
 
+import collections
 import csv
 import errno
 import fcntl
@@ -15,7 +16,7 @@ import time
 from common import Case, ROOT, halivomue, in_child, lines_of, provision_here, provisioning, replaced, rows_of, run, sample, tree, unittest
 
 import fleet
-from halivomue import filing, names, report
+from halivomue import filer, filing, names, report
 from halivomue.__main__ import main
 
 NOBODY = 65534
@@ -80,12 +81,12 @@ class Samples(Case):
         before = {name: os.stat(os.path.join(os.fsencode(self.filed), name)).st_mtime_ns for name in tree(self.filed) if b".call" in name}
         first = tree(self.filed)
 
-        def untidy_alone(data, before=provisioning._library.tidied):
-            """What is filed without a shortened form is asked for the reason again."""
-            self.assertEqual(data, sample("untidy"))
+        def not_filed_with_short(data, before=provisioning._library.provisioned):
+            """What is refused, or filed without a shortened form, is asked for the reason again."""
+            self.assertIn(data, (sample("refused"), sample("untidy")))
             return before(data)
 
-        with replaced(provisioning._library, "tidied", untidy_alone):
+        with replaced(provisioning._library, "provisioned", not_filed_with_short):
             outcome, _ = provision_here(self.sent, self.filed)
         self.assertEqual((outcome.done, outcome.kept), (0, 3))
         self.assertEqual(tree(self.filed), first)
@@ -755,6 +756,37 @@ class Parts(Case):
             with open(path, "wb") as file:
                 file.write(whole[:length] + bytes(4096))
             list(report.entries(cut))
+
+    def test_rows_are_made_by_the_columns_names(self):
+        """One more column, wherever it stands, shifts none of the others."""
+        defaults = [report.Row._field_defaults.get(name) for name in report.COLUMNS]
+        columns = [*report.COLUMNS[:2], "more", *report.COLUMNS[2:]]
+        wider = collections.namedtuple("wider", columns, defaults=[*defaults[:2], "more", *defaults[2:]])
+        for name in ("printed", "untidy"):
+            both = filer.asked(sample(name))
+            for short in (both.short, None):
+                both = both._replace(short=short)
+                due = filer.described("name", "accepted", "yes", both)._asdict()
+                with replaced(filer, "Row", wider):
+                    row = filer.described("name", "accepted", "yes", both)._asdict()
+                self.assertEqual(row.pop("more"), "more")
+                self.assertEqual(row, due)
+
+    def test_a_report_with_other_columns(self):
+        """It is told by the audit, and a run files all again and replaces it."""
+        self.samples()
+        provision_here(self.sent, self.filed)
+        due = tree(self.filed)
+        path = os.path.join(self.filed, "report.csv")
+        with open(path) as file:
+            lines = file.read().splitlines()
+        for other in ([line.rpartition(",")[0] for line in lines], [line + ("," if number else ",more") for number, line in enumerate(lines)]):
+            with open(path, "w") as file:
+                file.write("\n".join(other) + "\n")
+            self.assertIn("line 1: not the columns of a report", run("audit", self.filed, status=1)[0])
+            outcome, _ = provision_here(self.sent, self.filed)
+            self.assertEqual((outcome.done, outcome.kept), (3, 0))
+            self.assertEqual(tree(self.filed), due)
 
     def modes(self, name, umask):
         before = os.umask(umask)

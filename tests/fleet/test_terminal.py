@@ -58,6 +58,11 @@ class Terminal(Case):
         shown = self.on_terminal("provision", self.sent, self.filed)
         self.assertIn("BAR 50", shown)
         self.assertIn("DONE 50", shown)
+        shown = self.on_terminal("audit", self.filed)
+        self.assertIn("DONE", shown)
+        shown = self.on_terminal("page", self.filed, "--out", os.path.join(self.folder, "p.html"), "--most", "5")
+        self.assertIn("BAR 5", shown)
+        self.assertIn("DONE 5", shown)
 
     def test_none_in_a_log(self):
         fleet.write(self.sent, 30, 40)

@@ -47,9 +47,9 @@ use Rattle.block_slice.proofs.Params.{code-val, blocks-val, k-val, life
 use Rattle.block_slice.proofs.Params.{token, own-code, Held, Leaving, leaves, enters}
 use Rattle.block_slice.proofs.part_of as part
 use Rattle.block_slice.proofs.part_of.Symbol as part-def
-use Rattle.block_slice.proofs.part_of.Symbol.{name as #lent·part-of}
+use Rattle.block_slice.proofs.part_of.Symbol.{name as #block-slice·part-of}
 use Rattle.block_slice.proofs.part_of.Met as part-thm
-use Rattle.block_slice.proofs.block_in.Key.{name as #lent·block-in}
+use Rattle.block_slice.proofs.block_in.Key.{name as #block-slice·block-in}
 use Rattle.block_slice.proofs.block_in as f
 use Rattle.block_slice.proofs.block_in.Statement as stated
 use Rattle.block_slice.proofs.block_in.Code as code
@@ -122,7 +122,7 @@ module _ {M : Type 1} (𝓤 : URA M) (H : Heap 𝓤) (A : Atoms 𝓤) (W : Given
       suffices ! _ (ends-at 𝓤 H A f.ended stayed (f.clauses 𝓤 H A mem run) W ((lifetimes c, shares c, tt, args c, at c), tt) u r
       (tt, (tt, (tt, tt))) (tt, (tt, (tt, tt)))) $ says ! e $ by ! (leaves 𝓤 H A W c (Code (c .κ) .own r (u ∷ [])))
 
-  module _ (C : Calls 𝓤 H) (Λ : Loops 𝓤 H) (fm : FmC 𝓤 H (W .laws) C) (known : Triple 𝓤 (C #lent·part-of) (PartOf 𝓤 H A mem run)) where
+  module _ (C : Calls 𝓤 H) (Λ : Loops 𝓤 H) (fm : FmC 𝓤 H (W .laws) C) (known : Triple 𝓤 (C #block-slice·part-of) (PartOf 𝓤 H A mem run)) where
     module _ (l₀ l₁ l₂ l₃ l₄ l₅ l₆ l₇ l₈ l₉ : ℕ) where
       abbrev word : Ty
       word = tyInt w64
@@ -204,7 +204,7 @@ module _ {M : Type 1} (𝓤 : URA M) (H : Heap 𝓤) (A : Atoms 𝓤) (W : Given
         gn = is-blocks .0 .1
 
 module _ {M : Type 1} (𝓤 : URA M) (H : Heap 𝓤) (A : Atoms 𝓤) (W : Given 𝓤 H A) (mem : Memory → SProp 𝓤) (run : Routine → Fun 𝓤) (𝓣 : Tables 𝓤 H)
-    (known : Triple 𝓤 (𝓣 .C #lent·part-of) (PartOf 𝓤 H A mem run)) where
+    (known : Triple 𝓤 (𝓣 .C #block-slice·part-of) (PartOf 𝓤 H A mem run)) where
   walks : Walks 𝓤 H A f.ended stayed (WpFn 𝓤 H (𝓣 .C) (𝓣 .Λ) code.function) (f.clauses 𝓤 H A mem run)
   walks =
       walked 𝓤 H A f.ended stayed (f.clauses 𝓤 H A mem run) (WpFn 𝓤 H (𝓣 .C) (𝓣 .Λ) code.function)
@@ -223,6 +223,6 @@ pub block-in-spec : {M : Type 1} → stated.statement M
 unfolding code.routine tablesOf
 block-in-spec 𝓤 H 𝓜 𝓖 𝓡 =
     entered 𝓤 H (tripleOf 𝓤 H (𝓖 .A) f.signature (f.spec 𝓤 H (𝓖 .A) (𝓜 .mem) (𝓡 .run)))
-    (tables 𝓤 H 𝓜 𝓡 code.env .C) (tables 𝓤 H 𝓜 𝓡 code.env .Λ) #lent·block-in code.function (code.unfolded 𝓤 H 𝓜 𝓡)
+    (tables 𝓤 H 𝓜 𝓡 code.env .C) (tables 𝓤 H 𝓜 𝓡 code.env .Λ) #block-slice·block-in code.function (code.unfolded 𝓤 H 𝓜 𝓡)
     (meets 𝓤 H (𝓖 .A) (givenOf 𝓤 H 𝓜 𝓖) (𝓜 .mem) (𝓡 .run) (tablesOf 𝓤 H 𝓜 (tables 𝓤 H 𝓜 𝓡 code.env))
-    (cited 𝓤 H (PartOf 𝓤 H (𝓖 .A) (𝓜 .mem) (𝓡 .run)) 𝓜 𝓡 code.env #lent·part-of part-def.routine code.calls-lent·part-of (part-thm.met 𝓤 H 𝓜 𝓖 𝓡)))
+    (cited 𝓤 H (PartOf 𝓤 H (𝓖 .A) (𝓜 .mem) (𝓡 .run)) 𝓜 𝓡 code.env #block-slice·part-of part-def.routine code.calls-block-slice·part-of (part-thm.met 𝓤 H 𝓜 𝓖 𝓡)))

@@ -48,9 +48,9 @@ use Rattle.block_slice.proofs.Params.{code-val, blocks-val, k-val, life
 use Rattle.block_slice.proofs.Params.{token, token′, own-code, own-blocks, own-k, tokens, all-owned, Held, leaves, enters}
 use Rattle.block_slice.proofs.block_in as block
 use Rattle.block_slice.proofs.block_in.Symbol as block-def
-use Rattle.block_slice.proofs.block_in.Symbol.{name as #lent·block-in}
+use Rattle.block_slice.proofs.block_in.Symbol.{name as #block-slice·block-in}
 use Rattle.block_slice.proofs.block_in.Met as block-thm
-use Rattle.block_slice.proofs.end_in.Key.{name as #lent·end-in}
+use Rattle.block_slice.proofs.end_in.Key.{name as #block-slice·end-in}
 use Rattle.block_slice.proofs.end_in as f
 use Rattle.block_slice.proofs.end_in.Statement as stated
 use Rattle.block_slice.proofs.end_in.Code as code
@@ -129,7 +129,7 @@ module _ {M : Type 1} (𝓤 : URA M) (H : Heap 𝓤) (A : Atoms 𝓤) (W : Given
       (tt, (tt, (tt, tt))) (tt, (tt, (tt, tt)))) $ says ! e $
       move ! (3 ∷ []) $ split ! $ move ! (1 ∷ []) $ split ! $ move ! (3 ∷ 4 ∷ 2 ∷ 5 ∷ 0 ∷ 1 ∷ []) $ by ! (leaves 𝓤 H A W c (S.the-row .own z (u ∷ [])))
 
-  module _ (C : Calls 𝓤 H) (Λ : Loops 𝓤 H) (fm : FmC 𝓤 H (W .laws) C) (known-block : Triple 𝓤 (C #lent·block-in) (BlockIn 𝓤 H A mem run))
+  module _ (C : Calls 𝓤 H) (Λ : Loops 𝓤 H) (fm : FmC 𝓤 H (W .laws) C) (known-block : Triple 𝓤 (C #block-slice·block-in) (BlockIn 𝓤 H A mem run))
       (known-end : Triple 𝓤 (C #ends·end-of) (EndOf 𝓤 H A mem run)) where
     walk : Is (Code (c .κ)) (c .code) (code-val c ∷ []) → Is (Blocks (c .κ′)) (c .blocks) (blocks-val c ∷ []) → c .k < 2 ^ 64
         → ent 𝓤 (⋆ 𝓤 H A (Held c []))
@@ -164,7 +164,7 @@ module _ {M : Type 1} (𝓤 : URA M) (H : Heap 𝓤) (A : Atoms 𝓤) (W : Given
         move ! (4 ∷ 5 ∷ []) $ free1 ! $ free0 ! $ by ! (exits z u′ (ends-so r z e e′)))))))))))))))
 
 module _ {M : Type 1} (𝓤 : URA M) (H : Heap 𝓤) (A : Atoms 𝓤) (W : Given 𝓤 H A) (mem : Memory → SProp 𝓤) (run : Routine → Fun 𝓤) (𝓣 : Tables 𝓤 H)
-    (known-block : Triple 𝓤 (𝓣 .C #lent·block-in) (BlockIn 𝓤 H A mem run)) (known-end : Triple 𝓤 (𝓣 .C #ends·end-of) (EndOf 𝓤 H A mem run)) where
+    (known-block : Triple 𝓤 (𝓣 .C #block-slice·block-in) (BlockIn 𝓤 H A mem run)) (known-end : Triple 𝓤 (𝓣 .C #ends·end-of) (EndOf 𝓤 H A mem run)) where
   walks : Walks 𝓤 H A f.ended stayed (WpFn 𝓤 H (𝓣 .C) (𝓣 .Λ) code.function) (f.clauses 𝓤 H A mem run)
   walks =
       walked 𝓤 H A f.ended stayed (f.clauses 𝓤 H A mem run) (WpFn 𝓤 H (𝓣 .C) (𝓣 .Λ) code.function)
@@ -183,7 +183,7 @@ pub end-in-spec : {M : Type 1} → stated.statement M
 unfolding code.routine tablesOf
 end-in-spec 𝓤 H 𝓜 𝓖 𝓡 =
     entered 𝓤 H (tripleOf 𝓤 H (𝓖 .A) f.signature (f.spec 𝓤 H (𝓖 .A) (𝓜 .mem) (𝓡 .run)))
-    (tables 𝓤 H 𝓜 𝓡 code.env .C) (tables 𝓤 H 𝓜 𝓡 code.env .Λ) #lent·end-in code.function (code.unfolded 𝓤 H 𝓜 𝓡)
+    (tables 𝓤 H 𝓜 𝓡 code.env .C) (tables 𝓤 H 𝓜 𝓡 code.env .Λ) #block-slice·end-in code.function (code.unfolded 𝓤 H 𝓜 𝓡)
     (meets 𝓤 H (𝓖 .A) (givenOf 𝓤 H 𝓜 𝓖) (𝓜 .mem) (𝓡 .run) (tablesOf 𝓤 H 𝓜 (tables 𝓤 H 𝓜 𝓡 code.env))
-    (cited 𝓤 H (BlockIn 𝓤 H (𝓖 .A) (𝓜 .mem) (𝓡 .run)) 𝓜 𝓡 code.env #lent·block-in block-def.routine code.calls-lent·block-in (block-thm.met 𝓤 H 𝓜 𝓖 𝓡))
+    (cited 𝓤 H (BlockIn 𝓤 H (𝓖 .A) (𝓜 .mem) (𝓡 .run)) 𝓜 𝓡 code.env #block-slice·block-in block-def.routine code.calls-block-slice·block-in (block-thm.met 𝓤 H 𝓜 𝓖 𝓡))
     (cited 𝓤 H (EndOf 𝓤 H (𝓖 .A) (𝓜 .mem) (𝓡 .run)) 𝓜 𝓡 code.env #ends·end-of end-def.routine code.calls-ends·end-of (end-thm.met 𝓤 H 𝓜 𝓖 𝓡)))
