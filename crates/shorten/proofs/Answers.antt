@@ -19,7 +19,8 @@ use Rattle.read.specs.declared.Reading.{Reading}
 use Rattle.read.specs.Reading.{reading, answer}
 use Rattle.procedure.specs.Procedure.{procedureOf}
 use Rattle.round_trips.proofs.Accepted.{or-first, or-second}
-use Rattle.tidy.specs.Tidy.{Tidy}
+use Rattle.tidy.specs.declared.Tidiness.{Tidiness}
+use Rattle.tidy.specs.Tidy.{Tidy, tidiness}
 use Rattle.steps.specs.declared.Answer.{Answer}
 use Rattle.steps.specs.Run.{run}
 use Rattle.steps.specs.Shorten.{Outcome, refusal, shortened, above, runUnless, acceptIf, shortenWithin, shorten, instructions}
@@ -32,11 +33,16 @@ use Rattle.procedure_parts.specs.Opened.{Parts, partsOf}
 use Rattle.procedure_parts.proofs.Laws.{registers-are, code-is, opened}
 use Rattle.output.specs.Filed.{outcome}
 use Rattle.shorten.specs.Storage.{Done}
+use Rattle.shorten.proofs.Tidied.{refused-too, yes-tidy}
 
 -- a test of a part's length, by the part that was cut
 pub by-part : (f : Parts → List ℕ) (b : List ℕ) {l : Layout} {y : List ℕ} → l ≡ startsIn (recordsOf b) → y ≡ f (partsOf b l)
     → (P : ℕ → Type 0) → P (length y) → P (length (f (partsOf b (startsIn (recordsOf b)))))
 by-part f b e h P p = subst (λ (l : Layout). P (length (f (partsOf b l)))) e (subst (λ (y : List ℕ). P (length y)) h p)
+
+-- Read's answer, of the file's bytes
+pub read-number : (b : List ℕ) {r : Reading} → r ≡ reading b → r .number ≡ 0 → reading b .number ≡ 0
+read-number b e n = sym (ap (λ (q : Reading). q .number) e) ∙ n
 
 -- with limits for registers and instructions
 module _ (registers code : ℕ) (b out : List ℕ) where
@@ -50,10 +56,7 @@ module _ (registers code : ℕ) (b out : List ℕ) where
       ap (λ (q : Reading). refusal (q .number) (q .place) out) e
       ∙ ap (λ (t : Bool). acceptIf t (reading b) registers code rs out) (sym (ne-eqb (reading b .number) 0 (λ z. n (ap (λ (q : Reading). q .number) e ∙ z))))
 
-  module _ (h : Bytes b) {r : Reading} (e : r ≡ reading b) (n : r .number ≡ 0) where
-    read : reading b .number ≡ 0
-    read = sym (ap (λ (q : Reading). q .number) e) ∙ n
-
+  module _ (h : Bytes b) (read : reading b .number ≡ 0) where
     limits-is : {t : Bool} → above registers code rs ≡ t → runUnless t rs out ≡ shortenWithin registers code b out
     unfolding shortenWithin
     limits-is {t} a =
@@ -164,3 +167,23 @@ clauses registers code b out h few less a out′ e = (e, by (within registers co
     by : (shortenWithin registers code b out ≡ shorten b out) ⊎ (shortenWithin registers code b out ≡ refusal 8 0 out) → Clauses b out a out′
     by (inl s) = all b out h a out′ (e ∙ s)
     by (inr s) = refused-clauses b out a out′ (e ∙ s)
+
+-- a file that Tidy refuses
+pub refused-by-tidy : (b out : List ℕ) {t : Tidiness} → t ≡ tidiness b → (t .number ≡ 0 → ⊥) → refusal (t .number) (t .place) out ≡ shorten b out
+refused-by-tidy b out e n =
+    let m : tidiness b .number ≡ 0 → ⊥ = λ z. n (ap (λ (x : Tidiness). x .number) e ∙ z) in
+    ap (λ (x : Tidiness). refusal (x .number) (x .place) out) e ∙ refused-is 480 480 b out (refused-too b m) m
+
+-- the answers of Tidy and Shorten together, in the order of the contract
+pub provisioned : (b out : List ℕ) → Bytes b → (t : Tidiness) → t ≡ tidiness b → (a : Answer) (out′ : List ℕ) (e : outcome a out′ ≡ shorten b out)
+    → (t ≡ tidiness b) × ((outcome a out′ ≡ shorten b out)
+    × ((a .number ≡ 0 → reading (take (a .length) out′) ≡ answer 0 0)
+    × ((61728 ≤ length out → a .number ≡ 9 → ⊥)
+    × ((a .number ≡ 0 → a .moved ≡ 0 → out′ ≡ b ++ drop (length b) out)
+    × ((a .number ≡ 0 → instructions (take (a .length) out′) ≤ instructions b + instructions b / 2 + 36)
+    × ((a .number ≡ 0 → Tidy (held b) → Demand3 (held b) (held (take (a .length) out′)) (a .rescued))
+    × (a .number ≡ 0 → t .tidy ≡ 1 → Demand3 (held b) (held (take (a .length) out′)) (a .rescued))))))))
+provisioned b out h t f a out′ e =
+    let c = all b out h a out′ e in
+    let yes : t .tidy ≡ 1 → Tidy (held b) = λ y. yes-tidy b (ap (λ (x : Tidiness). x .tidy) (sym f) ∙ y) in
+    (f, (e, (c .0, (c .1 .0, (c .1 .1 .0, (c .1 .1 .1 .0, (c .1 .1 .1 .1, λ z y. c .1 .1 .1 .1 z (yes y))))))))

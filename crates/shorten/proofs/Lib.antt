@@ -1,2 +1,3 @@
 pub mod Tiers
 pub mod Answers
+pub mod Tidied

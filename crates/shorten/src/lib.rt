@@ -5,7 +5,7 @@ ghost use mathlib.Core.List.{List, _++_};
 ghost use Prim.Native.Nat.{ℕ, _+_, _/_, _≤_, min};
 ghost use lib.ListN.{length, take, drop};
 ghost use Rattle.read.specs.Reading.{reading, answer};
-ghost use Rattle.tidy.specs.Tidy.{Tidy};
+ghost use Rattle.tidy.specs.Tidy.{Tidy, tidiness};
 ghost use Rattle.steps.specs.Shorten as spec;
 ghost use Rattle.machine.specs.Demand.{Demand3};
 ghost use Rattle.promise.specs.Promise.{held};
@@ -14,6 +14,7 @@ ghost use Rattle.output.specs.Filed.{outcome};
 ghost use Rattle.shorten.specs.Storage.{Room, Fits, Done};
 use layout::Layout;
 use steps::Answer;
+use tidy::Tidiness;
 
 // Zero counts.
 fn refused(number: u32, place: u32) -> Answer
@@ -239,7 +240,22 @@ fn shorten_read(b: &[u8], l: Layout, out: &mut [u8]) -> Answer
     shorten_small(b, l, out)
 }
 
-// The same where the limits are at most 480, for which there is storage.
+// A file that Read has accepted. The limits are at most 480, for which there is storage.
+fn shorten_accepted(bytes: &[u8], out: &mut [u8], registers: usize, code: usize) -> Answer
+    requires { ⌜ (reading (now bytes) .number ≡ 0) × (registers ≤ 480) × (code ≤ 480) ⌝ }
+    ensures { λ r. ⌜ outcome r (now (out .exit)) ≡ spec.shortenWithin registers code (now (bytes .entry)) (now (out .entry)) ⌝ }
+{
+    let l = parts::starts(bytes);
+    if registers < parts::part(bytes, 0, l.blocks).len() / 32 {
+        return refused(8, 0);
+    }
+    if code < parts::part(bytes, l.code, l.operands).len() / 32 {
+        return refused(8, 0);
+    }
+    shorten_read(bytes, l, out)
+}
+
+// Any file, with limits of at most 480.
 fn shorten_below(bytes: &[u8], out: &mut [u8], registers: usize, code: usize) -> Answer
     requires { ⌜ (registers ≤ 480) × (code ≤ 480) ⌝ }
     ensures is { λ r. ⌜ outcome r (now (out .exit)) ≡ spec.shortenWithin registers code (now (bytes .entry)) (now (out .entry)) ⌝ }
@@ -256,14 +272,7 @@ fn shorten_below(bytes: &[u8], out: &mut [u8], registers: usize, code: usize) ->
     if r.number != 0 {
         return refused(r.number, r.place);
     }
-    let l = parts::starts(bytes);
-    if registers < parts::part(bytes, 0, l.blocks).len() / 32 {
-        return refused(8, 0);
-    }
-    if code < parts::part(bytes, l.code, l.operands).len() / 32 {
-        return refused(8, 0);
-    }
-    shorten_read(bytes, l, out)
+    shorten_accepted(bytes, out, registers, code)
 }
 
 // Shortens a file of at most so many registers and instructions, no more than 480, into the output buffer, or refuses it.
@@ -299,4 +308,40 @@ pub fn shorten(bytes: &[u8], out: &mut [u8]) -> Answer
         → Demand3 (held (now (bytes .entry))) (held (take (r .length) (now (out .exit)))) (r .rescued)) ⌝ }
 {
     shorten_within(bytes, out, 480, 480)
+}
+
+// The answers of Tidy and of Shorten.
+pub struct Provisioning {
+    pub tidiness: Tidiness,
+    pub shortening: Answer,
+}
+
+// Asks of a file whether it is tidy, and shortens it, by one reading.
+pub fn tidy_and_shorten(bytes: &[u8], out: &mut [u8]) -> Provisioning
+    ensures tidiness { λ r. ⌜ r .tidiness ≡ tidiness (now (bytes .entry)) ⌝ }
+    ensures is { λ r. ⌜ record { answer = r .shortening; output = now (out .exit) } ≡ spec.shorten (now (bytes .entry)) (now (out .entry)) ⌝ }
+    ensures accepted { λ r. ⌜ (r .shortening .number ≡ 0 → reading (take (r .shortening .length) (now (out .exit))) ≡ answer 0 0) ⌝ }
+    ensures room { λ r. ⌜ (61728 ≤ length (now (out .entry)) → r .shortening .number ≡ 9 → ⊥) ⌝ }
+    ensures unmoved { λ r. ⌜ (r .shortening .number ≡ 0 → r .shortening .moved ≡ 0
+        → now (out .exit) ≡ now (bytes .entry) ++ drop (length (now (bytes .entry))) (now (out .entry))) ⌝ }
+    ensures bound { λ r. ⌜ (r .shortening .number ≡ 0 → spec.instructions (take (r .shortening .length) (now (out .exit)))
+        ≤ spec.instructions (now (bytes .entry)) + spec.instructions (now (bytes .entry)) / 2 + 36) ⌝ }
+    ensures demand3 { λ r. ⌜ (r .shortening .number ≡ 0 → Tidy (held (now (bytes .entry)))
+        → Demand3 (held (now (bytes .entry))) (held (take (r .shortening .length) (now (out .exit)))) (r .shortening .rescued)) ⌝ }
+    ensures promised { λ r. ⌜ (r .shortening .number ≡ 0 → r .tidiness .tidy ≡ 1
+        → Demand3 (held (now (bytes .entry))) (held (take (r .shortening .length) (now (out .exit)))) (r .shortening .rescued)) ⌝ }
+{
+    let t = tidy::tidy(bytes);
+    if t.number != 0 {
+        let s = refused(t.number, t.place);
+        return Provisioning {
+            tidiness: t,
+            shortening: s,
+        };
+    }
+    let s = shorten_accepted(bytes, out, 480, 480);
+    Provisioning {
+        tidiness: t,
+        shortening: s,
+    }
 }

@@ -1,11 +1,8 @@
-use Prim.Native.Nat.{ℕ, _/_, _≤_, _<_}
+use Prim.Native.Nat.{ℕ}
 use native.Mathlib.Omega.{arith}
-use mathlib.Core.Path.{subst, _∙_}
+use mathlib.Core.Path.{_∙_}
 use denote.Ref.{now}
-use Rattle.put_record.specs.Store.{Bytes}
-use Rattle.procedure_parts.specs.Opened.{partsOf}
-use Rattle.shorten.specs.Storage.{Done}
-use Rattle.shorten.proofs.Answers.{refused-is, many-registers, much-code, shortened-is, clauses, by-part}
+use Rattle.shorten.proofs.Answers.{refused-is, read-number, clauses}
 use borrow.Author.Needs.{needs}
 use Rattle.shorten.proofs.shorten_below.Statement.{statement}
 use Rattle.shorten.proofs.shorten_below.Tie as tie
@@ -22,76 +19,26 @@ returns c =
     clauses m n b o (λ (i : ℕ). omega (arith, k .shared-slice-known .given i)) (s .pre .0) (s .pre .1) (c .refused .result) o
     (c .refused .ensures o ∙ refused-is m n b o (r .read .ensures) (c .before .if1 .taken))
 
+shorten-accepted-requires : tie.Need-shorten-accepted-requires
+shorten-accepted-requires c κs =
+    let s : tie.Start = search in
+    let r : tie.After-read = search in
+    let i : tie.Else1 = search in
+    (read-number (now (s .args .bytes)) (r .read .ensures) (i .if1 .left), s .pre .0, s .pre .1)
+
 returns-2 : tie.Need-returns-2
 returns-2 c =
     let s : tie.Start = search in
     let k : tie.After-shared-slice-known = search in
-    let r : tie.After-read = search in
-    let i : tie.Else1 = search in
-    let l : tie.After-starts = search in
-    let p : tie.After-part = search in
+    let q : tie.After-shorten-accepted = search in
     let b = now (s .args .bytes) in
     let o = now (s .args .out) in
     let m = s .args .registers in
     let n = s .args .code in
-    let bytes : Bytes b = λ (i : ℕ). omega (arith, k .shared-slice-known .given i) in
-    clauses m n b o bytes (s .pre .0) (s .pre .1) (c .refused2 .result) o
-    (c .refused2 .ensures o ∙ many-registers m n b o bytes (r .read .ensures) (i .if1 .left)
-    (by-part (λ x. x .registers) b (l .starts .ensures) (p .part .ensures) (λ k. m < k / 32) (c .before .if2 .taken)))
-
-returns-3 : tie.Need-returns-3
-returns-3 c =
-    let s : tie.Start = search in
-    let k : tie.After-shared-slice-known = search in
-    let r : tie.After-read = search in
-    let i : tie.Else1 = search in
-    let l : tie.After-starts = search in
-    let p : tie.After-part = search in
-    let j : tie.Else2 = search in
-    let p2 : tie.After-part2 = search in
-    let b = now (s .args .bytes) in
-    let o = now (s .args .out) in
-    let m = s .args .registers in
-    let n = s .args .code in
-    let bytes : Bytes b = λ (i : ℕ). omega (arith, k .shared-slice-known .given i) in
-    clauses m n b o bytes (s .pre .0) (s .pre .1) (c .refused3 .result) o
-    (c .refused3 .ensures o ∙ much-code m n b o bytes (r .read .ensures) (i .if1 .left)
-    (by-part (λ x. x .registers) b (l .starts .ensures) (p .part .ensures) (λ k. k / 32 ≤ m) (j .if2 .left))
-    (by-part (λ x. x .code) b (l .starts .ensures) (p2 .part2 .ensures) (λ k. n < k / 32) (c .before .if3 .taken)))
-
-abbrev starts-of : tie.Else3 → tie.After-starts
-starts-of e = search
-
-abbrev read-of : tie.After-starts → tie.After-read
-read-of l = search
-
-abbrev bytes-of : tie.After-starts → tie.After-shared-slice-known
-bytes-of l = search
-
-abbrev start-of : tie.After-starts → tie.Start
-start-of l = search
-
-returns-4 : tie.Need-returns-4
-returns-4 c =
-    let q : tie.After-shorten-read = search in
-    let e : tie.Else3 = search in
-    let p2 = e .before in
-    let j = p2 .before in
-    let l = starts-of e in
-    let s = start-of l in
-    let b = now (s .args .bytes) in
-    let o = now (s .args .out) in
-    let m = s .args .registers in
-    let n = s .args .code in
-    let bytes : Bytes b = λ (i : ℕ). omega (arith, bytes-of l .shared-slice-known .given i) in
-    clauses m n b o bytes (s .pre .0) (s .pre .1) (q .shorten-read .result) (q .shorten-read .last .1 .1 .0)
-    (shortened-is m n b o bytes (read-of l .read .ensures) (l .before .if1 .left) (s .pre .0) (s .pre .1)
-    (by-part (λ x. x .registers) b (l .starts .ensures) (j .before .part .ensures) (λ k. k / 32 ≤ m) (j .if2 .left))
-    (by-part (λ x. x .code) b (l .starts .ensures) (p2 .part2 .ensures) (λ k. k / 32 ≤ n) (e .if3 .left))
-    (subst (λ l. Done (partsOf b l) (q .shorten-read .result) o (q .shorten-read .last .1 .1 .0)) (l .starts .ensures) (q .shorten-read .ensures)))
+    clauses m n b o (λ (i : ℕ). omega (arith, k .shared-slice-known .given i)) (s .pre .0) (s .pre .1)
+    (q .shorten-accepted .result) (q .shorten-accepted .last .1 .0) (q .shorten-accepted .ensures)
 
 pub shorten-below-spec : {M : Type 1} → statement M
 shorten-below-spec =
-    tie.close (tie.spec (λ c κs. search needs) (λ c κs. search needs) returns (λ c κs. search needs)
-    (λ c κs. search needs) (λ c κs. search needs) returns-2 (λ c κs. search needs) (λ c κs. search needs) returns-3
-    (λ c κs. search needs) (λ c. search needs) returns-4)
+    tie.close (tie.spec (λ c κs. search needs) (λ c κs. search needs) returns shorten-accepted-requires
+    (λ c. search needs) returns-2)
