@@ -2,11 +2,10 @@
 use Prim.Native.Nat.{ℕ, _+_, _/_, _≤_, _<_}
 use mathlib.Core.List.{List, [], _∷_}
 use mathlib.Core.Option.{Option, none, some}
-use mathlib.Core.Bool.{Bool, _&&_, _||_, cond, not}
+use mathlib.Core.Bool.{Bool, _&&_, cond}
 use lib.Dec.{eqb, leb}
 use lib.ListN.{length}
 use Rattle.inst.specs.declared.BoolOp.{BoolOp}
-use Rattle.inst.specs.declared.BoolOp.the-variants as b
 use Rattle.steps.specs.Facts.{Facts}
 use Rattle.steps.specs.Note.{Known, withValueIf, sourceOf, valueOf, noteMove, boolOf}
 use Rattle.facts.specs.Storage.{factsIn}
@@ -14,13 +13,6 @@ use Rattle.note_entries.specs.declared.Held.{Held}
 use Rattle.note_entries.specs.Storage.{heldIn}
 use Rattle.note.specs.declared.Noted.{Noted}
 use Rattle.note.specs.declared.Noted.the-variants as t
-
--- Bool, of two tests
-abbrev pub testOf : BoolOp → Bool → Bool → Bool
-testOf b.And x y = x && y
-testOf b.Or x y = x || y
-testOf b.Xor x y = cond x (not y) y
-testOf b.Not x y = not x
 
 -- Bool, of what a table and some entries say of its operands
 abbrev pub boolIn : List ℕ → Held → List ℕ → BoolOp → ℕ → ℕ → Option ℕ

@@ -5,7 +5,7 @@ use Rattle.note.proofs.bools.bool_of.Statement.{statement}
 use Rattle.note.proofs.bools.bool_of.Tie as tie
 
 returns : tie.Need-returns
-returns c = rw (c .before .before .before .before .before .x .given .1, c .before .before .y .given .1) (ap some (c .both-of .ensures))
+returns c = rw (c .before .before .before .before .before .x .given .1, c .before .before .y .given .1) (ap some (c .tests .ensures))
 
 returns-2 : tie.Need-returns-2
 returns-2 c = rw (c .before .before .before .before .x .given .1, c .before .enum-told .given .1) (c .one-of .ensures)

@@ -1,12 +1,11 @@
-use mathlib.Core.Path.{ap, _∙_}
+use mathlib.Core.Path.{ap}
 use mathlib.Core.Option.{some}
-use Rattle.note.proofs.Laws.{test-not}
 use borrow.Author.Needs.{needs}
 use Rattle.note.proofs.bools.one_of.Statement.{statement}
 use Rattle.note.proofs.bools.one_of.Tie as tie
 
 returns-4 : tie.Need-returns-4
-returns-4 c = let a = c .before .before .before .args in rw (c .before .enum-told4 .given .1) (ap some (c .bit .ensures ∙ test-not (a .v)))
+returns-4 c = rw (c .before .enum-told4 .given .1) (ap some (c .tests .ensures))
 
 pub one-of-spec : {M : Type 1} → statement M
 one-of-spec =
