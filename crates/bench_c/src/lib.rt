@@ -1,7 +1,7 @@
-// The steps alone, for the benchmark: it opens the storage itself and times them beside the source's `run`.
+// For tests alone: the steps, which the benchmark times over storage that it opens itself, and the forms of a file by number.
 ghost use mathlib.Core.Path.{_≡_};
 ghost use mathlib.Core.Bool.{true};
-ghost use mathlib.Core.List.{map};
+ghost use mathlib.Core.List.{List, map};
 ghost use mathlib.Core.Option.{Option};
 ghost use Prim.Native.Nat.{ℕ};
 ghost use lib.ListN.{length};
@@ -9,11 +9,14 @@ ghost use Rattle.records.specs.Record.{recordsOf};
 ghost use Rattle.procedure.specs.Procedure.{Procedure, firstOf};
 ghost use Rattle.steps.specs.Thread.{Work};
 ghost use Rattle.steps.specs.Run as run;
+ghost use Rattle.steps.specs.Shorten.{refusal};
 ghost use Rattle.facts.specs.Storage.{factsIn};
 ghost use Rattle.run.specs.Ran.{left, ranIn};
 ghost use Rattle.emit.specs.Stage.{Ready, Emitted};
-ghost use Rattle.output.specs.Filed.{counts, filed, short, formRecords};
+ghost use Rattle.output.specs.Filed.{outcome, counts, filed, short, formRecords};
 ghost use Rattle.bench_c.specs.Steps.{ranOf, stagedOf, Put};
+ghost use Rattle.bench_c.specs.Forms.{answerOf, sent as sentOf, formOf};
+use steps::Answer;
 
 // How far `run` came before emit.
 #[repr(C)]
@@ -131,4 +134,70 @@ pub extern "C" fn halivomue_put(
         rescued,
     );
     a.length
+}
+
+// The answer about a form, in the order of struct halivomue_shortening: number is 0 where the form is written.
+#[repr(C)]
+pub struct HalivomueForm {
+    pub number: u32,
+    pub place: u32,
+    pub length: usize,
+    pub moved: u32,
+    pub grown: u32,
+    pub fresh: u32,
+    pub rescued: u32,
+}
+
+fn told(a: Answer) -> HalivomueForm
+    ensures { λ z. ⌜ answerOf z ≡ a ⌝ }
+{
+    HalivomueForm {
+        number: a.number,
+        place: a.place,
+        length: a.length,
+        moved: a.moved,
+        grown: a.grown,
+        fresh: a.fresh,
+        rescued: a.rescued,
+    }
+}
+
+fn refused(number: u32, place: u32) -> Answer
+    ensures { λ r. ⌜ ((out : List ℕ) → outcome r out ≡ refusal number place out) ⌝ }
+{
+    Answer {
+        number,
+        place,
+        length: 0,
+        moved: 0,
+        grown: 0,
+        fresh: 0,
+        rescued: 0,
+    }
+}
+
+// The form as sent of a file that is read.
+fn sent(bytes: &[u8], out: &mut [u8]) -> Answer
+    ensures { λ r. ⌜ outcome r (now (out .exit)) ≡ sentOf (now (bytes .entry)) (now (out .entry)) ⌝ }
+{
+    let r = read::read(bytes);
+    if r.number != 0 {
+        return refused(r.number, r.place);
+    }
+    shortening::put_sent(out, bytes, parts::starts(bytes))
+}
+
+// A form of a file is written into the output buffer: 0 is the file as sent, 1 the threaded form. A request that puts a step
+// behind Emit adds the form after it as 2, and 1 then stops before that step. Any other number is refused with 10.
+#[no_mangle]
+pub extern "C" fn halivomue_form(bytes: &[u8], which: u32, out: &mut [u8]) -> HalivomueForm
+    ensures { λ z. ⌜ outcome (answerOf z) (now (out .exit)) ≡ formOf which (now (bytes .entry)) (now (out .entry)) ⌝ }
+{
+    if which == 0 {
+        return told(sent(bytes, out));
+    }
+    if which == 1 {
+        return told(shorten::shorten(bytes, out));
+    }
+    told(refused(10, 0))
 }

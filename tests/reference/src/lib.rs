@@ -8,6 +8,7 @@ pub mod buffer;
 pub mod cases;
 pub mod cores;
 pub mod draft;
+pub mod forms;
 pub mod generate;
 pub mod level;
 pub mod library;

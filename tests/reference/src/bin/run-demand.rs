@@ -1,11 +1,13 @@
 //! Demand 3 by running: tidy files, shortened by a library, both forms on document 01's machine.
-//! Usage: run-demand [files] [first seed]
-//! HALIVOMUE_LIBRARY names the shared object. The papers aren't needed. From ten thousand files on it fails where
-//! something of the tally was not reached.
+//! Usage: run-demand [files] [first seed] [--form NAME]
+//! HALIVOMUE_LIBRARY names the shared object. With --form that form of a file (sent, threaded) is run beside it instead of
+//! what the library writes; HALIVOMUE_STEPS names the shared object of the crate `bench_c`. The papers aren't needed. From
+//! ten thousand files on it fails where something of the tally was not reached.
 
 use halivomue_reference::answers::packed;
-use halivomue_reference::cores::{argument, on_all_cores};
-use halivomue_reference::library::Library;
+use halivomue_reference::cores::on_all_cores;
+use halivomue_reference::forms::Form;
+use halivomue_reference::library::{Library, Shortening};
 use halivomue_reference::machine::{End, Met, demand_3};
 use halivomue_reference::procedure::Procedure;
 use halivomue_reference::reduce::{reduced, told};
@@ -25,6 +27,22 @@ const ENOUGH: u64 = 10_000;
 /// Of 100 files, how many of each family.
 const SHARES: [(&str, u64); 6] =
     [("tidy", 58), ("tidy-chains", 15), ("tidy-process", 15), ("tidy-known", 9), ("tidy-large", 2), ("tidy-budget", 1)];
+
+/// Where the form that is run beside a file comes from.
+#[derive(Clone, Copy)]
+enum Source {
+    Shorten(Library),
+    Form(Form),
+}
+
+impl Source {
+    fn write(self, bytes: &[u8], out: &mut [u8]) -> Shortening {
+        match self {
+            Source::Shorten(library) => library.shorten(bytes, out),
+            Source::Form(form) => form.of(bytes, out),
+        }
+    }
+}
 
 fn file(seed: u64) -> Vec<u8> {
     let mut place = seed % 100;
@@ -90,10 +108,10 @@ impl Found {
     }
 }
 
-/// A tidy file shortened by the library, and so many pairs of runs.
-fn tried(library: Library, bytes: &[u8], seed: u64, runs: u64, found: &mut Found) -> Result<(), String> {
+/// A tidy file and its form, and so many pairs of runs.
+fn tried(source: Source, bytes: &[u8], seed: u64, runs: u64, found: &mut Found) -> Result<(), String> {
     let mut out = [0; ROOM];
-    let told = library.shorten(bytes, &mut out);
+    let told = source.write(bytes, &mut out);
     match told.number {
         0 => {}
         8 => return Ok(found.files[0] += 1),
@@ -113,11 +131,11 @@ fn tried(library: Library, bytes: &[u8], seed: u64, runs: u64, found: &mut Found
     Ok(())
 }
 
-fn ran(library: Library, seeds: impl Iterator<Item = u64>) -> Found {
+fn ran(source: Source, seeds: impl Iterator<Item = u64>) -> Found {
     let mut found = Found::default();
     for seed in seeds {
         let bytes = file(seed);
-        if let Err(why) = tried(library, &bytes, seed, RUNS, &mut found) {
+        if let Err(why) = tried(source, &bytes, seed, RUNS, &mut found) {
             found.note_failure(seed, bytes, why);
         }
     }
@@ -125,25 +143,44 @@ fn ran(library: Library, seeds: impl Iterator<Item = u64>) -> Found {
 }
 
 /// The file, and what is left of it when all goes that doesn't matter and it stays tidy.
-fn print(library: Library, (seed, bytes, why): &(u64, Vec<u8>, String)) {
+fn print(source: Source, (seed, bytes, why): &(u64, Vec<u8>, String)) {
     println!("the smallest file, seed {seed}: {why}\n  file {}", packed(bytes));
     let tidy = |less: &[u8]| read::read(less).is_ok() && tidy::offender(&Procedure::from_bytes(less)).is_none();
-    let fails = |less: &[u8]| tried(library, less, *seed, 20, &mut Found::default()).err();
+    let fails = |less: &[u8]| tried(source, less, *seed, 20, &mut Found::default()).err();
     let less = reduced(bytes, |less| tidy(less) && fails(less).is_some());
     println!("reduced: {}\n  file {}", fails(&less).unwrap_or("not seen again".into()), packed(&less));
     print!("{}", told(&less));
 }
 
+/// How many files, the first seed, and the name of a form, from the command line.
+fn arguments() -> (u64, u64, Option<String>) {
+    let mut numbers = Vec::new();
+    let mut form = None;
+    let mut words = std::env::args().skip(1);
+    while let Some(word) = words.next() {
+        match word.as_str() {
+            "--form" => form = Some(words.next().expect("a form's name is due")),
+            _ => numbers.push(word.parse().expect("a number is due")),
+        }
+    }
+    let number = |place: usize, otherwise| numbers.get(place).copied().unwrap_or(otherwise);
+    (number(0, 100_000), number(1, 1), form)
+}
+
 fn main() -> ExitCode {
-    let (files, first) = (argument(1, 100_000), argument(2, 1));
-    let library = match Library::from_environment() {
-        Ok(library) => library,
+    let (files, first, form) = arguments();
+    let found = match &form {
+        Some(name) => Form::from_environment(name).map(Source::Form),
+        None => Library::from_environment().map(Source::Shorten),
+    };
+    let source = match found {
+        Ok(source) => source,
         Err(why) => {
             eprintln!("{why}");
             return ExitCode::FAILURE;
         }
     };
-    let shares = on_all_cores(first, files, |seeds| ran(library, seeds));
+    let shares = on_all_cores(first, files, |seeds| ran(source, seeds));
     let found = shares.into_iter().fold(Found::default(), Found::with);
     let list = |names: &[&str], counts: &[u64]| {
         names.iter().zip(counts).map(|(n, c)| format!("{n} {c}")).collect::<Vec<String>>().join(", ")
@@ -153,10 +190,12 @@ fn main() -> ExitCode {
     println!("  files: {}", list(&FILES, &found.files));
     println!("  pairs of runs: {}", list(&PAIRS, &found.pairs));
     if let Some(smallest) = &found.smallest {
-        print(library, smallest);
+        print(source, smallest);
         return ExitCode::FAILURE;
     }
-    if files >= ENOUGH && found.files[1..].iter().chain(&found.pairs).any(|&count| count == 0) {
+    // The file as sent has no counts to reach.
+    let all = form.as_deref() != Some("sent");
+    if all && files >= ENOUGH && found.files[1..].iter().chain(&found.pairs).any(|&count| count == 0) {
         println!("run-demand: something of this was not reached");
         return ExitCode::FAILURE;
     }
