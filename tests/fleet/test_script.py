@@ -16,6 +16,7 @@ echo start >>starts
 sleep 30 &
 echo $! >child
 echo $$ >rt
+for crate in a b c d e; do echo "rt: $crate proved (1 s)"; done
 while [ -e hold ]; do sleep 0.05; done
 kill -KILL $(cat child)
 mkdir -p target/bin target/log
@@ -89,6 +90,14 @@ class Script(Case):
             self.assertFalse(self.locked())
         os.unlink(self.at("hold"))
         self.assertEqual(self.start("--version").communicate(timeout=20)[0].split()[0], b"halivomue")
+
+    def test_progress_is_told(self):
+        script = self.building()
+        time.sleep(2.5)
+        os.unlink(self.at("hold"))
+        said = script.communicate(timeout=20)[1].decode()
+        self.assertRegex(said, r"(?m)^halivomue: 5 of [0-9]+ crates proved$")
+        self.assertEqual(said.count("crates proved"), 1)
 
     def test_the_lock_is_held_until_rt_is_gone(self):
         started = self.building("stubborn")
