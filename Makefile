@@ -19,9 +19,14 @@ PYTHON ?= python3
 
 .PHONY: all install uninstall dist
 
+define make_archive
+flock build/halivomue.lock rt staticlib halivomue_c >build/staticlib.log 2>&1 || { tail -n 40 build/staticlib.log; exit 1; }
+endef
+
 all:
+	mkdir -p build
 	$(if $(HALIVOMUE_PROGRAM),,./halivomue --version)
-	$(if $(HALIVOMUE_ARCHIVE_DIR),,$(if $(shell command -v rt),flock build/halivomue.lock rt staticlib halivomue_c >build/staticlib.log))
+	$(if $(HALIVOMUE_ARCHIVE_DIR),,$(if $(shell command -v rt),$(make_archive)))
 
 # The script gives the program's answer as its exit status, and the program stands by itself.
 install: all
@@ -30,7 +35,8 @@ install: all
 	install -m 755 $(program) "$(to)"/libexec/halivomue/halivomue
 	install -m 644 include/halivomue.h "$(to)"/include/halivomue.h
 	install -m 644 $(archive) "$(to)"/lib/libhalivomue_c.a
-	sed 's/@VERSION@/$(version)/' include/halivomue.pc.in >"$(to)"/lib/pkgconfig/halivomue.pc
+	sed 's/@VERSION@/$(version)/' include/halivomue.pc.in >build/halivomue.pc
+	install -m 644 build/halivomue.pc "$(to)"/lib/pkgconfig/halivomue.pc
 	install -m 644 docs/halivomue.1 "$(to)"/share/man/man1/halivomue.1
 
 uninstall:

@@ -68,6 +68,15 @@ def _files():
     yield _LIBRARY, _library()
 
 
+def _licences():
+    """The repository's licence texts, where this folder stands in it."""
+    for name in ("LICENSE", "NOTICE"):
+        path = os.path.join(_HERE, "..", name)
+        if os.path.exists(path):
+            with open(path, "rb") as file:
+                yield name, file.read()
+
+
 def _add(wheel, name, data):
     """Adds a file; its line of the list of files."""
     entry = zipfile.ZipInfo(name, _TIME)
@@ -83,6 +92,7 @@ def build_wheel(wheel_directory, config_settings=None, metadata_directory=None):
     name = f"halivomue-{version}-{_TAG}.whl"
     with zipfile.ZipFile(os.path.join(wheel_directory, name), "w") as wheel:
         listed = [_add(wheel, f"halivomue/{file}", data) for file, data in _files()]
+        listed += [_add(wheel, f"{info}/{file}", data) for file, data in _licences()]
         listed.append(_add(wheel, f"{info}/METADATA", _METADATA.format(version=version).encode()))
         listed.append(_add(wheel, f"{info}/WHEEL", _WHEEL.encode()))
         _add(wheel, f"{info}/RECORD", "".join([*listed, f"{info}/RECORD,,\n"]).encode())

@@ -89,6 +89,31 @@ class Replaced(Case):
             with open(path, "rb") as file:
                 self.assertEqual(file.read(), b"old")
 
+    def test_the_new_files_name_cannot_be_guessed(self):
+        """And where somebody has it all the same, that file isn't taken, nor is a link followed."""
+        path, made = self.put("out", b"old"), []
+
+        def opened(name, flags, *more, before=os.open, **others):
+            if flags & os.O_CREAT:
+                made.append(name)
+            return before(name, flags, *more, **others)
+
+        with replaced(os, "open", opened):
+            for _ in range(3):
+                files.replace(path, b"new")
+        self.assertEqual(len(set(made)), 3)
+        for name in made:
+            self.assertRegex(name, rb"^out\.[0-9a-f]{16}\.new$")
+        kept = self.put("kept", b"kept")
+        for plant in (lambda at: self.put(at, b"planted"), lambda at: os.symlink(kept, os.path.join(os.fsencode(self.sent), at))):
+            plant(b"out.guessed.new")
+            before = tree(self.sent)
+            with replaced(files.secrets, "token_hex", lambda _: "guessed"), self.assertRaises(Failed) as caught:
+                files.replace(path, b"other")
+            self.assertIn("cannot be written: File exists", str(caught.exception))
+            self.assertEqual(tree(self.sent), before)
+            os.unlink(os.path.join(self.sent, "out.guessed.new"))
+
     def test_names(self):
         for name in ("x" * 255, "-", "a b", b"\xff\n"):
             files.replace(os.path.join(os.fsencode(self.sent), os.fsencode(name)), b"1")

@@ -131,7 +131,8 @@ class Script(Case):
     def test_help_before_anything_is_built(self):
         """It is the program's, word for word, and nothing is built for it."""
         due = subprocess.run([PROGRAM, "--help"], capture_output=True, check=True).stdout
-        shutil.copy(ROOT / "crates/halivomue/src/help.rt", self.at("crates/halivomue/src"))
+        (source,) = (ROOT / "crates").glob("*/src/help.rt")
+        shutil.copy(source, self.at("crates/two/src"))
         for words in (["--help"], ["read", "--help", "x"], ["--words", "--help", "--", "x"]):
             started = self.start(*words)
             out, said = started.communicate(timeout=20)
