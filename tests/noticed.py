@@ -114,6 +114,12 @@ SCANNED = [
     ("crates/halivomue_c/src/lib.rt", "    ensures place { λ r. ⌜ r .place ≡ reading",
      "    ensures other { λ r. ⌜ r .place ≡ r .place ⌝ }\n    ensures place { λ r. ⌜ r .place ≡ reading",
      "the clause `ensures other` isn't stated here"),
+    ("crates/halivomue_c/src/lib.rt", "    ensures promised { λ r. ⌜ (r .number ≡ 0 → r .tidy ≡ 1\n",
+     "    ensures tidier { λ r. ⌜ r .tidy ≡ 1 ⌝ }\n    ensures promised { λ r. ⌜ (r .number ≡ 0 → r .tidy ≡ 1\n",
+     "the clause `ensures tidier` isn't stated here"),
+    ("crates/halivomue_c/src/lib.rt", "const MAJOR: u32 = 0;\n",
+     "const MAJOR: u32 = 0;\n\n#[no_mangle]\npub extern \"C\" fn halivomue_more() -> u32\n    ensures { λ r. ⌜ r ≡ 0 ⌝ }\n{\n    0\n}\n",
+     "the contract of `halivomue_more` isn't stated here"),
 ]
 
 # A hypothesis more.

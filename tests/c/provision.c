@@ -1,4 +1,4 @@
-/* Holds halivomue_provision to halivomue_tidy and halivomue_shorten, on files from standard input.
+/* Holds halivomue_provision to halivomue_read, halivomue_tidy and halivomue_shorten, on files from standard input.
  *
  * Of each file the length and the room stand in front, in four bytes each, the lowest first. Every buffer is allocated as
  * long as it is said to be, so that valgrind notices a byte too many, read or written.
@@ -16,17 +16,24 @@ static int failed;
 /* Calls by the number answered: of tidy files, and of others. */
 static unsigned long answers[2][10];
 
+static uint8_t filling(size_t place)
+{
+    return (uint8_t)(7 * place + place / 251 + 0x5a);
+}
+
 /* Bytes as the file has them, or filled; none are a null pointer. */
 static uint8_t *bytes_of(size_t length, int filled)
 {
     uint8_t *bytes = length > 0 ? malloc(length) : NULL;
+    size_t place;
 
     if (length > 0 && bytes == NULL) {
         fprintf(stderr, "provision.c: no memory\n");
         exit(EXIT_FAILURE);
     }
-    if (filled && length > 0) {
-        memset(bytes, 0x5a, length);
+    if (filled) {
+        for (place = 0; place < length; place++)
+            bytes[place] = filling(place);
     } else if (length > 0 && fread(bytes, 1, length, stdin) != length) {
         fprintf(stderr, "provision.c: a file is cut short\n");
         exit(EXIT_FAILURE);
@@ -42,13 +49,34 @@ static int same(const struct halivomue_provisioning *a, const struct halivomue_t
            && a->fresh == s->fresh && a->rescued == s->rescued;
 }
 
+/* Read's refusal is the answer's, unless that is one of Shorten's own. */
+static int read_so(const struct halivomue_provisioning *a, const struct halivomue_reading *r)
+{
+    if (a->number == HALIVOMUE_SHORTENING_LIMIT || a->number == HALIVOMUE_OUTPUT)
+        return r->number == 0 && r->record == 0 && a->record == 0;
+    return r->number == a->number && r->record == a->record;
+}
+
+/* All bytes past what is written, which is nothing where the file is refused. */
+static int left(const uint8_t *out, size_t room, const struct halivomue_provisioning *a)
+{
+    size_t place;
+
+    for (place = a->number == 0 ? a->length : 0; place < room; place++)
+        if (out[place] != filling(place))
+            return 0;
+    return 1;
+}
+
 static void try(const uint8_t *bytes, size_t length, size_t room)
 {
     uint8_t *out = bytes_of(room, 1), *due = bytes_of(room, 1);
     struct halivomue_provisioning answer = halivomue_provision(bytes, length, out, room);
     struct halivomue_tidiness tidiness = halivomue_tidy(bytes, length);
     struct halivomue_shortening shortening = halivomue_shorten(bytes, length, due, room);
-    int right = same(&answer, &tidiness, &shortening) && (room == 0 || memcmp(out, due, room) == 0);
+    struct halivomue_reading reading = halivomue_read(bytes, length);
+    int right = same(&answer, &tidiness, &shortening) && read_so(&answer, &reading)
+                && (room == 0 || memcmp(out, due, room) == 0) && left(out, room, &answer);
 
     if (right)
         passed++;
@@ -77,6 +105,16 @@ static int next(size_t *length, size_t *room)
     return 1;
 }
 
+/* Read's refusals have no tidy file; of 8 either will do. */
+static int met(int number)
+{
+    unsigned long tidy = answers[1][number], other = answers[0][number];
+
+    if (number == HALIVOMUE_SHORTENING_LIMIT)
+        return tidy + other > 0;
+    return other > 0 && (tidy > 0 || (number > 0 && number < 8));
+}
+
 int main(void)
 {
     size_t length, room;
@@ -89,8 +127,7 @@ int main(void)
         free(bytes);
     }
     for (i = 0; i < 10; i++) {
-        /* Read's refusals have no tidy file. */
-        if (answers[0][i] == 0 || (answers[1][i] == 0 && (i == 0 || i > 7))) {
+        if (!met(i)) {
             printf("no answer %d was due, of a tidy file or of another\n", i);
             failed++;
         }

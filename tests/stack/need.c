@@ -41,6 +41,13 @@ static void call_shorten(const uint8_t *bytes, size_t length)
     (void)halivomue_shorten(bytes, length, out, sizeof out);
 }
 
+static void call_provision(const uint8_t *bytes, size_t length)
+{
+    static uint8_t out[HALIVOMUE_ROOM];
+
+    (void)halivomue_provision(bytes, length, out, sizeof out);
+}
+
 static struct {
     const char *name;
     caller call;
@@ -50,6 +57,7 @@ static struct {
     {"halivomue_read", call_read, HALIVOMUE_READ_STACK, 0},
     {"halivomue_tidy", call_tidy, HALIVOMUE_TIDY_STACK, 0},
     {"halivomue_shorten", call_shorten, HALIVOMUE_SHORTEN_STACK, 0},
+    {"halivomue_provision", call_provision, HALIVOMUE_PROVISION_STACK, 0},
 };
 
 enum { FUNCTIONS = sizeof functions / sizeof functions[0] };

@@ -43,6 +43,17 @@ static int shortens_otherwise(size_t i, uint8_t *out)
            || memcmp(out, files[i].shortened, a.length) != 0;
 }
 
+static int provisions_otherwise(size_t i, uint8_t *out)
+{
+    struct halivomue_provisioning a = halivomue_provision(files[i].bytes, files[i].length, out, HALIVOMUE_ROOM);
+    struct halivomue_shortening b = files[i].shortening;
+
+    return a.number != b.number || a.record != b.record || a.length != b.length || a.moved != b.moved
+           || a.grown != b.grown || a.fresh != b.fresh || a.rescued != b.rescued
+           || a.tidy != files[i].tidiness.tidy || a.reg != files[i].tidiness.reg
+           || memcmp(out, files[i].shortened, a.length) != 0;
+}
+
 static int differs(size_t i, uint8_t *out)
 {
     struct halivomue_reading r = halivomue_read(files[i].bytes, files[i].length);
@@ -50,7 +61,8 @@ static int differs(size_t i, uint8_t *out)
 
     return r.number != files[i].reading.number || r.record != files[i].reading.record
            || t.number != files[i].tidiness.number || t.record != files[i].tidiness.record
-           || t.tidy != files[i].tidiness.tidy || t.reg != files[i].tidiness.reg || shortens_otherwise(i, out);
+           || t.tidy != files[i].tidiness.tidy || t.reg != files[i].tidiness.reg || shortens_otherwise(i, out)
+           || provisions_otherwise(i, out);
 }
 
 /* Each thread starts at another file, so that different files are in work at once, and has its own output. */

@@ -1,4 +1,4 @@
-//! `halivomue_shorten` of a shared object, loaded while the program runs.
+//! The functions of a shared object, loaded while the program runs.
 
 use crate::Answer;
 use std::ffi::{CStr, CString, c_char, c_int, c_void};
@@ -40,10 +40,47 @@ pub struct Reading {
 
 type Reader = unsafe extern "C" fn(*const u8, usize) -> Reading;
 
+#[repr(C)]
+#[derive(Clone, Copy, PartialEq, Eq, Debug, Default)]
+pub struct Tidiness {
+    pub number: u32,
+    pub record: u32,
+    pub tidy: u32,
+    pub reg: u32,
+}
+
+type Tidier = unsafe extern "C" fn(*const u8, usize) -> Tidiness;
+
+#[repr(C)]
+#[derive(Clone, Copy, PartialEq, Eq, Debug)]
+pub struct Provisioning {
+    pub number: u32,
+    pub record: u32,
+    pub tidy: u32,
+    pub reg: u32,
+    pub length: usize,
+    pub moved: u32,
+    pub grown: u32,
+    pub fresh: u32,
+    pub rescued: u32,
+}
+
+impl Provisioning {
+    /// What is due where Tidy and Shorten answer so.
+    pub fn of(t: Tidiness, s: Shortening) -> Provisioning {
+        let Shortening { number, record, length, moved, grown, fresh, rescued } = s;
+        Provisioning { number, record, tidy: t.tidy, reg: t.reg, length, moved, grown, fresh, rescued }
+    }
+}
+
+type Provisioner = unsafe extern "C" fn(*const u8, usize, *mut u8, usize) -> Provisioning;
+
 #[derive(Clone, Copy)]
 pub struct Library {
     shorten: Function,
     read: Option<Reader>,
+    tidy: Option<Tidier>,
+    provision: Option<Provisioner>,
 }
 
 unsafe extern "C" {
@@ -74,17 +111,20 @@ impl Library {
     /// The functions of the shared object at this path.
     pub fn load(path: &str) -> Result<Library, String> {
         let function = symbol(path, c"halivomue_shorten")?;
-        let reader = symbol(path, c"halivomue_read").unwrap_or(std::ptr::null_mut());
+        let other = |name: &CStr| symbol(path, name).unwrap_or(std::ptr::null_mut());
         // They have the signatures that include/halivomue.h gives them.
         let shorten = unsafe { std::mem::transmute::<*mut c_void, Function>(function) };
-        let read = unsafe { std::mem::transmute::<*mut c_void, Option<Reader>>(reader) };
-        Ok(Library { shorten, read })
+        let read = unsafe { std::mem::transmute::<*mut c_void, Option<Reader>>(other(c"halivomue_read")) };
+        let tidy = unsafe { std::mem::transmute::<*mut c_void, Option<Tidier>>(other(c"halivomue_tidy")) };
+        let provision =
+            unsafe { std::mem::transmute::<*mut c_void, Option<Provisioner>>(other(c"halivomue_provision")) };
+        Ok(Library { shorten, read, tidy, provision })
     }
 
     /// A library of this one function.
     #[cfg(test)]
     pub fn of(function: Function) -> Library {
-        Library { shorten: function, read: None }
+        Library { shorten: function, read: None, tidy: None, provision: None }
     }
 
     /// The library that HALIVOMUE_LIBRARY names.
@@ -104,5 +144,16 @@ impl Library {
     pub fn read(self, bytes: &[u8]) -> Option<Reading> {
         // It only looks at these bytes.
         self.read.map(|read| unsafe { read(bytes.as_ptr(), bytes.len()) })
+    }
+    /// What Tidy says, where the library has it.
+    pub fn tidy(self, bytes: &[u8]) -> Option<Tidiness> {
+        // It only looks at these bytes.
+        self.tidy.map(|tidy| unsafe { tidy(bytes.as_ptr(), bytes.len()) })
+    }
+
+    /// Tidy and Shorten at once, where the library has it.
+    pub fn provision(self, bytes: &[u8], out: &mut [u8]) -> Option<Provisioning> {
+        // It only looks at these bytes and only writes to this buffer.
+        self.provision.map(|provision| unsafe { provision(bytes.as_ptr(), bytes.len(), out.as_mut_ptr(), out.len()) })
     }
 }

@@ -1,4 +1,5 @@
-//! Asks a library's `halivomue_shorten` and the reference for the same generated files.
+//! Asks a library's `halivomue_shorten` and the reference for the same generated files, and on a tenth of them holds
+//! its `halivomue_provision` to its `halivomue_tidy` and `halivomue_shorten`.
 //! Usage: compare-shorten [files] [first seed] [all]
 //! HALIVOMUE_LIBRARY names the shared object. Every named case is asked for too, with all rooms. From a hundred
 //! thousand files on, or with the word `all`, it fails where something of the tally was not reached.
@@ -7,7 +8,7 @@ use halivomue_reference::answers::packed;
 use halivomue_reference::buffer::{Buffer, Finding, ask};
 use halivomue_reference::cores::{argument, on_all_cores};
 use halivomue_reference::generate::{self, Rng};
-use halivomue_reference::library::Library;
+use halivomue_reference::library::{Library, Provisioning};
 use halivomue_reference::record::RECORD;
 use halivomue_reference::reduce::{reduced, told};
 use halivomue_reference::tally::Tally;
@@ -16,6 +17,12 @@ use std::process::ExitCode;
 
 /// So many files reach all of the tally.
 const ENOUGH: u64 = 100_000;
+
+/// Of so many files one is asked of `halivomue_provision` too: in each thousand another of ten.
+const PROVISIONED: u64 = 10;
+
+/// Bytes around a buffer that no call may change.
+const GUARD: usize = 64;
 
 /// Of 1000 files, how many of each family.
 const SHARES: [(&str, usize); 12] = [
@@ -61,9 +68,34 @@ struct Found {
     tally: Tally,
     differences: usize,
     smallest: Option<(u64, Vec<u8>, usize)>,
+    /// Calls of `halivomue_provision` by whether the file is tidy and by number; seed and room of those that differ.
+    provisions: [[u64; 10]; 2],
+    unlike: Vec<(u64, usize)>,
 }
 
 impl Found {
+    fn provisioned(&mut self, told: Provisioning, alike: bool, seed: u64, room: usize) {
+        self.provisions[usize::from(told.tidy == 1)][(told.number as usize).min(9)] += 1;
+        if !alike {
+            self.unlike.push((seed, room));
+        }
+    }
+
+    /// What no call of `halivomue_provision` answered.
+    fn unprovisioned(&self) -> Vec<String> {
+        let [other, tidy] = self.provisions;
+        let read: u64 = other[1..8].iter().sum();
+        let told = [
+            ("accepted and tidy", tidy[0]),
+            ("accepted and not tidy", other[0]),
+            ("one of Read's refusals", read),
+            ("8", tidy[8] + other[8]),
+            ("9 and tidy", tidy[9]),
+            ("9 and not tidy", other[9]),
+        ];
+        told.iter().filter(|t| t.1 == 0).map(|t| format!("halivomue_provision answering {}", t.0)).collect()
+    }
+
     fn note(&mut self, seed: u64, bytes: &[u8], room: usize) {
         self.differences += 1;
         if self.smallest.as_ref().is_none_or(|s| bytes.len() < s.1.len()) {
@@ -74,6 +106,8 @@ impl Found {
     fn with(mut self, other: Found) -> Found {
         self.tally.add(&other.tally);
         self.differences += other.differences;
+        self.provisions.iter_mut().flatten().zip(other.provisions.iter().flatten()).for_each(|(a, b)| *a += b);
+        self.unlike.extend(&other.unlike);
         let known = self.smallest.iter().chain(&other.smallest).min_by_key(|s| s.1.len()).cloned();
         Found { smallest: known, ..self }
     }
@@ -90,10 +124,25 @@ fn compared(library: Library, shorten: Shorten, seeds: impl Iterator<Item = u64>
             if ask(library, &mut buffer, &bytes, room, &answer, seed as usize).is_err() {
                 found.note(seed, &bytes, room);
             }
+            if seed % PROVISIONED == seed / 1000 % PROVISIONED
+                && let Some((told, alike)) = provisioned(library, &bytes, room)
+            {
+                found.provisioned(told, alike, seed, room);
+            }
         }
     }
     found.tally.events(probe::events());
     found
+}
+
+/// What `halivomue_provision` says, and whether that and all it writes is what `halivomue_tidy` and
+/// `halivomue_shorten` say and write; nothing where the library doesn't have them.
+fn provisioned(library: Library, bytes: &[u8], room: usize) -> Option<(Provisioning, bool)> {
+    let (mut out, mut due) = (vec![0x5a; room + 2 * GUARD], vec![0x5a; room + 2 * GUARD]);
+    let told = library.provision(bytes, &mut out[GUARD..GUARD + room])?;
+    let tidiness = library.tidy(bytes)?;
+    let shortening = library.shorten(bytes, &mut due[GUARD..GUARD + room]);
+    Some((told, told == Provisioning::of(tidiness, shortening) && out == due))
 }
 
 /// The named cases with every room; their differences have seed 0.
@@ -161,11 +210,17 @@ fn main() -> ExitCode {
         found.differences
     );
     found.tally.print();
+    let provisions: u64 = found.provisions.iter().flatten().sum();
+    println!("  halivomue_provision: {provisions} calls, {} differ", found.unlike.len());
+    if let Some((seed, room)) = found.unlike.iter().min() {
+        println!("the first: seed {seed}, room {room}, file {}", packed(&file(*seed)));
+        return ExitCode::FAILURE;
+    }
     if let Some(smallest) = &found.smallest {
         print(library, shorten, smallest);
         return ExitCode::FAILURE;
     }
-    let missing = found.tally.missing();
+    let missing = [found.tally.missing(), found.unprovisioned()].concat();
     if !missing.is_empty() && (files >= ENOUGH || std::env::args().any(|word| word == "all")) {
         println!("compare-shorten: not reached: {}", missing.join(", "));
         return ExitCode::FAILURE;

@@ -1,11 +1,10 @@
-//! `halivomue_shorten` over the reference, to try the comparison and the benchmark with. STAND_IN_FAULT names
-//! a fault that it then has, which the comparison must notice.
+//! The functions of the C header over the reference, to try the comparison, the C programs and the benchmark with. STAND_IN_FAULT names a fault that they then have, which the comparison must notice.
 
 use halivomue_reference::draft::mov;
-use halivomue_reference::library::Shortening;
+use halivomue_reference::library::{Provisioning, Reading, Shortening, Tidiness};
 use halivomue_reference::procedure::Procedure;
 use halivomue_reference::record::kind;
-use halivomue_reference::reference;
+use halivomue_reference::{read, reference, tidy};
 use std::sync::LazyLock;
 
 static FAULT: LazyLock<String> = LazyLock::new(|| std::env::var("STAND_IN_FAULT").unwrap_or_default());
@@ -46,6 +45,46 @@ pub unsafe extern "C" fn halivomue_shorten(bytes: *const u8, length: usize, out:
         "unchanged" if told.number == 0 && told.fresh > 0 => {
             out[..length.min(room)].copy_from_slice(&bytes[..length.min(room)])
         }
+        _ => {}
+    }
+    told
+}
+
+/// # Safety
+/// `length` bytes stand at `bytes`; a null pointer has none.
+#[unsafe(no_mangle)]
+pub unsafe extern "C" fn halivomue_read(bytes: *const u8, length: usize) -> Reading {
+    let Tidiness { number, record, .. } = unsafe { halivomue_tidy(bytes, length) };
+    Reading { number, record }
+}
+
+/// # Safety
+/// As of `halivomue_read`.
+#[unsafe(no_mangle)]
+pub unsafe extern "C" fn halivomue_tidy(bytes: *const u8, length: usize) -> Tidiness {
+    let bytes = if length == 0 { &[] } else { unsafe { std::slice::from_raw_parts(bytes, length) } };
+    match read::read(bytes).map(|_| tidy::offender(&Procedure::from_bytes(bytes))) {
+        Err((number, record)) => Tidiness { number, record, ..Tidiness::default() },
+        Ok(None) => Tidiness { tidy: 1, ..Tidiness::default() },
+        Ok(Some(reg)) => Tidiness { reg, ..Tidiness::default() },
+    }
+}
+
+/// # Safety
+/// As of `halivomue_shorten`.
+#[unsafe(no_mangle)]
+pub unsafe extern "C" fn halivomue_provision(
+    bytes: *const u8,
+    length: usize,
+    out: *mut u8,
+    room: usize,
+) -> Provisioning {
+    let (t, s) = unsafe { (halivomue_tidy(bytes, length), halivomue_shorten(bytes, length, out, room)) };
+    let mut told = Provisioning::of(t, s);
+    match FAULT.as_str() {
+        "yes" => told.tidy = u32::from(t.number == 0),
+        "register" => told.reg += u32::from(t.number == 0 && t.tidy == 0),
+        "wiped" if told.number == 9 && room > 0 => unsafe { *out = 0 },
         _ => {}
     }
     told
