@@ -3,12 +3,12 @@ use Prim.Native.Nat.{ℕ, suc, _+_, _/_, _≤_, _<_}
 use native.Mathlib.Numerals.{add-one}
 use native.Mathlib.Omega.{arith}
 use mathlib.Core.Path.{_≡_, refl, sym, ap, _∙_}
-use mathlib.Core.Bool.{Bool, true, false, _&&_, _||_, not, cond, or-false}
+use mathlib.Core.Bool.{Bool, true, false, _&&_, not, cond, or-false}
 use mathlib.Core.List.{List, [], _∷_, map}
 use mathlib.Core.Logic.{_⊎_, inl, inr}
 use mathlib.Core.Option.{Option}
 use borrow.Author.Tests.{ne-eqb, lt-leb, le-leb, lt-ltb, le-ltb}
-use lib.Dec.{eqb, ltb, leb}
+use lib.Dec.{leb}
 use lib.ListN.{length, getD, drop, drop-of-length-le}
 use lib.Seq.{drop-cons}
 use Rattle.general.proofs.Booleans.{either, otherwise, both, neither}
@@ -20,49 +20,16 @@ use Rattle.inst.specs.declared.Code.{Code}
 use Rattle.inst.specs.declared.Reg.{Reg}
 use Rattle.inst.specs.declared.AddrSpace.{AddrSpace}
 use Rattle.real.specs.declared.Real.{Real}
-use Rattle.inst.specs.declared.Inst.{Inst}
 use Rattle.inst.specs.declared.Inst.the-variants as i
-use Rattle.inst.specs.Inst.{kindOf}
 use Rattle.codec.specs.Codec.{instOf, codeOf, recordOf, blockOf}
 use Rattle.codec.proofs.Table.{inst-at}
-use Rattle.ends.specs.Forms.{formOf, fixedOf, isFixed}
+use Rattle.ends.specs.Forms.{formOf, fixedOf}
 use Rattle.ends.specs.Ends.{endOf}
-use Rattle.ends.proofs.Laws.{same-kind}
+use Rattle.ends.proofs.Laws.{fixed-record}
 use Rattle.steps.specs.Emit.{isJump, isLast, firstStmt, stays, emptied, rescuedOf}
 use Rattle.procedure.specs.Lists.{anyOf}
 use Rattle.facts.specs.Storage.{factsIn, singleIn}
 use Rattle.emit_records.specs.Emitted.{rescuedBy, rescuedIn, staysBy, branchRecord, Place, place, put, puts}
-
--- Const, ConstF and AddrOf by their kinds
-abbrev fixedKind : ℕ → Bool
-fixedKind k = eqb k 0 || (eqb k 1 || eqb k 3)
-
-fixed-kind : (x : Inst) → fixedKind (kindOf x) ≡ isFixed (fixedOf x)
-unfolding fixedOf formOf
-fixed-kind (i.Const d v) = refl
-fixed-kind (i.ConstF d v) = refl
-fixed-kind (i.Move d s) = refl
-fixed-kind (i.AddrOf d s f) = refl
-fixed-kind (i.Select d c x y) = refl
-fixed-kind (i.Cmp op d x y) = refl
-fixed-kind (i.Bool op d x y) = refl
-fixed-kind (i.Bin op d x y) = refl
-fixed-kind (i.BinRange op d x y l h w) = refl
-fixed-kind (i.Load d a w) = refl
-fixed-kind (i.Store a s w) = refl
-fixed-kind (i.Check c v l h w) = refl
-fixed-kind (i.MakeDope a p) = refl
-fixed-kind (i.DopeLen d p n) = refl
-fixed-kind (i.BoundsLen d l r e) = refl
-fixed-kind (i.Alloc d s) = refl
-fixed-kind (i.TakeBounds l r e) = refl
-fixed-kind (i.CallNative n a d) = refl
-fixed-kind (i.Br t) = refl
-fixed-kind (i.CondBr c t f) = refl
-fixed-kind (i.Case v t) = refl
-fixed-kind (i.Ret v) = refl
-fixed-kind (i.Unreachable w) = refl
-fixed-kind i.Stmt = refl
 
 -- each of the three is rescued where its register is single
 module _ (facts : List ℕ) (d : Reg) where
@@ -90,16 +57,10 @@ module _ (facts : List ℕ) (r : Record) where
   pub third-rescued : r .kind ≡ 3 → singleIn facts (r .p1) ≡ rescuedBy facts (instOf r)
   third-rescued e = address-rescued facts _ _ _ ∙ ap (rescuedBy facts) (inst-at r 3 e)
 
-fixed-past : (k : ℕ) → 23 ≤ k → fixedKind k ≡ fixedKind 23
-fixed-past k h = rw (ne-eqb k 0 (omega arith), ne-eqb k 1 (omega arith), ne-eqb k 3 (omega arith))
-
 -- no other record is rescued
 pub other-record : (facts : List ℕ) (r : Record) → 2 ≤ r .kind → (r .kind ≡ 3 → ⊥) → false ≡ rescuedBy facts (instOf r)
 other-record facts r h e =
-    neither _ refl
-    (sym (fixed-kind (instOf r))
-    ∙ same-kind fixedKind fixed-past r
-    ∙ rw (ne-eqb (r .kind) 0 (omega arith), ne-eqb (r .kind) 1 (omega arith), ne-eqb (r .kind) 3 e))
+    neither _ refl (fixed-record r ∙ rw (ne-eqb (r .kind) 0 (omega arith), ne-eqb (r .kind) 1 (omega arith), ne-eqb (r .kind) 3 e))
 
 -- a block that stays, by the tests in their order
 module _ (mark last : Bool) (c : List Code) where

@@ -20,7 +20,7 @@ use Rattle.codec.specs.Codec.{instsOf, instOf, codeOf}
 use Rattle.codec.proofs.Table.{inst-at, inst-past}
 use Rattle.procedure.specs.Procedure.{codesOf}
 use Rattle.ends.specs.declared.End.the-variants as v
-use Rattle.ends.specs.Forms.{formOf}
+use Rattle.ends.specs.Forms.{formOf, fixedOf, isFixed}
 use Rattle.ends.specs.Ends.{codeAt, viewOf, endOf, loneOf}
 
 -- there is one instruction for each record
@@ -88,6 +88,43 @@ branch-past k h = rw (ne-eqb k 18 (omega arith), ne-eqb k 19 (omega arith), ne-e
 
 pub other-record : (r : Record) → branchKind (r .kind) ≡ false → viewOf (instOf r) ≡ v.Other
 other-record r h = other-view (instOf r) (same-kind branchKind branch-past r ∙ h)
+
+-- Const, ConstF and AddrOf by their kinds
+abbrev pub fixedKind : ℕ → Bool
+fixedKind k = eqb k 0 || (eqb k 1 || eqb k 3)
+
+pub fixed-kind : (x : Inst) → fixedKind (kindOf x) ≡ isFixed (fixedOf x)
+unfolding fixedOf formOf
+fixed-kind (i.Const d v) = refl
+fixed-kind (i.ConstF d v) = refl
+fixed-kind (i.Move d s) = refl
+fixed-kind (i.AddrOf d s f) = refl
+fixed-kind (i.Select d c x y) = refl
+fixed-kind (i.Cmp op d x y) = refl
+fixed-kind (i.Bool op d x y) = refl
+fixed-kind (i.Bin op d x y) = refl
+fixed-kind (i.BinRange op d x y l h w) = refl
+fixed-kind (i.Load d a w) = refl
+fixed-kind (i.Store a s w) = refl
+fixed-kind (i.Check c v l h w) = refl
+fixed-kind (i.MakeDope a p) = refl
+fixed-kind (i.DopeLen d p n) = refl
+fixed-kind (i.BoundsLen d l r e) = refl
+fixed-kind (i.Alloc d s) = refl
+fixed-kind (i.TakeBounds l r e) = refl
+fixed-kind (i.CallNative n a d) = refl
+fixed-kind (i.Br t) = refl
+fixed-kind (i.CondBr c t f) = refl
+fixed-kind (i.Case v t) = refl
+fixed-kind (i.Ret v) = refl
+fixed-kind (i.Unreachable w) = refl
+fixed-kind i.Stmt = refl
+
+fixed-past : (k : ℕ) → 23 ≤ k → fixedKind k ≡ fixedKind 23
+fixed-past k h = rw (ne-eqb k 0 (omega arith), ne-eqb k 1 (omega arith), ne-eqb k 3 (omega arith))
+
+pub fixed-record : (r : Record) → isFixed (fixedOf (instOf r)) ≡ fixedKind (r .kind)
+fixed-record r = sym (fixed-kind (instOf r)) ∙ same-kind fixedKind fixed-past r
 
 -- the view of what the table has at a record's kind
 pub view-kind : (r : Record) (k : ℕ) → r .kind ≡ k → viewOf (getD (instsOf r) k i.Stmt) ≡ viewOf (instOf r)

@@ -1,7 +1,6 @@
-// The records of the other classes: registers, blocks, body, operands, arms.
+// The records of other classes than instructions, as far as the steps read or write them: registers, blocks, operands, arms.
 ghost use mathlib.Core.Path.{_≡_};
-ghost use Rattle.items.specs.Items.{rowOf, registerOf, registerRecord, blockOf, blockRecord, bodyOf, bodyRecord};
-ghost use Rattle.items.specs.Items.{operandOf, operandRecord, armOf, armRecord};
+ghost use Rattle.items.specs.Items.{rowOf, registerRecord, blockOf, blockRecord, operandOf, armOf};
 use inst::ArmEntry;
 use inst::Block;
 use inst::BlockId;
@@ -27,12 +26,6 @@ fn row(class: u32, kind: u32, p1: u32, p2: u32, p3: u32, p4: u32, p5: u32, p6: u
     }
 }
 
-pub fn register_of(r: Record) -> RegTy
-    ensures { λ x. ⌜ x ≡ registerOf r ⌝ }
-{
-    ops::reg_ty_of(r.kind)
-}
-
 pub fn record_of_register(x: RegTy) -> Record
     ensures { λ r. ⌜ r ≡ registerRecord x ⌝ }
 {
@@ -54,28 +47,10 @@ pub fn record_of_block(x: Block) -> Record
     row(2, 0, x.start, x.end, 0, 0, 0, 0)
 }
 
-pub fn body_of(r: Record) -> BlockId
-    ensures { λ x. ⌜ x ≡ bodyOf r ⌝ }
-{
-    BlockId(r.p1)
-}
-
-pub fn record_of_body(x: BlockId) -> Record
-    ensures { λ r. ⌜ r ≡ bodyRecord x ⌝ }
-{
-    row(3, 0, x.0, 0, 0, 0, 0, 0)
-}
-
 pub fn operand_of(r: Record) -> Reg
     ensures { λ x. ⌜ x ≡ operandOf r ⌝ }
 {
     Reg(r.p1)
-}
-
-pub fn record_of_operand(x: Reg) -> Record
-    ensures { λ r. ⌜ r ≡ operandRecord x ⌝ }
-{
-    row(5, 0, x.0, 0, 0, 0, 0, 0)
 }
 
 pub fn arm_of(r: Record) -> ArmEntry
@@ -89,22 +64,5 @@ pub fn arm_of(r: Record) -> ArmEntry
         high,
         to: BlockId(r.p6),
         default: r.kind == 1,
-    }
-}
-
-pub fn record_of_arm(x: ArmEntry) -> Record
-    ensures { λ r. ⌜ r ≡ armRecord x ⌝ }
-{
-    let low = x.low;
-    let high = x.high;
-    let to = x.to;
-    let p2 = codec::low_of(low);
-    let p3 = codec::high_of(low);
-    let p4 = codec::low_of(high);
-    let p5 = codec::high_of(high);
-    if x.default {
-        row(6, 1, x.table, p2, p3, p4, p5, to.0)
-    } else {
-        row(6, 0, x.table, p2, p3, p4, p5, to.0)
     }
 }

@@ -35,14 +35,13 @@ use Rattle.round_trips.proofs.Blocks.{length-blocks}
 use Rattle.round_trips.proofs.Bytes.{records-fit, bytes-length, records-back}
 use Rattle.round_trips.proofs.Sections.{all-right, all-of, all-class}
 use Rattle.round_trips.proofs.Tables.{length-arms}
-use Rattle.round_trips.proofs.FromRecords.{n-registers, n-code, well-formed}
-use Rattle.round_trips.proofs.ToRecords.{records-accepted, procedure-same, records-fit as fits-for}
+use Rattle.round_trips.proofs.FromRecords as From
+use Rattle.round_trips.proofs.ToRecords.{class-of, records-accepted, procedure-same, records-fit as fits-for}
 use Rattle.step_laws.proofs.Shorten.{Within}
 use Rattle.parts.specs.Parts.{partOf, startsIn}
 use Rattle.parts.proofs.Laws.{starts-laid}
 use Rattle.procedure_parts.specs.Opened.{Parts, partsOf, recoded, Coded, Holds, Parted, Opened, whole}
 use Rattle.procedure_parts.proofs.Parts.{records-of, bytes-of, length-of, part-rest}
-use Rattle.procedure_parts.proofs.Written as Written
 
 -- code and block table whose records are those of an accepted file
 module _ (rs : List Record) (a : Accepted rs) (code heads : List ℕ) (c : recordsOf code ≡ ofClass 4 rs) (h : recordsOf heads ≡ ofClass 2 rs) where
@@ -67,14 +66,10 @@ module _ (rs : List Record) (a : Accepted rs) (code heads : List ℕ) (c : recor
 -- the records of a well-formed procedure's code and block table
 module _ (q : Procedure) (w : WellFormed q) where
   code-class : map recordOf (joined (q .blocks)) ≡ ofClass 4 (recordsFor q)
-  code-class =
-      sym (ap (λ (q : Procedure). map recordOf (joined (q .blocks))) (procedure-same q w))
-      ∙ Written.code-same (recordsFor q) (records-accepted q w) (fits-for q w)
+  code-class = sym (class-of q w 3)
 
   head-class : blockRecords 0 (q .blocks) ≡ ofClass 2 (recordsFor q)
-  head-class =
-      sym (ap (λ (q : Procedure). blockRecords 0 (q .blocks)) (procedure-same q w))
-      ∙ Written.blocks-same (recordsFor q) (records-accepted q w) (fits-for q w)
+  head-class = sym (class-of q w 1)
 
   -- in bytes as they are written
   pub coded-by : (code heads : List ℕ) → Bytes code → Bytes heads
@@ -211,19 +206,19 @@ module _ (b : List ℕ) (h : Bytes b) (e : checked b .number ≡ 0) where
   -- they hold its procedure
   pub parted : Parted p x
   parted =
-      let registers-same = registers-are ∙ sym (Written.registers-same rs a f) in
-      let blocks-same = heads-are ∙ sym (Written.blocks-same rs a f) in
-      let body-same = body-is ∙ sym (Written.body-same rs a f) in
-      let code-same = code-is ∙ sym (Written.code-same rs a f) in
-      let operands-same = operands-are ∙ sym (Written.operands-same rs a f) in
-      let arms-same = arms-are ∙ sym (Written.tables-same rs a f) in
+      let registers-same = registers-are ∙ sym (From.registers-same rs a f) in
+      let blocks-same = heads-are ∙ sym (From.blocks-same rs a f) in
+      let body-same = body-is ∙ sym (From.body-same rs a f) in
+      let code-same = code-is ∙ sym (From.code-same rs a f) in
+      let operands-same = operands-are ∙ sym (From.operands-same rs a f) in
+      let arms-same = arms-are ∙ sym (From.tables-same rs a f) in
       let code-bytes = bytes-of b (l .code) (l .operands) h in
       record {
-        well-formed = well-formed rs a f;
+        well-formed = From.well-formed rs a f;
         coded = record {
           code-bytes = code-bytes;
           heads-bytes = bytes-of b (l .blocks) (l .bodies) h;
-          code-length = length-of b (l .code) (l .operands) ∙ ap (λ (n : ℕ). 32 * n) (ap length code-is ∙ sym (n-code rs a f));
+          code-length = length-of b (l .code) (l .operands) ∙ ap (λ (n : ℕ). 32 * n) (ap length code-is ∙ sym (From.n-code rs a f));
           heads-length = length-of b (l .blocks) (l .bodies) ∙ ap (λ (n : ℕ). 32 * n) n-heads;
           code-records = code-same;
           head-records = blocks-same;
@@ -249,8 +244,8 @@ module _ (b : List ℕ) (h : Bytes b) (e : checked b .number ≡ 0) where
   -- within the shortening limits it is a file opened
   pub opened : Within b → Opened p x
   opened w =
-      let nr = n-registers rs a f in
-      let nc = n-code rs a f in
+      let nr = From.n-registers rs a f in
+      let nc = From.n-code rs a f in
       let i = w .registers in
       let j = w .code in
       record { parted = parted; few-registers = omega arith; few-code = omega arith }

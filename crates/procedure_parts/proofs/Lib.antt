@@ -1,4 +1,3 @@
 pub mod Parts
-pub mod Written
 pub mod Laws
 pub mod Few

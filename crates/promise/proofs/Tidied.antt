@@ -5,19 +5,22 @@ use mathlib.Core.Logic.{inl, inr}
 use mathlib.Core.List.{List, [], _∷_, _++_}
 use mathlib.Core.Bool.{Bool, true, false, _&&_, _||_, not, cond}
 use native.Mathlib.Omega.{arith}
+use borrow.Author.Tests.{lt-leb, ne-eqb}
 use lib.Dec.{eqb, ltb, leb}
 use lib.ListN.{length, getD, length-append}
 use Rattle.inst.specs.Inst.{kindOf}
 use Rattle.inst.specs.declared.Code.{Code}
 use Rattle.inst.specs.declared.Inst.{Inst}
-use Rattle.inst.specs.declared.Inst.the-variants as i
 use Rattle.roles.specs.Roles.{defsOf, readsOf}
 use Rattle.procedure.specs.Procedure.{Procedure}
 use Rattle.procedure.specs.Lists.{joined, times}
 use Rattle.procedure.specs.Counts.{writesIn}
-use Rattle.ends.specs.Forms.{formOf, fixedOf, isFixed}
+use Rattle.ends.specs.Forms.{fixedOf, isFixed}
+use Rattle.ends.proofs.Laws.{fixedKind, fixed-kind}
 use Rattle.tidy.specs.Tidy.{Placed, Field, placedIn, placedFrom, placed, fieldsAt, written, reads, writers}
 use Rattle.tidy.specs.Tidy.{leads, tooEarly, later, wrong, wrongFor, onlyOne, offends, regsOf, Tidy}
+use Rattle.round_trips.specs.WellFormed.{All}
+use Rattle.round_trips.proofs.Lists.{all-left, all-right, all-append}
 use Rattle.demand.specs.Setting.{In, Each, defsAt, readsAt, Exposed}
 use Rattle.demand.specs.Whole.{Inside}
 use Rattle.demand.proofs.Basics.{clash, eqb-eq, eqb-true, eqb-false, and-both, not-false}
@@ -25,50 +28,11 @@ use Rattle.demand.proofs.Codes.{each-left, each-right}
 use Rattle.demand.proofs.Counted.{writes-append}
 use Rattle.demand.proofs.Original.{singly-one, ltb-true, lt-yes}
 
--- all of a list
-abbrev All : {A : Type 0} → (A → Type 0) → List A → Type 0
-All F [] = Unit {0}
-All F (x ∷ xs) = F x × All F xs
-
-all-left : {A : Type 0} (F : A → Type 0) (xs ys : List A) → All F (xs ++ ys) → All F xs
-all-left F [] ys p = tt
-all-left F (x ∷ xs) ys p = (p .0, all-left F xs ys (p .1))
-
-all-right : {A : Type 0} (F : A → Type 0) (xs ys : List A) → All F (xs ++ ys) → All F ys
-all-right F [] ys p = p
-all-right F (x ∷ xs) ys p = all-right F xs ys (p .1)
-
-all-append : {A : Type 0} (F : A → Type 0) (xs ys : List A) → All F xs → All F ys → All F (xs ++ ys)
-all-append F [] ys p q = q
-all-append F (x ∷ xs) ys p q = (p .0, all-append F xs ys (p .1) q)
-
--- Const, ConstF and AddrOf by their kinds
-fixed-kind : (x : Inst) → isFixed (fixedOf x) ≡ (leb (kindOf x) 1 || eqb (kindOf x) 3)
-unfolding fixedOf formOf
-fixed-kind (i.Const d v) = refl
-fixed-kind (i.ConstF d v) = refl
-fixed-kind (i.Move d s) = refl
-fixed-kind (i.AddrOf d s f) = refl
-fixed-kind (i.Select d c x y) = refl
-fixed-kind (i.Cmp op d x y) = refl
-fixed-kind (i.Bool op d x y) = refl
-fixed-kind (i.Bin op d x y) = refl
-fixed-kind (i.BinRange op d x y l h w) = refl
-fixed-kind (i.Load d a w) = refl
-fixed-kind (i.Store a s w) = refl
-fixed-kind (i.Check c v l h w) = refl
-fixed-kind (i.MakeDope a p) = refl
-fixed-kind (i.DopeLen d p n) = refl
-fixed-kind (i.BoundsLen d l r e) = refl
-fixed-kind (i.Alloc d s) = refl
-fixed-kind (i.TakeBounds l r e) = refl
-fixed-kind (i.CallNative n a d) = refl
-fixed-kind (i.Br t) = refl
-fixed-kind (i.CondBr c t f) = refl
-fixed-kind (i.Case v t) = refl
-fixed-kind (i.Ret v) = refl
-fixed-kind (i.Unreachable w) = refl
-fixed-kind i.Stmt = refl
+-- Const, ConstF and AddrOf by their kinds, as `wrong` has them
+low-or-third : (k : ℕ) → (leb k 1 || eqb k 3) ≡ fixedKind k
+low-or-third zero = refl
+low-or-third (suc zero) = refl
+low-or-third (suc (suc k)) = let n = suc (suc k) in rw (lt-leb n 1 (omega arith), ne-eqb n 0 (λ e. omega arith), ne-eqb n 1 (λ e. omega arith))
 
 -- at a place of some code r is read, or written
 abbrev ReadAt : List ℕ → ℕ → List Code → ℕ → Type 0
@@ -290,7 +254,7 @@ tidy-inside p tidy r low once varying b z = by (writers r (written (placed p))) 
     by [] q n s = omega (arith, singly-one (joined (p .blocks)) r once, ap length q)
     by (w ∷ []) q n s =
         let t = (subst (All (Stands r (p .blocks))) q s) .0 in
-        let u = not-wrong (leads p) (kindOf (w .inst)) (w .block) (w .place) (0 + b) (at .0) (sym (fixed-kind (w .inst)) ∙ t .varies)
+        let u = not-wrong (leads p) (kindOf (w .inst)) (w .block) (w .place) (0 + b) (at .0) (low-or-third (kindOf (w .inst)) ∙ fixed-kind (w .inst) ∙ t .varies)
         (offends-by (w ∷ []) q) in
         let e : w .block ≡ b = omega (arith, u .0) in
         at .2 (w .place) (u .1) (subst (λ c. WrittenAt r (getD (p .blocks) c []) (w .place)) e (t .inside))

@@ -13,7 +13,7 @@ use Rattle.records.specs.Record.{blank}
 use Rattle.inst.specs.declared.ArmEntry.{ArmEntry}
 use Rattle.items.specs.Items.{armOf}
 use Rattle.reach.specs.Reached.{targetsIn}
-use Rattle.reach.specs.Search.{Search, pushed, pushedAll}
+use Rattle.search.specs.Search.{Search, pushed, pushedAll}
 
 module _ (b n : ℕ) (rs : List Record) where
   -- what the arms from arm k on push

@@ -28,7 +28,7 @@ use Rattle.blocks.specs.Blocks.{blocksOf}
 use Rattle.blocks.proofs.Parts.{length-blocks}
 use Rattle.steps.specs.Emit.{armTargets, leads, edgesOf, reached}
 use Rattle.reach.specs.Reached.{targetsIn, leadsIn, edgesIn, marksOf, seenIn}
-use Rattle.reach.proofs.Search.{clear-past}
+use Rattle.search.proofs.Search.{clear-past}
 use Rattle.reach.proofs.Edges.{length-edges}
 
 -- targets are the same, or there is no table, which is taken to lead to block 0

@@ -1,4 +1,3 @@
-pub mod Search
 pub mod Arms
 pub mod Edges
 pub mod Laws

@@ -2,27 +2,9 @@
 ghost use mathlib.Core.Path.{_≡_};
 ghost use Rattle.records.specs.Record.{recordsOf};
 ghost use Rattle.reach.specs.Reached.{targetsIn, leadsIn, seenIn};
-ghost use Rattle.reach.specs.Search.{Sized, searchOf, pushed, pushedAll};
+ghost use Rattle.search.specs.Search.{Sized, searchOf, pushedAll};
 use ends::End;
 use inst::BlockId;
-
-// Marks a block and pushes it, where it is one of the nb blocks and not marked yet.
-fn push(seen: &mut [bool; 160], stack: &mut [u32; 160], top: usize, nb: usize, b: BlockId) -> usize
-    requires { ⌜ Sized nb (now seen) (now stack) top ⌝ }
-    ensures { λ r. ⌜ Sized nb (now (seen .exit)) (now (stack .exit)) r ⌝ }
-    ensures { λ r. ⌜ searchOf (now (seen .exit)) (now (stack .exit)) r ≡ pushed nb (searchOf (now (seen .entry)) (now (stack .entry)) top) (b .0) ⌝ }
-{
-    let at = b.0 as usize;
-    if nb <= at {
-        return top;
-    }
-    if seen[at] {
-        return top;
-    }
-    seen[at] = true;
-    stack[top] = b.0;
-    top + 1
-}
 
 // Pushes the targets of the arms of table n, up to its default.
 fn push_arms(
@@ -45,7 +27,7 @@ fn push_arms(
         let x = items::arm_of(records::record_at(arms, k));
         if x.table == n {
             let to = x.to;
-            at = push(seen, stack, at, nb, to);
+            at = search::push(seen, stack, at, nb, to);
             if x.default {
                 return at;
             }
@@ -70,10 +52,10 @@ fn push_targets(
         ≡ pushedAll nb (searchOf (now (seen .entry)) (now (stack .entry)) top) (leadsIn (recordsOf (now (arms .entry))) e) ⌝ }
 {
     match e {
-        End::Br(to) => push(seen, stack, top, nb, to),
+        End::Br(to) => search::push(seen, stack, top, nb, to),
         End::CondBr(_, t, f) => {
-            let at = push(seen, stack, top, nb, t);
-            push(seen, stack, at, nb, f)
+            let at = search::push(seen, stack, top, nb, t);
+            search::push(seen, stack, at, nb, f)
         }
         End::Case(n) => push_arms(arms, n, seen, stack, top, nb),
         End::Other => top,
@@ -87,7 +69,7 @@ pub fn reached(code: &[u8], table: &[u8], arms: &[u8]) -> [bool; 160]
     let nb = general::least(table.len() / 32, 160);
     let mut seen = [false; 160];
     let mut stack = [0u32; 160];
-    let mut top = push(&mut seen, &mut stack, 0, nb, BlockId(0));
+    let mut top = search::push(&mut seen, &mut stack, 0, nb, BlockId(0));
     while 0 < top {
         let b = stack[top - 1];
         let e = blocks::end_at(code, table, BlockId(b));

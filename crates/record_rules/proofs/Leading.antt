@@ -1,5 +1,5 @@
 -- Laws of the registers that an instruction names in its first places.
-use Prim.Native.Nat.{ℕ, zero, suc, _+_, _≤_, _<_}
+use Prim.Native.Nat.{ℕ, zero, suc, _+_, _≤_, _<_, max}
 use native.Mathlib.Nat.{eq-or-lt-of-le}
 use native.Mathlib.Omega.{arith}
 use mathlib.Core.Logic.{⊎-elim}
@@ -9,7 +9,7 @@ use mathlib.Core.List.{List, [], _∷_}
 use lib.Dec.{leb, ltb, eqb, leb·zero}
 use lib.ListN.{getD, take}
 use lib.Seq.{take-nil}
-use borrow.Author.Tests.{ltb-true, ltb-false, leb-true, leb-false, lt-ltb}
+use borrow.Author.Tests.{leb-true, leb-false, le-leb, lt-leb, lt-ltb}
 use Rattle.general.proofs.Lists.{at-key}
 use Rattle.general.proofs.Numbers.{Below, below as each}
 use Rattle.records.specs.declared.Record.{Record}
@@ -19,20 +19,14 @@ use Rattle.record_rules.specs.declared.exist.Counts.{Counts}
 use Rattle.record_rules.specs.Exist.{allExist}
 use Rattle.record_rules.proofs.Laws.{address-exists, past-row}
 
-abbrev larger : ℕ → ℕ → ℕ
-larger a b = cond (ltb a b) b a
-
--- the larger is within where both are
-larger-within : (n a b : ℕ) → leb (larger a b) n ≡ (leb a n && leb b n)
-larger-within n a b = go (ltb a b) (leb a n) (leb b n) refl refl refl
+-- the greater is within where both are
+max-within : (n a b : ℕ) → leb (max a b) n ≡ (leb a n && leb b n)
+max-within n a b = go (leb a n) (leb b n) refl refl
   where
-    go : (t x y : Bool) → ltb a b ≡ t → leb a n ≡ x → leb b n ≡ y → leb (cond t b a) n ≡ (x && y)
-    go true true y e f g = g
-    go true false true e f g = let h = ltb-true a b e in let i = leb-false a n f in let j = leb-true b n g in absurd (omega arith)
-    go true false false e f g = g
-    go false true true e f g = f
-    go false true false e f g = let h = ltb-false a b e in let i = leb-true a n f in let j = leb-false b n g in absurd (omega arith)
-    go false false y e f g = f
+    go : (x y : Bool) → leb a n ≡ x → leb b n ≡ y → leb (max a b) n ≡ (x && y)
+    go true true f g = let i = leb-true a n f in let j = leb-true b n g in le-leb (max a b) n (omega arith)
+    go true false f g = let j = leb-false b n g in lt-leb (max a b) n (omega arith)
+    go false y f g = let i = leb-false a n f in lt-leb (max a b) n (omega arith)
 
 regroup : (a b c d e : Bool) → ((a && b) && ((c && d) && e)) ≡ (a && (b && (c && (d && (e && true)))))
 regroup false b c d e = refl
@@ -50,16 +44,16 @@ abbrev pub five : Record → List ℕ
 five r = r .p1 ∷ r .p2 ∷ r .p3 ∷ r .p4 ∷ r .p5 ∷ []
 
 abbrev largest : ℕ → Record → ℕ
-largest u r = larger (larger (upto u 0 (r .p1)) (upto u 1 (r .p2))) (larger (larger (upto u 2 (r .p3)) (upto u 3 (r .p4))) (upto u 4 (r .p5)))
+largest u r = max (max (upto u 0 (r .p1)) (upto u 1 (r .p2))) (max (max (upto u 2 (r .p3)) (upto u 3 (r .p4))) (upto u 4 (r .p5)))
 
 within-each :
     (n a b c d e : ℕ) →
-    leb (larger (larger a b) (larger (larger c d) e)) n ≡ (leb a n && (leb b n && (leb c n && (leb d n && (leb e n && true)))))
+    leb (max (max a b) (max (max c d) e)) n ≡ (leb a n && (leb b n && (leb c n && (leb d n && (leb e n && true)))))
 within-each n a b c d e =
-    larger-within n (larger a b) (larger (larger c d) e)
-    ∙ ap (λ (t : Bool). t && leb (larger (larger c d) e) n) (larger-within n a b)
+    max-within n (max a b) (max (max c d) e)
+    ∙ ap (λ (t : Bool). t && leb (max (max c d) e) n) (max-within n a b)
     ∙ ap (λ (t : Bool). (leb a n && leb b n) && t)
-    (larger-within n (larger c d) e ∙ ap (λ (t : Bool). t && leb e n) (larger-within n c d))
+    (max-within n (max c d) e ∙ ap (λ (t : Bool). t && leb e n) (max-within n c d))
     ∙ regroup (leb a n) (leb b n) (leb c n) (leb d n) (leb e n)
 
 few-at :

@@ -1,7 +1,7 @@
 ghost use mathlib.Core.Path.{_≡_};
 ghost use mathlib.Core.List.{[], _∷_};
 ghost use mathlib.Core.Bool.{cond};
-ghost use Prim.Native.Nat.{suc, _+_, _≤_, _<_};
+ghost use Prim.Native.Nat.{suc, _+_, _≤_, _<_, max};
 ghost use lib.Dec.{leb, ltb};
 ghost use lib.ListN.{getD, take};
 ghost use Rattle.records.specs.Kinds.{fields, instructionPlaces, armPlaces};
@@ -60,7 +60,7 @@ fn upto(used: u32, place: u32, field: u32) -> u64
 }
 
 fn most(a: u64, b: u64) -> u64
-    ensures { λ z. ⌜ z ≡ cond (ltb a b) b a ⌝ }
+    ensures { λ z. ⌜ z ≡ max a b ⌝ }
 {
     if a < b { b } else { a }
 }

@@ -106,30 +106,31 @@ module _ (rs : List Record) (a : Accepted rs) (f : All Fits rs) where
   unfolding procedureOf
   code-is = parts-joined B (a .within .some-block) (a .tile)
 
-  registers-same : map (λ k. registerRecord (regTyOf k)) (procedureOf rs .registers) ≡ ofClass 1 rs
+  -- class by class, the records that the procedure is written as are those of the file
+  pub registers-same : map (λ k. registerRecord (regTyOf k)) (procedureOf rs .registers) ≡ ofClass 1 rs
   unfolding procedureOf
   registers-same =
       map-back {P = λ r. rightOf 1 r ≡ true} (λ r. r .kind) (λ k. registerRecord (regTyOf k))
       (λ r h. register-write-back r (is-right 1 r h) (class-is 1 r h)) (ofClass 1 rs) (of-class 1)
 
-  blocks-same : blockRecords 0 (procedureOf rs .blocks) ≡ B
+  pub blocks-same : blockRecords 0 (procedureOf rs .blocks) ≡ B
   unfolding procedureOf
   blocks-same = blocks-back C 0 B (a .tile) (of-class 2)
 
-  body-same : bodyRecords (procedureOf rs .body) ≡ ofClass 3 rs
+  pub body-same : bodyRecords (procedureOf rs .body) ≡ ofClass 3 rs
   unfolding procedureOf
   body-same = body-back (ofClass 3 rs) (a .within .bodies) (of-class 3)
 
-  code-same : map recordOf (joined (procedureOf rs .blocks)) ≡ C
+  pub code-same : map recordOf (joined (procedureOf rs .blocks)) ≡ C
   code-same = ap (map recordOf) code-is ∙ map-back {P = Back} codeOf recordOf (λ r h. h) C codes-back
 
-  operands-same : map (λ r. operandRecord (regOf r)) (procedureOf rs .operands) ≡ ofClass 5 rs
+  pub operands-same : map (λ r. operandRecord (regOf r)) (procedureOf rs .operands) ≡ ofClass 5 rs
   unfolding procedureOf
   operands-same =
       map-back {P = λ r. rightOf 5 r ≡ true} (λ r. r .p1) (λ r. operandRecord (regOf r))
       (λ r h. operand-write-back r (is-right 5 r h) (class-is 5 r h)) (ofClass 5 rs) (of-class 5)
 
-  tables-same : tableRecords 0 (procedureOf rs .tables) ≡ ofClass 6 rs
+  pub tables-same : tableRecords 0 (procedureOf rs .tables) ≡ ofClass 6 rs
   unfolding procedureOf
   tables-same = tables-back 0 [] (ofClass 6 rs) (a .number) (of-class 6) (fit-class 6) (λ e. refl)
 

@@ -149,7 +149,7 @@ module _ (p : Procedure) (w : WellFormed p) where
       arms : All (λ r. rightOf 6 r ≡ true) T
       arms = arms-right (length (p .blocks)) few-blocks (p .tables) few-arms (w .each-table)
 
-  class-of : (k : ℕ) → ofClass (1 + k) (recordsFor p) ≡ getD six k []
+  pub class-of : (k : ℕ) → ofClass (1 + k) (recordsFor p) ≡ getD six k []
   class-of k = ap (ofClass (1 + k)) (sym six-joined) ∙ section-of six 1 k sections
 
   -- something that holds of the records of each class

@@ -2,7 +2,7 @@ pub mod Tables
 pub mod Fields
 pub mod Ending
 pub mod Edges
-pub mod Search
+pub mod Marks
 pub mod Judging
 pub mod Verdicts
 pub mod Answers

@@ -3,40 +3,21 @@ ghost use mathlib.Core.Bool.{false};
 ghost use Prim.Native.Nat.{_<_};
 ghost use lib.ListN.{length, getD};
 ghost use Rattle.paths.specs.Paths.{reachedFrom};
-ghost use Rattle.tidy.specs.Work.Marks.{edgesIn, clear, Sized, Entered, Kept};
+ghost use Rattle.search.specs.Search.{clear};
+ghost use Rattle.tidy.specs.Work.Marks.{edgesIn, Kept};
 use inst::BlockId;
-
-// Marks a block that is not marked yet, and puts it on the list.
-fn enter(marks: &mut [bool; 160], list: &mut [u32; 160], n: usize, to: BlockId) -> usize
-    requires { ⌜ Sized (now marks) (now list) n ⌝ }
-    ensures { λ r. ⌜ Entered (now (marks .entry)) (now (list .entry)) n (to .0) (now (marks .exit)) (now (list .exit)) r ⌝ }
-{
-    let a = to.0 as usize;
-    if 160 <= a {
-        return n;
-    }
-    if marks[a] {
-        return n;
-    }
-    marks[a] = true;
-    list[n] = to.0;
-    n + 1
-}
 
 // Marks a block and the blocks that it leads to.
 fn reach(targets: &[u32; 320], from: BlockId, marks: &mut [bool; 160])
     requires { ⌜ (from .0 < 160) × (length (now targets) ≡ 320) × (now marks ≡ clear) ⌝ }
     ensures { λ u. ⌜ now (marks .exit) ≡ reachedFrom (edgesIn (now (targets .entry))) (from .0) ⌝ }
 {
-    let mut list = [0u32; 160];
-    let a = from.0 as usize;
-    marks[a] = true;
-    list[0] = from.0;
-    let mut n = 1;
-    while 0 < n {
-        let b = list[n - 1] as usize;
-        n = enter(marks, &mut list, n - 1, BlockId(targets[2 * b]));
-        n = enter(marks, &mut list, n, BlockId(targets[2 * b + 1]));
+    let mut stack = [0u32; 160];
+    let mut top = search::push(marks, &mut stack, 0, 160, from);
+    while 0 < top {
+        let b = stack[top - 1] as usize;
+        top = search::push(marks, &mut stack, top - 1, 160, BlockId(targets[2 * b]));
+        top = search::push(marks, &mut stack, top, 160, BlockId(targets[2 * b + 1]));
     }
 }
 

@@ -9,7 +9,7 @@ use Rattle.records.specs.Record.{recordsOf}
 use Rattle.records.proofs.Laws.{length-records}
 use Rattle.items.specs.Items.{armOf}
 use Rattle.reach.specs.Reached.{targetsIn}
-use Rattle.reach.specs.Search.{Search, Sized, searchOf, pushedAll}
+use Rattle.search.specs.Search.{Search, Sized, searchOf, pushedAll}
 use Rattle.reach.proofs.Arms.{allFrom, other-arm, case-arm, default-arm, no-arm}
 use Rattle.reach.proofs.push_arms.Statement.{statement}
 use Rattle.reach.proofs.push_arms.Tie as tie
@@ -27,9 +27,6 @@ abbrev μ-loop : tie.MeasureT-loop
 loop-holds : tie.Need-loop-holds Inv-loop μ-loop
 loop-holds c = (omega arith, refl, c .before .pre, refl)
 
-push-requires : tie.Need-push-requires Inv-loop μ-loop
-push-requires c κs = c .before .before .before .before .before .before .before .before .loop .inv .2
-
 returns : tie.Need-returns Inv-loop μ-loop
 returns c =
     let p = c .before .push in
@@ -43,7 +40,7 @@ returns c =
     let s = searchOf (l .loop .seen) (l .loop .stack) (l .loop .at) in
     let e = j .before .before .arm-of .ensures ∙ ap armOf (r .record-at .ensures) in
     let d = default-arm (a .nb) (a .n) rs (rw n h) e s (j .if1 .taken) (c .if2 .taken) in
-    (p .ensures .0, p .ensures .1 ∙ d ∙ l .loop .inv .3)
+    (p .ensures .0 (l .loop .inv .2), p .ensures .1 (l .loop .inv .2) ∙ d ∙ l .loop .inv .3)
 
 loop-less : tie.Need-loop-less Inv-loop μ-loop
 loop-less c = let h = c .before .before .before .before .loop-test .taken in omega arith
@@ -62,8 +59,8 @@ loop-again c =
     let more : Search → Search = λ t. allFrom (a .nb) (a .n) rs t (l .loop .k + 1) in (
       omega arith,
       i .1,
-      ⊎-elim (λ w. rw (w .6, w .7, w .8) (w .4 .ensures .0)) (λ w. rw (w .1, w .2, w .3) (i .2)) (c .if1 .came),
-      ⊎-elim (λ w. rw (w .6, w .7, w .8) (ap more (w .4 .ensures .1) ∙ case-arm (a .nb) (a .n) rs (rw n h) e s (w .0 .taken) (w .5 .left) ∙ i .3))
+      ⊎-elim (λ w. rw (w .6, w .7, w .8) (w .4 .ensures .0 (i .2))) (λ w. rw (w .1, w .2, w .3) (i .2)) (c .if1 .came),
+      ⊎-elim (λ w. rw (w .6, w .7, w .8) (ap more (w .4 .ensures .1 (i .2)) ∙ case-arm (a .nb) (a .n) rs (rw n h) e s (w .0 .taken) (w .5 .left) ∙ i .3))
           (λ w. rw (w .1, w .2, w .3) (other-arm (a .nb) (a .n) rs (rw n h) e s (w .0 .left) ∙ i .3)) (c .if1 .came),
     )
 
@@ -78,5 +75,5 @@ returns-2 c =
 
 pub push-arms-spec : {M : Type 1} → statement M
 push-arms-spec =
-    tie.close (tie.spec Inv-loop μ-loop loop-holds (λ c κs. search needs) (λ c κs. search needs) push-requires returns (λ c. search needs)
+    tie.close (tie.spec Inv-loop μ-loop loop-holds (λ c κs. search needs) (λ c κs. search needs) (λ c κs. search needs) returns (λ c. search needs)
     loop-less loop-again returns-2)

@@ -1,22 +1,24 @@
 use mathlib.Core.Path.{ap, _∙_}
-use Rattle.reach.specs.Search.{Search, pushed, pushedAll}
+use Rattle.search.specs.Search.{Search, pushed, pushedAll}
 use borrow.Author.Needs.{needs}
 use Rattle.reach.proofs.push_targets.Statement.{statement}
 use Rattle.reach.proofs.push_targets.Tie as tie
 
 returns : tie.Need-returns
 unfolding pushedAll
-returns c = (c .push .ensures .0, rw (c .before .before .before .before .e .given .1) (c .push .ensures .1))
+returns c =
+    let z : tie.Start = search in
+    (c .push .ensures .0 (z .pre), rw (c .before .before .before .before .e .given .1) (c .push .ensures .1 (z .pre)))
 
 returns-2 : tie.Need-returns-2
 unfolding pushedAll
 returns-2 c =
+    let s : tie.Start = search in
     let p = c .before .before .before .push2 in
-    let b = c .before .before .before .before .before .before .before in
-    let f = b .e2 .given in
-    let nb = b .before .before .before .args .nb in (
-      c .push3 .ensures .0,
-      rw (f .1) (c .push3 .ensures .1 ∙ ap (λ (t : Search). pushed nb t (f .0 .1 .1 .0 .0)) (p .ensures .1)),
+    let f = c .before .before .before .before .before .before .before .e2 .given in
+    let z = p .ensures .0 (s .pre) in (
+      c .push3 .ensures .0 z,
+      rw (f .1) (c .push3 .ensures .1 z ∙ ap (λ (t : Search). pushed (s .args .nb) t (f .0 .1 .1 .0 .0)) (p .ensures .1 (s .pre))),
     )
 
 returns-3 : tie.Need-returns-3

@@ -5,27 +5,26 @@ use borrow.Author.Needs.{needs}
 use denote.Ref.{now}
 use lib.ListN.{getD}
 use Rattle.records.specs.Record.{recordsOf}
-use Rattle.tidy.specs.Work.Marks.{unmarked}
+use Rattle.search.specs.Search.{unmarked}
 use Rattle.reach.specs.Reached.{leadsIn, seenIn}
-use Rattle.reach.proofs.Search.{Held, sized-clear, held-start, held-block, held-sized, held-more, held-less, held-end}
+use Rattle.search.proofs.Search.{is-clear, Held, held-start, held-block, held-sized, held-more, held-less, held-end}
 use Rattle.reach.proofs.Edges.{first, length-first, edge-at}
 use Rattle.reach.proofs.reached.Statement.{statement}
 use Rattle.reach.proofs.reached.Tie as tie
 
 abbrev Inv-loop : tie.InvT-loop
-Inv-loop code table arms nb seen₀ stack₀ top₀ seen stack top = Held (first code table arms) nb seen stack top
+Inv-loop code table arms nb seen₀ stack₀ top₀ seen stack top = Held (first code table arms) 0 nb seen stack top
 
 abbrev μ-loop : tie.MeasureT-loop
 μ-loop code table arms nb seen₀ stack₀ top₀ seen stack top = top + 2 * unmarked seen
-
-push-requires : tie.Need-push-requires Inv-loop μ-loop
-push-requires c κs = let e = c .before .before .least .ensures in sized-clear (omega arith) refl
 
 loop-holds : tie.Need-loop-holds Inv-loop μ-loop
 loop-holds c =
     let l = c .before .before .before in
     let a = l .before .before .before .before .args in
-    held-start (length-first (now (a .code)) (now (a .table)) (now (a .arms)) (l .least .ensures)) (c .push .ensures .0) (c .push .ensures .1)
+    let e = l .least .ensures in
+    let n = length-first (now (a .code)) (now (a .table)) (now (a .arms)) e in
+    held-start (first (now (a .code)) (now (a .table)) (now (a .arms))) 0 n (omega (arith, e)) is-clear refl (c .push .ensures .0) (c .push .ensures .1)
 
 sub-b : tie.Need-sub-b Inv-loop μ-loop
 sub-b c = omega arith
@@ -70,5 +69,5 @@ returns c = held-end (c .before .loop .inv) (c .loop-test .left)
 
 pub reached-spec : {M : Type 1} → statement M
 reached-spec =
-    tie.close (tie.spec Inv-loop μ-loop (λ c κs. search needs) push-requires loop-holds sub-b mul-b array-read-b
+    tie.close (tie.spec Inv-loop μ-loop (λ c κs. search needs) (λ c κs. search needs) loop-holds sub-b mul-b array-read-b
     (λ c κs. search needs) sub-push-targets push-targets-requires loop-less loop-again returns)

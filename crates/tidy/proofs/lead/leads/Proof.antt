@@ -5,7 +5,7 @@ use mathlib.Core.Logic.{inr}
 use borrow.Author.Needs.{needs}
 use denote.Ref.{now}
 use lib.ListN.{getD}
-use Rattle.tidy.proofs.Search.{reached-past, kept-asked, kept-clear}
+use Rattle.tidy.proofs.Marks.{reached-past, kept-asked, kept-clear}
 use Rattle.tidy.proofs.lead.leads.Statement.{statement}
 use Rattle.tidy.proofs.lead.leads.Tie as tie
 

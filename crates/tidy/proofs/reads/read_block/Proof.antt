@@ -13,7 +13,7 @@ use Rattle.tidy.specs.Tidy.{placedIn}
 use Rattle.tidy.specs.Work.Parts.{operandsIn}
 use Rattle.tidy.specs.Work.Marks.{edgesIn, Kept}
 use Rattle.tidy.specs.Work.Reads.{judgedIn, readsIn}
-use Rattle.tidy.proofs.Search.{none-kept}
+use Rattle.tidy.proofs.Marks.{none-kept}
 use Rattle.tidy.proofs.Verdicts.{judged-next, judged-end}
 use Rattle.tidy.proofs.reads.read_block.Statement.{statement}
 use Rattle.tidy.proofs.reads.read_block.Tie as tie

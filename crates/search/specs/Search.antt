@@ -1,11 +1,18 @@
--- The search of the blocks reached: marks, and a stack of blocks whose targets are still to be pushed.
+-- The search for the blocks that one leads to: marks, and a stack of blocks whose targets are still to be pushed.
 use Prim.Native.Nat.{ℕ, _+_, _≤_}
 use mathlib.Core.Path.{_≡_}
 use mathlib.Core.List.{List, [], _∷_, _++_}
 use mathlib.Core.Bool.{Bool, true, false, cond}
 use lib.Dec.{ltb}
-use lib.ListN.{length, getD, set, take}
-use Rattle.tidy.specs.Work.Marks.{unmarked}
+use lib.ListN.{length, getD, set, take, replicate}
+
+-- one mark for each of 160 blocks
+unfoldable pub clear : List Bool
+clear = replicate 160 false
+
+unfoldable pub unmarked : List Bool → ℕ
+unmarked [] = 0
+unmarked (b ∷ m) = cond b 0 1 + unmarked m
 
 pub record Search : Type 0 where
   pub seen : List Bool

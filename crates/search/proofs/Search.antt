@@ -6,17 +6,49 @@ use mathlib.Core.Bool.{Bool, true, false}
 use mathlib.Core.List.{List, [], _∷_, _++_}
 use mathlib.Core.Logic.{_⊎_, inl, inr, ⊎-elim}
 use borrow.Author.Tests.{lt-ltb, le-ltb}
-use lib.ListN.{length, getD, set, take, replicate, length-set, length-append, length-replicate, length-take, List·getD-append}
-use lib.Seq.{getD-set-same, take-suc, ext-getD}
+use lib.ListN.{length, getD, set, take, replicate, length-set, length-append, length-replicate, length-take, getD-replicate, List·getD-append}
+use lib.Seq.{getD-set-same, getD-take, take-suc, ext-getD}
 use Rattle.general.proofs.Booleans.{cases}
 use Rattle.general.proofs.Numbers.{order}
 use Rattle.paths.specs.Paths.{isIn, Leads, reachedFrom}
-use Rattle.paths.proofs.Paths.{false-true, in-cons, in-here, in-left, in-right, in-append, set-keeps, set-marked}
-use Rattle.paths.proofs.Paths.{leads-on, closed-leads, length-reached, reached-is}
-use Rattle.tidy.specs.Work.Marks.{clear, unmarked}
-use Rattle.tidy.proofs.Search.{clear-length, clear-none, unmarked-set}
-use Rattle.reach.specs.Reached.{marksOf}
-use Rattle.reach.specs.Search.{Search, searchOf, pushed, pushedAll, Sized}
+use Rattle.paths.proofs.Paths.{false-true, in-cons, in-here, in-left, in-right, in-append, marked-inside, set-keeps, set-marked}
+use Rattle.paths.proofs.Paths.{leads-on, leads-inside, closed-leads, length-reached, reached-is}
+use Rattle.search.specs.Search.{clear, unmarked, Search, searchOf, pushed, pushedAll, Sized}
+
+-- marks that are all clear
+pub is-clear : replicate 160 false ≡ clear
+unfolding clear
+is-clear = refl
+
+clear-length : length clear ≡ 160
+unfolding clear
+clear-length = length-replicate 160 false
+
+pub clear-none : {A : Type 0} (x : ℕ) → getD clear x false ≡ true → A
+unfolding clear
+clear-none x e =
+    let h = marked-inside (replicate 160 false) x e in
+    let l = length-replicate {A = Bool} 160 false in
+    false-true (getD-replicate 160 x false false (omega arith)) e
+
+clear-at : (x : ℕ) → getD clear x false ≡ false
+clear-at x = ⊎-elim (λ (i : getD clear x false ≡ true). clear-none x i) (λ (i : getD clear x false ≡ false). i) (cases (getD clear x false))
+
+unmarked-set : (m : List Bool) (a : ℕ) → a < length m → getD m a false ≡ false → unmarked (set m a true) + 1 ≡ unmarked m
+unfolding unmarked
+unmarked-set [] a h e = absurd (omega arith)
+unmarked-set (b ∷ m) zero h e = rw e (omega arith)
+unmarked-set (b ∷ m) (suc a) h e = let i = unmarked-set m a (omega arith) e in omega arith
+
+unmarked-le : (m : List Bool) → unmarked m ≤ length m
+unfolding unmarked
+unmarked-le [] = omega arith
+unmarked-le (true ∷ m) = let i = unmarked-le m in omega arith
+unmarked-le (false ∷ m) = let i = unmarked-le m in omega arith
+
+-- the one block of a list
+pub in-one : (s x : ℕ) → isIn s (x ∷ []) ≡ true → x ≡ s
+in-one s x e = ⊎-elim (λ (i : x ≡ s). i) (λ (i : isIn s [] ≡ true). absurd (mathlib.Core.Bool.false≢true i)) (in-cons s x [] e)
 
 -- one block, by the tests in their order
 module _ (n : ℕ) (s : Search) (b : ℕ) where
@@ -92,11 +124,6 @@ module _ {n : ℕ} {m : List Bool} {l : List ℕ} {top : ℕ} (z : Sized n m l t
     room = let i = fewer in let r = z .room in omega arith;
   }
 
--- at the start
-pub sized-clear : {n : ℕ} {l : List ℕ} → n ≤ 160 → length l ≡ 160 → Sized n (replicate 160 false) l 0
-unfolding unmarked
-sized-clear h e = record { few = h; marks = refl; slots = e; room = omega arith }
-
 -- places past some marks that are clear
 pub clear-past : (xs : List Bool) (k x : ℕ) → length xs ≤ x → getD (xs ++ replicate k false) x false ≡ false
 clear-past [] zero x h = refl
@@ -105,51 +132,50 @@ clear-past [] (suc k) (suc x) h = clear-past [] k x (omega arith)
 clear-past (b ∷ xs) k zero h = absurd (omega arith)
 clear-past (b ∷ xs) k (suc x) h = clear-past xs k x (omega arith)
 
--- on the way from block 0, at block b: what is marked is led to, and each target of a marked block is marked, or that block
+-- on the way from block a, at block b: what is marked is led to, and each target of a marked block is marked, or that block
 -- is on the stack, or it is b and its target is still to be pushed
-module _ (es : List (List ℕ)) where
+module _ (es : List (List ℕ)) (a : ℕ) where
   abbrev Ready : ℕ → List ℕ → Search → ℕ → ℕ → Type 0
   Ready b pending s x t = (getD (s .seen) t false ≡ true) ⊎ ((isIn x (s .stack) ≡ true) ⊎ ((x ≡ b) × (isIn t pending ≡ true)))
 
   pub record Walk (b : ℕ) (pending : List ℕ) (s : Search) : Type 0 where
     pub size : length (s .seen) ≡ 160
-    pub start : 0 < length es → getD (s .seen) 0 false ≡ true
+    pub start : a < length es → (getD (s .seen) a false ≡ true) ⊎ (isIn a pending ≡ true)
     pub inside : (x : ℕ) → getD (s .seen) x false ≡ true → x < length es
-    pub sound : (x : ℕ) → getD (s .seen) x false ≡ true → Leads es 0 x
+    pub sound : (x : ℕ) → getD (s .seen) x false ≡ true → Leads es a x
     pub listed : (x : ℕ) → isIn x (s .stack) ≡ true → getD (s .seen) x false ≡ true
-    pub from : (t : ℕ) → isIn t pending ≡ true → Leads es 0 t
+    pub from : (t : ℕ) → isIn t pending ≡ true → Leads es a t
     pub ready : (x t : ℕ) → getD (s .seen) x false ≡ true → isIn t (getD es x []) ≡ true → t < length es → Ready b pending s x t
 
   module _ {b x : ℕ} {rest : List ℕ} {s : Search} (w : Walk b (x ∷ rest) s) where
     skip : (x < length es → getD (s .seen) x false ≡ true) → Walk b rest s
     skip h = record {
       size = w .size;
-      start = w .start;
+      start = λ k. ⊎-elim (λ e. inl e) (left a k) (w .start k);
       inside = w .inside;
       sound = w .sound;
       listed = w .listed;
-      from = λ t i. w .from t (in-more t i);
+      from = λ t i. w .from t (in-right t (x ∷ []) rest i);
       ready = λ y t e i k. still y t k (w .ready y t e i k);
     }
       where
-        in-more : (t : ℕ) → isIn t rest ≡ true → isIn t (x ∷ rest) ≡ true
-        in-more t i = in-right t (x ∷ []) rest i
+        left : (t : ℕ) → t < length es → isIn t (x ∷ rest) ≡ true → (getD (s .seen) t false ≡ true) ⊎ (isIn t rest ≡ true)
+        left t k e = ⊎-elim (λ (i : x ≡ t). inl (rw (← i) (h (rw i k)))) (λ (i : isIn t rest ≡ true). inr i) (in-cons t x rest e)
 
         still : (y t : ℕ) → t < length es → Ready b (x ∷ rest) s y t → Ready b rest s y t
         still y t k (inl e) = inl e
         still y t k (inr (inl e)) = inr (inl e)
-        still y t k (inr (inr e)) = ⊎-elim (λ (i : x ≡ t). inl (rw (← i) (h (rw i k))))
-            (λ (i : isIn t rest ≡ true). inr (inr (e .0, i))) (in-cons t x rest (e .1))
+        still y t k (inr (inr e)) = ⊎-elim (λ i. inl i) (λ i. inr (inr (e .0, i))) (left t k (e .1))
 
     mark : x < length es → length es ≤ 160 → Walk b rest (record { seen = set (s .seen) x true; stack = s .stack ++ (x ∷ []) })
     mark low few = record {
       size = length-set (s .seen) x true ∙ w .size;
-      start = λ h. set-keeps (s .seen) x 0 (w .start h);
+      start = λ k. ⊎-elim (λ e. inl (set-keeps (s .seen) x a e)) (left a) (w .start k);
       inside = λ y e. ⊎-elim (λ (i : y ≡ x). rw i low) (λ (i : getD (s .seen) y false ≡ true). w .inside y i) (set-marked (s .seen) x y e);
       sound = λ y e. ⊎-elim (λ (i : y ≡ x). rw i (w .from x (in-here x rest))) (λ (i : getD (s .seen) y false ≡ true). w .sound y i)
           (set-marked (s .seen) x y e);
       listed = λ t e. ⊎-elim (λ (i : isIn t (s .stack) ≡ true). set-keeps (s .seen) x t (w .listed t i))
-          (λ (i : isIn t (x ∷ []) ≡ true). one t (in-cons t x [] i)) (in-append t (s .stack) (x ∷ []) e);
+          (λ (i : isIn t (x ∷ []) ≡ true). rw (← in-one t x i) here) (in-append t (s .stack) (x ∷ []) e);
       from = λ t i. w .from t (in-right t (x ∷ []) rest i);
       ready = λ y t e i k. ⊎-elim (λ (j : y ≡ x). inr (inl (rw j (in-right x (s .stack) (x ∷ []) (in-here x [])))))
           (λ (j : getD (s .seen) y false ≡ true). still y t (w .ready y t j i k)) (set-marked (s .seen) x y e);
@@ -158,136 +184,133 @@ module _ (es : List (List ℕ)) where
         here : getD (set (s .seen) x true) x false ≡ true
         here = getD-set-same (s .seen) x true false (let i = w .size in omega arith)
 
-        one : (t : ℕ) → (x ≡ t) ⊎ (isIn t [] ≡ true) → getD (set (s .seen) x true) t false ≡ true
-        one t (inl i) = rw (← i) here
-        one t (inr i) = absurd (mathlib.Core.Bool.false≢true i)
+        left : (t : ℕ) → isIn t (x ∷ rest) ≡ true → (getD (set (s .seen) x true) t false ≡ true) ⊎ (isIn t rest ≡ true)
+        left t e = ⊎-elim (λ (i : x ≡ t). inl (rw (← i) here)) (λ (i : isIn t rest ≡ true). inr i) (in-cons t x rest e)
 
         still : (y t : ℕ) → Ready b (x ∷ rest) s y t → Ready b rest (record { seen = set (s .seen) x true; stack = s .stack ++ (x ∷ []) }) y t
         still y t (inl e) = inl (set-keeps (s .seen) x t e)
         still y t (inr (inl e)) = inr (inl (in-left y (s .stack) (x ∷ []) e))
-        still y t (inr (inr e)) = ⊎-elim (λ (i : x ≡ t). inl (rw (← i) here))
-            (λ (i : isIn t rest ≡ true). inr (inr (e .0, i))) (in-cons t x rest (e .1))
+        still y t (inr (inr e)) = ⊎-elim (λ i. inl i) (λ i. inr (inr (e .0, i))) (left t (e .1))
 
-  pub walk-all : length es ≤ 160 → {b : ℕ} (bs : List ℕ) {s : Search} → Walk b bs s → Walk b [] (pushedAll (length es) s bs)
+  walk-all : length es ≤ 160 → {b : ℕ} (bs : List ℕ) {s : Search} → Walk b bs s → Walk b [] (pushedAll (length es) s bs)
   unfolding pushedAll
   walk-all few [] w = w
   walk-all few {b} (x ∷ bs) {s} w = walk-all few bs (by-cases (length es) s x (Walk b bs)
       (λ h. skip w (λ i. absurd (omega (arith, h, i)))) (λ h e. skip w (λ i. e)) (λ h e. mark w h few))
 
   -- the last block of the stack
-  pub walk-pop : {c : ℕ} (b : ℕ) {m : List Bool} {todo : List ℕ} → Walk c [] (record { seen = m; stack = todo ++ (b ∷ []) })
+  walk-pop : {c : ℕ} (b : ℕ) {m : List Bool} {todo : List ℕ} → Walk c [] (record { seen = m; stack = todo ++ (b ∷ []) })
       → Walk b (getD es b []) (record { seen = m; stack = todo })
   walk-pop {c} b {m} {todo} w = record {
     size = w .size;
-    start = w .start;
+    start = λ k. ⊎-elim (λ e. inl e) (λ e. absurd (mathlib.Core.Bool.false≢true e)) (w .start k);
     inside = w .inside;
     sound = w .sound;
     listed = λ t i. w .listed t (in-left t todo (b ∷ []) i);
-    from = λ t i. leads-on es 0 b t (w .sound b (w .listed b (in-right b todo (b ∷ []) (in-here b [])))) i;
+    from = λ t i. leads-on es a b t (w .sound b (w .listed b (in-right b todo (b ∷ []) (in-here b [])))) i;
     ready = λ x t e i k. next x t i (w .ready x t e i k);
   }
     where
-      this : (x t : ℕ) → isIn t (getD es x []) ≡ true → (b ≡ x) ⊎ (isIn x [] ≡ true) → Ready b (getD es b []) (record { seen = m; stack = todo }) x t
-      this x t i (inl j) = inr (inr (sym j, rw j i))
-      this x t i (inr j) = absurd (mathlib.Core.Bool.false≢true j)
-
       next : (x t : ℕ) → isIn t (getD es x []) ≡ true → Ready c [] (record { seen = m; stack = todo ++ (b ∷ []) }) x t
           → Ready b (getD es b []) (record { seen = m; stack = todo }) x t
       next x t i (inl e) = inl e
-      next x t i (inr (inl e)) = ⊎-elim (λ (j : isIn x todo ≡ true). inr (inl j)) (λ (j : isIn x (b ∷ []) ≡ true). this x t i (in-cons x b [] j))
+      next x t i (inr (inl e)) = ⊎-elim (λ (j : isIn x todo ≡ true). inr (inl j)) (λ (j : isIn x (b ∷ []) ≡ true). let q = in-one x b j in inr (inr (sym q, rw q i)))
           (in-append x todo (b ∷ []) e)
       next x t i (inr (inr e)) = absurd (mathlib.Core.Bool.false≢true (e .1))
 
-  -- nothing is left on the stack
-  pub walk-end : {b : ℕ} {m : List Bool} → length es ≤ 160 → Walk b [] (record { seen = m; stack = [] }) → m ≡ marksOf es
-  walk-end {b} {m} few w = ext-getD false m (marksOf es) (w .size ∙ sym sizes) (λ x h. by x (order x (length es)))
-    where
-      past : List Bool
-      past = replicate (160 - length es) false
+  abbrev past : List Bool
+  past = replicate (160 - length es) false
 
-      sizes : length (marksOf es) ≡ 160
+  -- nothing is left on the stack
+  walk-end : {b : ℕ} {m : List Bool} → length es ≤ 160 → Walk b [] (record { seen = m; stack = [] }) → m ≡ reachedFrom es a ++ past
+  walk-end {b} {m} few w = ext-getD false m (reached ++ past) (w .size ∙ sym sizes) (λ x h. by x (order x (length es)))
+    where
+      reached : List Bool
+      reached = reachedFrom es a
+
+      sizes : length (reached ++ past) ≡ 160
       sizes =
-          let i = length-append (reachedFrom es 0) past in
-          let j = length-reached es 0 in
+          let i = length-append reached past in
+          let j = length-reached es a in
           let k = length-replicate {A = Bool} (160 - length es) false in
           omega arith
+
+      started : (getD m a false ≡ true) ⊎ (isIn a [] ≡ true) → getD m a false ≡ true
+      started (inl e) = e
+      started (inr e) = absurd (mathlib.Core.Bool.false≢true e)
 
       closed : (x t : ℕ) → Ready b [] (record { seen = m; stack = [] }) x t → getD m t false ≡ true
       closed x t (inl e) = e
       closed x t (inr (inl e)) = absurd (mathlib.Core.Bool.false≢true e)
       closed x t (inr (inr e)) = absurd (mathlib.Core.Bool.false≢true (e .1))
 
-      there : (x : ℕ) → x < length es → getD (reachedFrom es 0) x false ≡ true → getD m x false ≡ true
+      there : (x : ℕ) → x < length es → getD reached x false ≡ true → getD m x false ≡ true
       there x h i =
-          let p = reached-is es 0 x h .0 i in
-          closed-leads es m (λ y t e j k. closed y t (w .ready y t e j k)) x h (p .0) 0 (w .start (omega (arith, h))) (p .1)
+          let p = reached-is es a x h .0 i in
+          let first = started (w .start (leads-inside es x h (p .0) a (p .1))) in
+          closed-leads es m (λ y t e j k. closed y t (w .ready y t e j k)) x h (p .0) a first (p .1)
 
-      same : (x : ℕ) → x < length es → (getD m x false ≡ true) ⊎ (getD m x false ≡ false) → getD m x false ≡ getD (reachedFrom es 0) x false
-      same x h (inl i) = i ∙ sym (reached-is es 0 x h .1 (w .sound x i))
+      same : (x : ℕ) → x < length es → (getD m x false ≡ true) ⊎ (getD m x false ≡ false) → getD m x false ≡ getD reached x false
+      same x h (inl i) = i ∙ sym (reached-is es a x h .1 (w .sound x i))
       same x h (inr i) = i ∙ sym
-          (⊎-elim (λ (j : getD (reachedFrom es 0) x false ≡ true). false-true i (there x h j)) (λ (j : getD (reachedFrom es 0) x false ≡ false). j)
-          (cases (getD (reachedFrom es 0) x false)))
+          (⊎-elim (λ (j : getD reached x false ≡ true). false-true i (there x h j)) (λ (j : getD reached x false ≡ false). j)
+          (cases (getD reached x false)))
 
       unset : (x : ℕ) → length es ≤ x → (getD m x false ≡ true) ⊎ (getD m x false ≡ false) → getD m x false ≡ false
       unset x h (inl i) = absurd (let j = w .inside x i in omega arith)
       unset x h (inr i) = i
 
-      by : (x : ℕ) → (x < length es) ⊎ (length es ≤ x) → getD m x false ≡ getD (marksOf es) x false
-      by x (inl h) =
-          same x h (cases (getD m x false)) ∙ sym (List·getD-append (reachedFrom es 0) past false x (rw (length-reached es 0) h))
-      by x (inr h) = unset x h (cases (getD m x false)) ∙ sym (clear-past (reachedFrom es 0) (160 - length es) x (rw (length-reached es 0) h))
+      by : (x : ℕ) → (x < length es) ⊎ (length es ≤ x) → getD m x false ≡ getD (reached ++ past) x false
+      by x (inl h) = same x h (cases (getD m x false)) ∙ sym (List·getD-append reached past false x (rw (length-reached es a) h))
+      by x (inr h) = unset x h (cases (getD m x false)) ∙ sym (clear-past reached (160 - length es) x (rw (length-reached es a) h))
 
-  -- block 0 alone is marked and on the stack; nothing is where there is no block
-  pub walk-start : length es ≤ 160 → Walk 0 [] (pushed (length es) (record { seen = clear; stack = [] }) 0)
-  walk-start few = by-cases (length es) (record { seen = clear; stack = [] }) 0 (Walk 0 []) none (λ h e. clear-none 0 e) (λ h e. one h)
-    where
-      none : length es ≤ 0 → Walk 0 [] (record { seen = clear; stack = [] })
-      none h = record {
-        size = clear-length;
-        start = λ i. absurd (omega (arith, h, i));
-        inside = λ x e. clear-none x e;
-        sound = λ x e. clear-none x e;
-        listed = λ x e. absurd (mathlib.Core.Bool.false≢true e);
-        from = λ x e. absurd (mathlib.Core.Bool.false≢true e);
-        ready = λ x t e. clear-none x e;
-      }
-
-      here : 0 < length es → getD (set clear 0 true) 0 false ≡ true
-      here h = getD-set-same clear 0 true false (rw clear-length (omega (arith, few, h)))
-
-      one : 0 < length es → Walk 0 [] (record { seen = set clear 0 true; stack = 0 ∷ [] })
-      one h = record {
-        size = length-set clear 0 true ∙ clear-length;
-        start = here;
-        inside = λ x e. ⊎-elim (λ (i : x ≡ 0). rw i h) (λ (i : getD clear x false ≡ true). clear-none x i) (set-marked clear 0 x e);
-        sound = λ x e. ⊎-elim (λ (i : x ≡ 0). ([], sym i)) (λ (i : getD clear x false ≡ true). clear-none x i) (set-marked clear 0 x e);
-        listed = λ t e. ⊎-elim (λ (i : 0 ≡ t). rw (← i) (here h)) (λ (i : isIn t [] ≡ true). absurd (mathlib.Core.Bool.false≢true i)) (in-cons t 0 [] e);
-        from = λ t e. absurd (mathlib.Core.Bool.false≢true e);
-        ready = λ x t e i k. ⊎-elim (λ (j : x ≡ 0). inr (inl (rw j (in-here 0 [])))) (λ (j : getD clear x false ≡ true). clear-none x j)
-            (set-marked clear 0 x e);
-      }
+  -- block a is still to be pushed
+  walk-start : Walk a (a ∷ []) (record { seen = clear; stack = [] })
+  walk-start = record {
+    size = clear-length;
+    start = λ k. inr (in-here a []);
+    inside = λ x e. clear-none x e;
+    sound = λ x e. clear-none x e;
+    listed = λ x e. absurd (mathlib.Core.Bool.false≢true e);
+    from = λ t e. ([], in-one t a e);
+    ready = λ x t e. clear-none x e;
+  }
 
 -- between two blocks of the stack
-pub record Held (es : List (List ℕ)) (n : ℕ) (m : List Bool) (l : List ℕ) (top : ℕ) : Type 0 where
+pub record Held (es : List (List ℕ)) (a n : ℕ) (m : List Bool) (l : List ℕ) (top : ℕ) : Type 0 where
   pub count : length es ≡ n
   pub sized : Sized n m l top
   pub block : ℕ
-  pub walk : Walk es block [] (searchOf m l top)
+  pub walk : Walk es a block [] (searchOf m l top)
 
-module _ {es : List (List ℕ)} {n : ℕ} (count : length es ≡ n) where
-  pub held-start :
-      {m : List Bool} {l : List ℕ} {top : ℕ} → Sized n m l top → searchOf m l top ≡ pushed n (record { seen = replicate 160 false; stack = [] }) 0
-      → Held es n m l top
-  unfolding clear
-  held-start z e = record {
+-- block a alone was pushed
+module _ (es : List (List ℕ)) (a : ℕ) {n : ℕ} (count : length es ≡ n) (few : n ≤ 160) {m₀ m : List Bool} {l₀ l : List ℕ} {top : ℕ} (none : m₀ ≡ clear)
+    (slots : length l₀ ≡ 160) (z : Sized n m₀ l₀ 0 → Sized n m l top)
+    (p : Sized n m₀ l₀ 0 → searchOf m l top ≡ pushed n (searchOf m₀ l₀ 0) a) where
+  at-start : Sized n m₀ l₀ 0
+  at-start =
+      let k = ap length none ∙ clear-length in
+      record { few = few; marks = k; slots = slots; room = let j = unmarked-le m₀ in omega arith }
+
+  pub held-start : Held es a n m l top
+  unfolding pushedAll
+  held-start = record {
     count = count;
-    sized = z;
-    block = 0;
-    walk = subst (Walk es 0 []) (sym (e ∙ ap (λ (k : ℕ). pushed k (record { seen = clear; stack = [] }) 0) (sym count)))
-        (walk-start es (rw count (z .few)));
+    sized = z at-start;
+    block = a;
+    walk = rw (p at-start, none, ← count) (walk-all es a (rw count few) (a ∷ []) (walk-start es a));
   }
 
-module _ {es : List (List ℕ)} {n : ℕ} {m : List Bool} {l : List ℕ} {top : ℕ} (h : Held es n m l top) where
+  -- so it stands first in the array
+  pub held-first : a < n → getD l 0 0 ≡ a
+  held-first h =
+      let new : getD m₀ a false ≡ false = rw none (clear-at a) in
+      let one : take top l ≡ a ∷ [] = ap (λ (s : Search). s .stack) (p at-start ∙ sym (pushed-new n (searchOf m₀ l₀ 0) a h new)) in
+      let k = ap length one in
+      let j = length-take top l in
+      sym (getD-take top l 0 0 (omega arith)) ∙ ap (λ (t : List ℕ). getD t 0 0) one
+
+module _ {es : List (List ℕ)} {a n : ℕ} {m : List Bool} {l : List ℕ} {top : ℕ} (h : Held es a n m l top) where
   module _ (i : 0 < top) where
     popped : take top l ≡ take (top - 1) l ++ (getD l (top - 1) 0 ∷ [])
     popped =
@@ -305,16 +328,16 @@ module _ {es : List (List ℕ)} {n : ℕ} {m : List Bool} {l : List ℕ} {top : 
     module _ {ts : List ℕ} (e : getD es (getD l (top - 1) 0) [] ≡ ts) {m′ : List Bool} {l′ : List ℕ} {top′ : ℕ} (z : Sized n m′ l′ top′)
         (p : searchOf m′ l′ top′ ≡ pushedAll n (searchOf m l (top - 1)) ts) where
       -- after the targets of the block
-      pub held-more : Held es n m′ l′ top′
+      pub held-more : Held es a n m′ l′ top′
       held-more =
           let b = getD l (top - 1) 0 in
-          let w = walk-pop es b (subst (λ (t : List ℕ). Walk es (h .block) [] (record { seen = m; stack = t })) popped (h .walk)) in
-          let v = walk-all es (rw (h .count) (z .few)) ts (subst (λ (r : List ℕ). Walk es b r (searchOf m l (top - 1))) e w) in
+          let w = walk-pop es a b (subst (λ (t : List ℕ). Walk es a (h .block) [] (record { seen = m; stack = t })) popped (h .walk)) in
+          let v = walk-all es a (rw (h .count) (z .few)) ts (subst (λ (r : List ℕ). Walk es a b r (searchOf m l (top - 1))) e w) in
           record {
             count = h .count;
             sized = z;
             block = b;
-            walk = subst (Walk es b []) (ap (λ (k : ℕ). pushedAll k (searchOf m l (top - 1)) ts) (h .count) ∙ sym p) v;
+            walk = subst (Walk es a b []) (ap (λ (k : ℕ). pushedAll k (searchOf m l (top - 1)) ts) (h .count) ∙ sym p) v;
           }
 
       pub held-less : top′ + 2 * unmarked m′ < top + 2 * unmarked m
@@ -325,7 +348,7 @@ module _ {es : List (List ℕ)} {n : ℕ} {m : List Bool} {l : List ℕ} {top : 
           let d = weight-of held-sized in
           omega arith
 
-  pub held-end : top ≤ 0 → m ≡ marksOf es
+  pub held-end : top ≤ 0 → m ≡ reachedFrom es a ++ replicate (160 - length es) false
   held-end i =
       let e : top ≡ 0 = omega arith in
-      walk-end es (rw (h .count) (h .sized .few)) (subst (λ (k : ℕ). Walk es (h .block) [] (searchOf m l k)) e (h .walk))
+      walk-end es a (rw (h .count) (h .sized .few)) (subst (λ (k : ℕ). Walk es a (h .block) [] (searchOf m l k)) e (h .walk))
