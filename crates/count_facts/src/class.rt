@@ -14,35 +14,35 @@ use records::Record;
 fn put_word(table: &mut [u64], d: Reg, v: u64)
     ensures { λ u. ⌜ now (table .exit) ≡ withWord (now (table .entry)) (d .0) v ⌝ }
 {
-    let at = 5 * (d.0 as usize);
-    if table.len() <= at + 4 {
+    let at = facts::ROW * (d.0 as usize);
+    if table.len() <= at + facts::VALUE {
         return;
     }
-    if table[at + 1] != 1 {
+    if table[at + facts::DEFINITIONS] != 1 {
         return;
     }
-    if table[at + 3] == 1 {
+    if table[at + facts::CLASS] == facts::BY_CONST {
         return;
     }
-    table[at + 3] = 1;
-    table[at + 4] = v;
+    table[at + facts::CLASS] = facts::BY_CONST;
+    table[at + facts::VALUE] = v;
 }
 
 // A ConstF or AddrOf, of a register that is written once.
 fn put_konst(table: &mut [u64], d: Reg)
     ensures { λ u. ⌜ now (table .exit) ≡ withKonst (now (table .entry)) (d .0) ⌝ }
 {
-    let at = 5 * (d.0 as usize);
-    if table.len() <= at + 4 {
+    let at = facts::ROW * (d.0 as usize);
+    if table.len() <= at + facts::VALUE {
         return;
     }
-    if table[at + 1] != 1 {
+    if table[at + facts::DEFINITIONS] != 1 {
         return;
     }
-    if table[at + 3] != 0 {
+    if table[at + facts::CLASS] != 0 {
         return;
     }
-    table[at + 3] = 2;
+    table[at + facts::CLASS] = facts::BY_OTHER;
 }
 
 fn is_up(space: AddrSpace) -> bool

@@ -13,12 +13,17 @@ use inst::Reg;
 use inst::Regs;
 use inst::kinds;
 
+// Where the counts end.
+const MOST_DEFINITIONS: u64 = 255;
+
+const MOST_USES: u64 = 4294967295;
+
 // One more in column j of a register's row, up to the most; nothing where the table has no such place.
 fn bump(table: &mut [u64], j: usize, most: u64, r: Reg)
     requires { ⌜ j < 5 ⌝ }
     ensures { λ u. ⌜ now (table .exit) ≡ counted j most (now (table .entry)) (r .0) ⌝ }
 {
-    let at = 5 * (r.0 as usize) + j;
+    let at = facts::ROW * (r.0 as usize) + j;
     if at < table.len() {
         let x = table[at];
         if x < most {
@@ -58,71 +63,82 @@ fn bump_list(table: &mut [u64], j: usize, most: u64, operands: &[u8], list: Regs
     }
 }
 
-// An instruction's definitions, up to 255, and its uses.
+// An instruction's definitions and its uses.
 fn count_inst(table: &mut [u64], operands: &[u8], i: Inst)
     ensures { λ u. ⌜ now (table .exit) ≡ countInst (operandsIn (now (operands .entry))) (now (table .entry)) i ⌝ }
 {
     let q = roles::roles_of(i);
     let reg = q.reg;
-    bump_regs(table, 1, 255, reg, 0, q.defs);
-    bump_regs(table, 2, 4294967295, reg, q.defs, q.n);
-    bump_list(table, 2, 4294967295, operands, q.list);
+    bump_regs(table, facts::DEFINITIONS, MOST_DEFINITIONS, reg, 0, q.defs);
+    bump_regs(table, facts::USES, MOST_USES, reg, q.defs, q.n);
+    bump_list(table, facts::USES, MOST_USES, operands, q.list);
 }
 
-// One register written and one read.
-fn bump_two(table: &mut [u64], d: Reg, a: Reg)
-    ensures { λ u. ⌜ now (table .exit) ≡ counted 2 cap (counted 1 255 (now (table .entry)) (d .0)) (a .0) ⌝ }
+// One register written.
+fn write(table: &mut [u64], d: Reg)
+    ensures { λ u. ⌜ now (table .exit) ≡ counted 1 255 (now (table .entry)) (d .0) ⌝ }
 {
-    bump(table, 1, 255, d);
-    bump(table, 2, 4294967295, a);
+    bump(table, facts::DEFINITIONS, MOST_DEFINITIONS, d);
 }
 
-// One register written and two read.
-fn bump_three(table: &mut [u64], d: Reg, a: Reg, b: Reg)
-    ensures { λ u. ⌜ now (table .exit) ≡ counted 2 cap (counted 2 cap (counted 1 255 (now (table .entry)) (d .0)) (a .0)) (b .0) ⌝ }
+// One register read.
+fn read(table: &mut [u64], a: Reg)
+    ensures { λ u. ⌜ now (table .exit) ≡ counted 2 cap (now (table .entry)) (a .0) ⌝ }
 {
-    bump_two(table, d, a);
-    bump(table, 2, 4294967295, b);
+    bump(table, facts::USES, MOST_USES, a);
 }
 
-// Two registers read.
-fn bump_reads(table: &mut [u64], a: Reg, b: Reg)
+fn read_two(table: &mut [u64], a: Reg, b: Reg)
     ensures { λ u. ⌜ now (table .exit) ≡ counted 2 cap (counted 2 cap (now (table .entry)) (a .0)) (b .0) ⌝ }
 {
-    bump(table, 2, 4294967295, a);
-    bump(table, 2, 4294967295, b);
+    read(table, a);
+    read(table, b);
 }
 
-// One register written and three read.
-fn bump_four(table: &mut [u64], d: Reg, a: Reg, b: Reg, e: Reg)
+// One register written, and one or more read.
+fn write_read(table: &mut [u64], d: Reg, a: Reg)
+    ensures { λ u. ⌜ now (table .exit) ≡ counted 2 cap (counted 1 255 (now (table .entry)) (d .0)) (a .0) ⌝ }
+{
+    write(table, d);
+    read(table, a);
+}
+
+fn write_read_two(table: &mut [u64], d: Reg, a: Reg, b: Reg)
+    ensures { λ u. ⌜ now (table .exit) ≡ counted 2 cap (counted 2 cap (counted 1 255 (now (table .entry)) (d .0)) (a .0)) (b .0) ⌝ }
+{
+    write(table, d);
+    read_two(table, a, b);
+}
+
+fn write_read_three(table: &mut [u64], d: Reg, a: Reg, b: Reg, e: Reg)
     ensures { λ u. ⌜ now (table .exit)
         ≡ counted 2 cap (counted 2 cap (counted 2 cap (counted 1 255 (now (table .entry)) (d .0)) (a .0)) (b .0)) (e .0) ⌝ }
 {
-    bump_two(table, d, a);
-    bump_reads(table, b, e);
+    write_read(table, d, a);
+    read_two(table, b, e);
 }
 
-// One register written and four read.
-fn bump_five(table: &mut [u64], d: Reg, a: Reg, b: Reg, l: Reg, h: Reg)
+fn write_read_four(table: &mut [u64], d: Reg, a: Reg, b: Reg, l: Reg, h: Reg)
     ensures { λ u. ⌜ now (table .exit)
         ≡ counted 2 cap (counted 2 cap (counted 2 cap (counted 2 cap (counted 1 255 (now (table .entry)) (d .0)) (a .0)) (b .0)) (l .0)) (h .0) ⌝ }
 {
-    bump_three(table, d, a, b);
-    bump_reads(table, l, h);
+    write_read_two(table, d, a, b);
+    read_two(table, l, h);
 }
 
-fn bump_bool(table: &mut [u64], op: BoolOp, d: Reg, a: Reg, b: Reg)
+fn count_bool(table: &mut [u64], op: BoolOp, d: Reg, a: Reg, b: Reg)
     ensures { λ u. ⌜ now (table .exit) ≡ over (counted 2 cap) (counted 1 255 (now (table .entry)) (d .0)) (boolUses op (a .0) (b .0)) ⌝ }
 {
     match op {
-        BoolOp::And => bump_three(table, d, a, b),
-        BoolOp::Or => bump_three(table, d, a, b),
-        BoolOp::Xor => bump_three(table, d, a, b),
-        BoolOp::Not => bump_two(table, d, a),
+        BoolOp::And => write_read_two(table, d, a, b),
+        BoolOp::Or => write_read_two(table, d, a, b),
+        BoolOp::Xor => write_read_two(table, d, a, b),
+        BoolOp::Not => write_read(table, d, a),
     }
 }
 
-// The same for record k, by its kind: most code has kinds that are counted by their fields; another is read as a whole.
+// The same for record k. The kinds that most code has go by the fields of the record, each arm the kinds of some roles; the
+// others by their roles. Kinds that follow each other in one arm would be told by comparisons, which costs 1 %.
 fn count_record(table: &mut [u64], operands: &[u8], code: &[u8], k: usize)
     ensures { λ u. ⌜ now (table .exit)
         ≡ countInst (operandsIn (now (operands .entry))) (now (table .entry)) (instOf (recordAt (now (code .entry)) k)) ⌝ }
@@ -134,24 +150,17 @@ fn count_record(table: &mut [u64], operands: &[u8], code: &[u8], k: usize)
     let q3 = Reg(r.p3);
     let q4 = Reg(r.p4);
     match kind {
-        kinds::CONST => bump(table, 1, 255, q1),
-        kinds::CONST_F => bump(table, 1, 255, q1),
-        kinds::MOVE => bump_two(table, q1, q2),
-        kinds::ADDR_OF => bump(table, 1, 255, q1),
-        kinds::SELECT => bump_four(table, q1, q2, q3, q4),
-        kinds::CMP => bump_three(table, q1, q2, q3),
-        kinds::BOOL => bump_bool(table, ops::bool_of(r.op), q1, q2, q3),
-        kinds::BIN => bump_three(table, q1, q2, q3),
-        kinds::BIN_RANGE => bump_five(table, q1, q2, q3, q4, Reg(r.p5)),
-        kinds::LOAD => bump_two(table, q1, q2),
-        kinds::STORE => bump_reads(table, q1, q2),
-        kinds::DOPE_LEN => bump_two(table, q1, q2),
-        kinds::BOUNDS_LEN => bump_four(table, q1, q2, q3, q4),
-        kinds::ALLOC => bump_two(table, q1, q2),
-        kinds::BR => {}
-        kinds::COND_BR => bump(table, 2, 4294967295, q1),
-        kinds::CASE => bump(table, 2, 4294967295, q1),
-        kinds::UNREACHABLE => {}
+        kinds::CONST | kinds::ADDR_OF => write(table, q1),
+        kinds::CONST_F => write(table, q1),
+        kinds::MOVE | kinds::LOAD | kinds::DOPE_LEN | kinds::ALLOC => write_read(table, q1, q2),
+        kinds::CMP | kinds::BIN => write_read_two(table, q1, q2, q3),
+        kinds::SELECT | kinds::BOUNDS_LEN => write_read_three(table, q1, q2, q3, q4),
+        kinds::BIN_RANGE => write_read_four(table, q1, q2, q3, q4, Reg(r.p5)),
+        kinds::BOOL => count_bool(table, ops::bool_of(r.op), q1, q2, q3),
+        kinds::STORE => read_two(table, q1, q2),
+        kinds::COND_BR => read(table, q1),
+        kinds::CASE => read(table, q1),
+        kinds::BR | kinds::UNREACHABLE => {}
         kinds::STMT => {}
         _ => count_inst(table, operands, codec::inst_of(records::record_at(code, k))),
     }

@@ -29,6 +29,12 @@ pub fn facts(code: &[u8], operands: &[u8], registers: &[u8], kinds: &[u8], table
         ≡ tableOf (now (table .entry)) (kindsOf (now (registers .entry)) ++ now (kinds .entry)) (operandsIn (now (operands .entry)))
         (codesOf (now (code .entry))) ⌝ }
 {
-    let n = general::least(registers.len() / 32 + kinds.len(), table.len() / 5);
-    fill(code, operands, registers, kinds, &mut table[..5 * n]);
+    let n = general::least(registers.len() / 32 + kinds.len(), table.len() / facts::ROW);
+    fill(
+        code,
+        operands,
+        registers,
+        kinds,
+        &mut table[..facts::ROW * n],
+    );
 }

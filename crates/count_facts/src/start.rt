@@ -11,10 +11,10 @@ fn put_row(table: &mut [u64], at: usize, kind: u32)
     ensures { λ u. ⌜ now (table .exit) ≡ take at (now (table .entry)) ++ (kind ∷ 0 ∷ 0 ∷ 0 ∷ 0 ∷ drop (at + 5) (now (table .entry))) ⌝ }
 {
     table[at] = kind as u64;
-    table[at + 1] = 0;
-    table[at + 2] = 0;
-    table[at + 3] = 0;
-    table[at + 4] = 0;
+    table[at + facts::DEFINITIONS] = 0;
+    table[at + facts::USES] = 0;
+    table[at + facts::CLASS] = 0;
+    table[at + facts::VALUE] = 0;
 }
 
 // The kind of register k: of those in the records, or of the new ones behind them.
@@ -38,8 +38,8 @@ pub fn start(registers: &[u8], kinds: &[u8], table: &mut [u64])
     ensures { λ u. ⌜ now (table .exit) ≡ rows (length (now (table .entry)) / 5) (bare (kindsOf (now (registers .entry)) ++ now (kinds .entry))) ⌝ }
 {
     let mut k = 0;
-    while k < table.len() / 5 {
-        put_row(table, 5 * k, kind_of(registers, kinds, k));
+    while k < table.len() / facts::ROW {
+        put_row(table, facts::ROW * k, kind_of(registers, kinds, k));
         k += 1;
     }
 }

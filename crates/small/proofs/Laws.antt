@@ -85,8 +85,11 @@ module _ (c : List Code) where
   unfolding small
   short-code h e = both refl (le-leb (length c) 4 h) e
 
--- no step
-pub no-step : (wide : Bool) (x : Inst) → (eqb (kindOf x) 7 || eqb (kindOf x) 8) ≡ false → s.stepBy wide x ≡ false
+-- Bin and BinRange
+abbrev pub binKind : ℕ → Bool
+binKind k = eqb k 7 || eqb k 8
+
+pub no-step : (wide : Bool) (x : Inst) → binKind (kindOf x) ≡ false → s.stepBy wide x ≡ false
 unfolding s.stepBy formOf
 no-step wide (i.Const d v) q = refl
 no-step wide (i.ConstF d v) q = refl
@@ -134,15 +137,6 @@ end-past k h = rw (ne-eqb k 18 (omega arith), ne-eqb k 19 (omega arith), ne-eqb 
 
 pub end-record : (r : Record) → smallEnd (instOf r) ≡ s.smallEndKind (r .kind)
 end-record r = same-kind s.smallEndKind end-past r
-
-abbrev binKind : ℕ → Bool
-binKind k = eqb k 7 || eqb k 8
-
-bin-past : (k : ℕ) → 23 ≤ k → binKind k ≡ binKind 23
-bin-past k h = rw (ne-eqb k 7 (omega arith), ne-eqb k 8 (omega arith))
-
-pub step-record : (wide : Bool) (r : Record) → (r .kind ≡ 7 → ⊥) → (r .kind ≡ 8 → ⊥) → s.stepBy wide (instOf r) ≡ false
-step-record wide r a b = no-step wide (instOf r) (same-kind binKind bin-past r ∙ rw (ne-eqb (r .kind) 7 a, ne-eqb (r .kind) 8 b))
 
 -- two instructions that end in a Br, as the code tells it
 pub two-told : (b : List ℕ) {e : End} {z : Bool} → e ≡ endOf (codesOf b) → z ≡ (eqb (length b / 32) 2 && s.isBr e)

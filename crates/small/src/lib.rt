@@ -10,6 +10,7 @@ ghost use Rattle.procedure.specs.Lists.{anyOf};
 ghost use Rattle.steps.specs.Small as steps;
 use ends::End;
 use inst::BlockId;
+use inst::Inst;
 use inst::IntOp;
 use inst::kinds;
 use records::Record;
@@ -75,13 +76,12 @@ fn add_or_sub(op: IntOp) -> bool
 }
 
 // Whether it is a Bin, or if `wide` a BinRange, that adds or subtracts.
-fn step_by(wide: bool, r: Record) -> bool
-    ensures { λ z. ⌜ z ≡ steps.stepBy wide (instOf r) ⌝ }
+fn step_by(wide: bool, i: Inst) -> bool
+    ensures { λ z. ⌜ z ≡ steps.stepBy wide i ⌝ }
 {
-    let kind = r.kind;
-    match kind {
-        kinds::BIN => add_or_sub(ops::int_of(r.op)),
-        kinds::BIN_RANGE => wide && add_or_sub(ops::int_of(r.op)),
+    match i {
+        Inst::Bin { op, .. } => add_or_sub(op),
+        Inst::BinRange { op, .. } => wide && add_or_sub(op),
         _ => false,
     }
 }
@@ -92,7 +92,7 @@ fn any_step(wide: bool, code: &[u8]) -> bool
     let n = code.len() / 32;
     let mut k = 0;
     while k < n {
-        if step_by(wide, records::record_at(code, k)) {
+        if step_by(wide, ends::inst_at(code, k)) {
             return true;
         }
         k += 1;

@@ -18,4 +18,4 @@ returns-2 c =
     omega arith
 
 pub kind-of-spec : {M : Type 1} → statement M
-kind-of-spec = tie.close (tie.spec (λ c κs. search needs) (λ c. search needs) returns returns-2)
+kind-of-spec = tie.close (tie.spec (λ c κs. search needs) (λ c. search needs) returns (λ c. search needs) returns-2)

@@ -12,7 +12,7 @@ use Rattle.codec.specs.Codec.{codeOf}
 use Rattle.procedure.specs.Procedure.{codesOf}
 use Rattle.procedure.specs.Lists.{anyOf}
 use Rattle.steps.specs.Small.{stepBy}
-use Rattle.ends.proofs.Laws.{length-codes, inst-there}
+use Rattle.ends.proofs.Laws.{length-codes}
 use Rattle.small.proofs.Laws.{any-pass, any-stop, any-end}
 use Rattle.small.proofs.any_step.Statement.{statement}
 use Rattle.small.proofs.any_step.Tie as tie
@@ -34,7 +34,7 @@ returns c = let l = c .before .before .before .before in
     let a = l .before .before .args in
     let b = now (a .code) in
     let n = length-codes b in
-    let t = told (stepBy (a .wide)) (inst-there b (l .loop .k) (c .before .before .record-at .ensures)) (c .before .step-by .ensures) (c .if1 .taken) in
+    let t = told (stepBy (a .wide)) (c .before .before .inst-at .ensures) (c .before .step-by .ensures) (c .if1 .taken) in
     any-stop (step (a .wide)) (codesOf b) (l .loop .k) (codeOf blank) (rw n (c .before .before .before .loop-test .taken)) t ∙ l .loop .inv .2
 
 loop-again : tie.Need-loop-again Inv-loop μ-loop
@@ -42,7 +42,7 @@ loop-again c = let l = c .before .before .before .before in
     let a = l .before .before .args in
     let b = now (a .code) in
     let n = length-codes b in
-    let t = told (stepBy (a .wide)) (inst-there b (l .loop .k) (c .before .before .record-at .ensures)) (c .before .step-by .ensures) (c .if1 .left) in
+    let t = told (stepBy (a .wide)) (c .before .before .inst-at .ensures) (c .before .step-by .ensures) (c .if1 .left) in
     let e = any-pass (step (a .wide)) (codesOf b) (l .loop .k) (codeOf blank) (rw n (c .before .before .before .loop-test .taken)) t in
     (omega arith, l .loop .inv .1, e ∙ l .loop .inv .2)
 
