@@ -77,7 +77,7 @@ fn blank(used: u32, r: Record) -> bool
     )
 }
 
-// The number of an AddrOf's space fits the space.
+// The number of an AddrOf's space fits the space: Frame, Up, Inst, Pkg, Const, Shared.
 fn space_fits(op: u32, number: u32) -> bool
     ensures { λ r. ⌜ r ≡ fitsPlace (spaceNumber op) number ⌝ }
 {
@@ -91,6 +91,7 @@ fn space_fits(op: u32, number: u32) -> bool
     }
 }
 
+// AddrOf, DopeLen, CallNative and Ret; any other kind by its count.
 fn special_fits(used: u32, r: Record) -> bool
     requires { ⌜ used ≡ getD listedPlaces (r .kind) 0 ⌝ }
     ensures { λ z. ⌜ z ≡ allFit (getD (instructionPlaces (r .op)) (r .kind) []) (fields r) ⌝ }
@@ -155,7 +156,7 @@ fn arm_fits(r: Record) -> bool
     }
 }
 
-// The record is right in itself.
+// The record is right in itself. The classes are register, block, body, instruction, operand and arm.
 pub fn right(r: Record) -> bool
     ensures { λ z. ⌜ z ≡ rightRecord r ⌝ }
 {
