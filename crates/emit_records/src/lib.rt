@@ -22,6 +22,15 @@ use inst::StmtId;
 use inst::kinds;
 use records::Record;
 
+// How many blocks a file has at most.
+const MOST_BLOCKS: usize = 160;
+
+// The largest number that a field of a record can hold.
+const MOST_FIELD: usize = 4294967295;
+
+// The largest count.
+const MOST_COUNT: usize = 18446744073709551615;
+
 // Whether a record, by its kind, is a Const, ConstF or AddrOf whose register only one field of the
 // code writes.
 pub fn is_rescued(r: Record, facts: &[u64]) -> bool
@@ -177,7 +186,7 @@ fn code_at<'a>(work: &'a [u8], table: &[u8], b: usize) -> &'a [u8]
 fn mark_at(seen: &[bool], b: usize) -> bool
     ensures { λ z. ⌜ z ≡ getD (marksIn (now (seen .entry))) b true ⌝ }
 {
-    if b < general::least(160, seen.len()) {
+    if b < general::least(MOST_BLOCKS, seen.len()) {
         return seen[b];
     }
     true
@@ -280,8 +289,8 @@ fn size_at(work: &[u8], table: &[u8], seen: &[bool], b: usize) -> usize
 fn end_after(start: u32, front: u32, size: usize) -> u32
     ensures { λ z. ⌜ z ≡ endAfter start front size ⌝ }
 {
-    let n = general::least(size, 4294967295);
-    general::least(start as usize + front as usize + n, 4294967295) as u32
+    let n = general::least(size, MOST_FIELD);
+    general::least(start as usize + front as usize + n, MOST_FIELD) as u32
 }
 
 // Writes the block records of the emitted form, the first with `keep` more instructions; returns
@@ -317,8 +326,8 @@ pub fn put_heads(
 pub fn plus(a: usize, b: usize) -> usize
     ensures { λ z. ⌜ z ≡ counted (a + b) ⌝ }
 {
-    if 18446744073709551615 - a < b {
-        return 18446744073709551615;
+    if MOST_COUNT - a < b {
+        return MOST_COUNT;
     }
     a + b
 }

@@ -1,4 +1,4 @@
 pub mod Laws
 pub mod Learnt
-pub mod ByKind
+pub mod Written
 pub mod Gathered

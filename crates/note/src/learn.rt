@@ -23,10 +23,10 @@ fn copies(facts: &[u64], d: Reg, s: Reg) -> bool
     if kind != other {
         return false;
     }
-    if kind == 0 {
+    if kind == facts::I64 {
         return true;
     }
-    kind == 2
+    kind == facts::PTR
 }
 
 // One value more where there is one.

@@ -4,9 +4,7 @@ ghost use mathlib.Core.Bool.{cond};
 ghost use mathlib.Core.Option.{none, some};
 ghost use Prim.Native.Nat.{_/_, _≤_};
 ghost use lib.ListN.{length};
-ghost use Rattle.records.specs.Record.{recordAt};
-ghost use Rattle.codec.specs.Codec.{instOf};
-ghost use Rattle.roles.specs.Roles.{optional};
+ghost use Rattle.roles.specs.Roles.{defsOf};
 ghost use Rattle.steps.specs.Note.{forget, forgetAll, withValue, note as noteOf, notes as notesOf, nothing};
 ghost use Rattle.procedure.specs.Procedure.{codesOf};
 ghost use Rattle.facts.specs.Storage.{factsIn};
@@ -14,9 +12,8 @@ ghost use Rattle.note_entries.specs.Storage.{heldIn, NoMore};
 ghost use Rattle.note.specs.Noted.{Roomy, OneMore, moved, booled, enough, notedIn};
 use facts::Word;
 use inst::BoolOp;
-use inst::OptReg;
+use inst::Inst;
 use inst::Reg;
-use inst::kinds;
 use note_entries::Held;
 
 mod bools;
@@ -77,53 +74,40 @@ fn note_bool(
     }
 }
 
-// CallNative: its result is forgotten, if it has one.
-fn note_call(known: &mut [u64], copy: &mut [u32], h: Held, d: OptReg) -> Held
+// What is known after what an instruction writes is forgotten: of more than two registers, nothing.
+fn forget_written(known: &mut [u64], copy: &mut [u32], h: Held, i: Inst) -> Held
     ensures { λ z. ⌜ (heldIn z (now (known .exit)) (now (copy .exit))
-        ≡ forgetAll (optional d) (heldIn h (now (known .entry)) (now (copy .entry)))) × NoMore z h ⌝ }
+        ≡ forgetAll (defsOf i) (heldIn h (now (known .entry)) (now (copy .entry)))) × NoMore z h ⌝ }
 {
-    match d {
-        OptReg::Some(r) => note_entries::forget(known, copy, h, r),
-        OptReg::None => h,
+    let q = roles::roles_of(i);
+    let defs = q.defs;
+    let reg = q.reg;
+    if defs == 0 {
+        return h;
     }
+    if 2 < defs {
+        return Held { known: 0, copy: 0 };
+    }
+    let r = reg[0];
+    let one = note_entries::forget(known, copy, h, r);
+    if defs == 1 {
+        return one;
+    }
+    let s = reg[1];
+    note_entries::forget(known, copy, one, s)
 }
 
-// What is known after the instruction of record k, by its kind: most write p1 alone; TakeBounds writes three registers.
-fn note(known: &mut [u64], copy: &mut [u32], h: Held, facts: &[u64], code: &[u8], k: usize) -> Held
+// What is known after an instruction: of most kinds only that what they write is forgotten.
+fn note(known: &mut [u64], copy: &mut [u32], h: Held, facts: &[u64], i: Inst) -> Held
     requires { ⌜ Roomy h (now known) (now copy) ⌝ }
     ensures { λ z. ⌜ (heldIn z (now (known .exit)) (now (copy .exit))
-        ≡ noteOf (factsIn (now (facts .entry)) none 0) (heldIn h (now (known .entry)) (now (copy .entry))) (instOf (recordAt (now (code .entry)) k)))
-        × OneMore z h ⌝ }
+        ≡ noteOf (factsIn (now (facts .entry)) none 0) (heldIn h (now (known .entry)) (now (copy .entry))) i) × OneMore z h ⌝ }
 {
-    let r = records::record_at(code, k);
-    let kind = r.kind;
-    let d = Reg(r.p1);
-    match kind {
-        kinds::CONST => note_const(known, copy, h, d, codec::word_of(r.p2, r.p3)),
-        kinds::MOVE => note_move(known, copy, h, facts, d, Reg(r.p2)),
-        kinds::BOOL => note_bool(
-            known,
-            copy,
-            h,
-            facts,
-            ops::bool_of(r.op),
-            d,
-            Reg(r.p2),
-            Reg(r.p3),
-        ),
-        kinds::CONST_F
-        | kinds::ADDR_OF
-        | kinds::SELECT
-        | kinds::CMP
-        | kinds::BIN
-        | kinds::BIN_RANGE
-        | kinds::LOAD
-        | kinds::DOPE_LEN
-        | kinds::BOUNDS_LEN
-        | kinds::ALLOC => note_entries::forget(known, copy, h, d),
-        kinds::TAKE_BOUNDS => Held { known: 0, copy: 0 },
-        kinds::CALL_NATIVE => note_call(known, copy, h, ops::opt_of(r.op, r.p4)),
-        _ => h,
+    match i {
+        Inst::Const { dst, v } => note_const(known, copy, h, dst, v),
+        Inst::Move { dst, src } => note_move(known, copy, h, facts, dst, src),
+        Inst::Bool { op, dst, a, b } => note_bool(known, copy, h, facts, op, dst, a, b),
+        _ => forget_written(known, copy, h, i),
     }
 }
 
@@ -136,7 +120,7 @@ fn gather(code: &[u8], known: &mut [u64], copy: &mut [u32], facts: &[u64]) -> He
     let mut h = Held { known: 0, copy: 0 };
     let mut k = 0;
     while k < code.len() / 32 {
-        h = note(known, copy, h, facts, code, k);
+        h = note(known, copy, h, facts, ends::inst_at(code, k));
         k += 1;
     }
     h

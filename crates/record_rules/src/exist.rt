@@ -86,6 +86,7 @@ fn list_exists(operands: u32, start: u32, length: u32) -> bool
     wide(start) + wide(length) <= wide(operands)
 }
 
+// From kind 16 on: TakeBounds, CallNative, Br, CondBr, Case, Ret. Unreachable and Stmt name nothing.
 fn late_exist(n: Counts, r: Record) -> bool
     requires { ⌜ 16 ≤ r .kind ⌝ }
     ensures { λ z. ⌜ z ≡ allExist n (getD (instructionPlaces (r .op)) (r .kind) []) (fields r) ⌝ }
@@ -102,6 +103,7 @@ fn late_exist(n: Counts, r: Record) -> bool
     }
 }
 
+// A kind below 16 names its leading registers; MakeDope, which is 12, a list too.
 fn instruction_exist(n: Counts, r: Record) -> bool
     ensures { λ z. ⌜ z ≡ allExist n (getD (instructionPlaces (r .op)) (r .kind) []) (fields r) ⌝ }
 {
@@ -115,6 +117,7 @@ fn instruction_exist(n: Counts, r: Record) -> bool
     kind != 12 || list_exists(n.operands, r.p2, r.p3)
 }
 
+// An arm or a default.
 fn arm_exist(n: Counts, r: Record) -> bool
     ensures { λ z. ⌜ z ≡ allExist n (getD armPlaces (r .kind) []) (fields r) ⌝ }
 {
@@ -126,7 +129,8 @@ fn arm_exist(n: Counts, r: Record) -> bool
     }
 }
 
-// Whether everything that the record names exists.
+// Whether everything that the record names exists. The classes are body, instruction, operand and
+// arm; registers and blocks name nothing.
 pub fn names_exist(n: Counts, r: Record) -> bool
     ensures { λ z. ⌜ z ≡ namesExist n r ⌝ }
 {

@@ -79,7 +79,7 @@ fn blank(used: u32, r: Record) -> bool
     )
 }
 
-// Whether the number of an AddrOf's space fits the space.
+// Whether the number of an AddrOf's space fits the space: Frame, Up, Inst, Pkg, Const, Shared.
 fn space_fits(op: u32, number: u32) -> bool
     ensures { λ r. ⌜ r ≡ fitsPlace (spaceNumber op) number ⌝ }
 {
@@ -93,6 +93,7 @@ fn space_fits(op: u32, number: u32) -> bool
     }
 }
 
+// AddrOf, DopeLen, CallNative and Ret; any other kind by its count.
 fn special_fits(used: u32, r: Record) -> bool
     requires { ⌜ used ≡ getD listedPlaces (r .kind) 0 ⌝ }
     ensures { λ z. ⌜ z ≡ allFit (getD (instructionPlaces (r .op)) (r .kind) []) (fields r) ⌝ }
@@ -157,7 +158,8 @@ fn arm_fits(r: Record) -> bool
     }
 }
 
-// Whether the record is valid by itself.
+// Whether the record is valid by itself. The classes are register, block, body, instruction, operand
+// and arm.
 pub fn right(r: Record) -> bool
     ensures { λ z. ⌜ z ≡ rightRecord r ⌝ }
 {

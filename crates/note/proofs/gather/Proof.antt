@@ -7,7 +7,7 @@ use lib.ListN.{length, drop}
 use Rattle.records.specs.Record.{blank}
 use Rattle.codec.specs.Codec.{codeOf}
 use Rattle.procedure.specs.Procedure.{codesOf}
-use Rattle.ends.proofs.Laws.{length-codes, inst-there}
+use Rattle.ends.proofs.Laws.{length-codes}
 use Rattle.steps.specs.Note.{note, notes, nothing}
 use Rattle.facts.specs.Storage.{factsIn}
 use Rattle.note_entries.specs.Storage.{heldIn}
@@ -34,22 +34,22 @@ loop-holds c =
 
 add-k : tie.Need-add-k Inv-loop μ-loop
 add-k c =
-    let t = c .before .before .before .before .before .before .before in
+    let t = c .before .before .before .before .before .before .before .before in
     omega (arith, t .loop-test .taken, t .before .before .before .before .before .before .good .0 .0)
 
 loop-less : tie.Need-loop-less Inv-loop μ-loop
-loop-less c = omega (arith, c .before .before .before .before .before .before .before .loop-test .taken)
+loop-less c = omega (arith, c .before .before .before .before .before .before .before .before .loop-test .taken)
 
 loop-again : tie.Need-loop-again Inv-loop μ-loop
 loop-again c =
-    let t = c .before .before .before .before .before .before .before in
+    let t = c .before .before .before .before .before .before .before .before in
     let l = t .before in
     let a = l .before .before .before .before .before .args in
     let b = now (a .code) in
     let f = factsIn (now (a .facts)) none 0 in
     let s = c .before .before .before .before .note .ensures in
     let held = heldIn (l .loop .h) (l .loop .known) (l .loop .copy) in
-    let at = inst-there b (l .loop .k) refl in
+    let at = c .before .before .before .before .before .inst-at .ensures in
     let more : l .loop .k < length (codesOf b) = rw (length-codes b) (t .loop-test .taken) in (
       notes-again f (codesOf b) (l .loop .k) held (codeOf blank) more (s .0 ∙ ap (note f held) at) (l .loop .inv .0),
       (omega (arith, s .1 .known-le), (omega (arith, s .1 .copy-le), (search needs, search needs))),
@@ -65,5 +65,5 @@ returns c =
 
 pub gather-spec : {M : Type 1} → statement M
 gather-spec =
-    tie.close (tie.spec Inv-loop μ-loop loop-holds (λ c κs. search needs) add-k loop-less loop-again (λ c. search needs)
+    tie.close (tie.spec Inv-loop μ-loop loop-holds (λ c κs. search needs) (λ c κs. search needs) add-k loop-less loop-again (λ c. search needs)
     (λ c. search needs) returns)
