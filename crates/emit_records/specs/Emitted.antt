@@ -94,7 +94,3 @@ headsFrom start front [] = []
 headsFrom start front (c ∷ cs) =
     let end = endAfter start front (length c) in
     blockRecord (record { start = start; end = end }) ∷ headsFrom end 0 cs
-
--- a count, no larger than 64 bits can say
-abbrev pub counted : ℕ → ℕ
-counted n = min n 18446744073709551615

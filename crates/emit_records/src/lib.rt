@@ -1,5 +1,5 @@
 // The parts of Emit: which blocks stay, what is rescued, and their records.
-ghost use Prim.Native.Nat.{_+_, _≤_};
+ghost use Prim.Native.Nat.{_+_, _/_, _≤_, min};
 ghost use mathlib.Core.Path.{_≡_};
 ghost use mathlib.Core.Bool.{true, cond};
 ghost use lib.ListN.{length, getD};
@@ -13,7 +13,7 @@ ghost use Rattle.blocks.specs.Blocks.{blockBytes, blockRecordsIn, blocksOf};
 ghost use Rattle.steps.specs.Emit as steps;
 ghost use Rattle.emit_records.specs.Emitted.{marksIn, rescuedBy, staysBy, rescuedIn, branchRecord};
 ghost use Rattle.emit_records.specs.Emitted.{place, put as putOne, puts};
-ghost use Rattle.emit_records.specs.Emitted.{staysAt, lostAt, newAt, rescuesIn, emptyIn, endAfter, headsFrom, counted};
+ghost use Rattle.emit_records.specs.Emitted.{staysAt, lostAt, newAt, rescuesIn, emptyIn, headsFrom};
 use ends::End;
 use inst::Block;
 use inst::BlockId;
@@ -60,22 +60,6 @@ pub fn stays(mark: bool, last: bool, code: &[u8]) -> bool
     }
     let jump = is_jump(ends::end_of(code));
     !jump
-}
-
-// How many instructions of a block are rescued.
-pub fn rescued_in(code: &[u8], facts: &[u64]) -> usize
-    ensures { λ z. ⌜ z ≡ length (rescuedIn (now (facts .entry)) (recordsOf (now (code .entry)))) ⌝ }
-{
-    let n = code.len() / 32;
-    let mut keep = 0;
-    let mut k = 0;
-    while k < n {
-        if is_rescued(records::record_at(code, k), facts) {
-            keep += 1;
-        }
-        k += 1;
-    }
-    keep
 }
 
 // A record is written at a place, where there is one; returns the next place.
@@ -244,117 +228,36 @@ fn put_new(out: &mut [u8], at: usize, work: &[u8], table: &[u8], seen: &[bool], 
     put_emptied(out, at, BlockId((b + 1) as u32), code)
 }
 
-// The blocks as they are emitted are written from a place on, without what is rescued; returns the next place.
-pub fn put_code(out: &mut [u8], at: usize, work: &[u8], table: &[u8], seen: &[bool]) -> usize
-    ensures { λ z. ⌜ place (now (out .exit)) z
-        ≡ puts (joined (emptyIn 0 (marksIn (now (seen .entry))) (blockRecordsIn (now (work .entry)) (now (table .entry)))))
-        (place (now (out .entry)) at) ⌝ }
-{
-    let nb = table.len() / 32;
-    let mut top = at;
-    let mut b = 0;
-    while b < nb {
-        top = put_new(out, top, work, table, seen, b);
-        b += 1;
-    }
-    top
-}
-
-// How many records block b has as it is emitted.
-fn size_at(work: &[u8], table: &[u8], seen: &[bool], b: usize) -> usize
-    ensures { λ z. ⌜ z ≡ length (newAt (marksIn (now (seen .entry))) (blockRecordsIn (now (work .entry)) (now (table .entry))) b) ⌝ }
-{
-    if keeps(work, table, seen, b) {
-        return code_at(work, table, b).len() / 32;
-    }
-    1
-}
-
-// Where a block of some size ends, with some records put before it; no later than a field can say.
-fn end_after(start: u32, front: u32, size: usize) -> u32
-    ensures { λ z. ⌜ z ≡ endAfter start front size ⌝ }
-{
-    let n = general::least(size, 4294967295);
-    general::least(start as usize + front as usize + n, 4294967295) as u32
-}
-
-// The records of the emitted blocks, of which the first has keep records more, are written from a place on; returns the next place.
-pub fn put_heads(
-    out: &mut [u8],
+// The blocks as they are emitted are put into the code from a place on, and their records into the block table, the first with
+// all that stands before that place; returns the next place.
+pub fn put_blocks(
+    code: &mut [u8],
     at: usize,
-    keep: u32,
+    heads: &mut [u8],
     work: &[u8],
     table: &[u8],
     seen: &[bool],
 ) -> usize
-    ensures { λ z. ⌜ place (now (out .exit)) z
-        ≡ puts (headsFrom 0 keep (emptyIn 0 (marksIn (now (seen .entry))) (blockRecordsIn (now (work .entry)) (now (table .entry)))))
-        (place (now (out .entry)) at) ⌝ }
+    ensures code { λ z. ⌜ place (now (code .exit)) z
+        ≡ puts (joined (emptyIn 0 (marksIn (now (seen .entry))) (blockRecordsIn (now (work .entry)) (now (table .entry)))))
+        (place (now (code .entry)) at) ⌝ }
+    ensures heads { λ z. ⌜ (at + length (joined (emptyIn 0 (marksIn (now (seen .entry))) (blockRecordsIn (now (work .entry)) (now (table .entry)))))
+        ≤ length (now (code .entry)) / 32
+        → length (now (table .entry)) / 32 ≤ length (now (heads .entry)) / 32
+        → now (heads .exit)
+        ≡ puts (headsFrom 0 (min at 4294967295) (emptyIn 0 (marksIn (now (seen .entry))) (blockRecordsIn (now (work .entry)) (now (table .entry)))))
+        (place (now (heads .entry)) 0) .bytes) ⌝ }
 {
     let nb = table.len() / 32;
     let mut top = at;
     let mut start = 0;
-    let mut front = keep;
     let mut b = 0;
     while b < nb {
-        let end = end_after(start, front, size_at(work, table, seen, b));
-        top = put(out, top, items::record_of_block(Block { start, end }));
+        top = put_new(code, top, work, table, seen, b);
+        let end = general::least(top, 4294967295) as u32;
+        put_record::put_record(heads, b, items::record_of_block(Block { start, end }));
         start = end;
-        front = 0;
         b += 1;
     }
     top
-}
-
-// The sum of two counts, no larger than a count can be.
-pub fn plus(a: usize, b: usize) -> usize
-    ensures { λ z. ⌜ z ≡ counted (a + b) ⌝ }
-{
-    if 18446744073709551615 - a < b {
-        return 18446744073709551615;
-    }
-    a + b
-}
-
-// How many records are rescued, and how many the emitted blocks have without them.
-pub struct Sizes {
-    pub keep: usize,
-    pub code: usize,
-}
-
-// The sizes with block b too: one that stays has its own records; of another some are rescued, and it has a Br.
-fn sized(at: Sizes, work: &[u8], table: &[u8], seen: &[bool], facts: &[u64], b: usize) -> Sizes
-    ensures keep { λ z. ⌜ z .keep ≡ counted (at .keep
-        + length (lostAt (now (facts .entry)) (marksIn (now (seen .entry))) (blockRecordsIn (now (work .entry)) (now (table .entry))) b)) ⌝ }
-    ensures code { λ z. ⌜ z .code ≡ counted (at .code
-        + length (newAt (marksIn (now (seen .entry))) (blockRecordsIn (now (work .entry)) (now (table .entry))) b)) ⌝ }
-{
-    let code = code_at(work, table, b);
-    if keeps(work, table, seen, b) {
-        return Sizes {
-            keep: at.keep,
-            code: plus(at.code, code.len() / 32),
-        };
-    }
-    Sizes {
-        keep: plus(at.keep, rescued_in(code, facts)),
-        code: plus(at.code, 1),
-    }
-}
-
-// The sizes of all blocks.
-pub fn size_all(work: &[u8], table: &[u8], seen: &[bool], facts: &[u64]) -> Sizes
-    ensures keep { λ z. ⌜ z .keep
-        ≡ counted (length (rescuesIn (now (facts .entry)) (marksIn (now (seen .entry))) (blockRecordsIn (now (work .entry)) (now (table .entry))))) ⌝ }
-    ensures code { λ z. ⌜ z .code
-        ≡ counted (length (joined (emptyIn 0 (marksIn (now (seen .entry))) (blockRecordsIn (now (work .entry)) (now (table .entry)))))) ⌝ }
-{
-    let nb = table.len() / 32;
-    let mut at = Sizes { keep: 0, code: 0 };
-    let mut b = 0;
-    while b < nb {
-        at = sized(at, work, table, seen, facts, b);
-        b += 1;
-    }
-    at
 }
