@@ -15,6 +15,7 @@ use Rattle.codec.specs.Codec.{recordOf}
 use Rattle.procedure.specs.Procedure.{Procedure, Table, tablesFrom}
 use Rattle.procedure.specs.Lists.{joined}
 use Rattle.blocks.specs.Blocks.{blocksOf, blockRecordsIn}
+use Rattle.blocks.proofs.Parts.{length-blocks as length-table}
 use Rattle.blocks.proofs.Bytes.{bytes-part}
 use Rattle.steps.specs.Emit.{reached, rescues, emptyFrom, ontoFront}
 use Rattle.steps.specs.Thread.{Work}
@@ -23,6 +24,7 @@ use Rattle.steps.specs.Write.{blockRecords, bytesOf}
 use Rattle.facts.specs.Storage.{factsIn}
 use Rattle.round_trips.proofs.Bytes.{bytes-length}
 use Rattle.round_trips.proofs.Blocks.{length-blocks}
+use Rattle.step_laws.proofs.Emits.{onto-length, empty-length}
 use Rattle.reach.specs.Reached.{seenIn}
 use Rattle.emit_records.specs.Emitted.{Place, place, puts, rescuesIn, emptyIn, headsFrom}
 use Rattle.emit_records.proofs.Passes.{puts-append, puts-at}
@@ -36,19 +38,20 @@ module _ (rs : List Record) (b : List ℕ) {b′ : List ℕ} {n : ℕ} (e : plac
   put-count : n ≡ length rs
   put-count = ap (λ (s : Place). s .at) e ∙ puts-at rs (place b 0) (omega arith) ∙ (let z : 0 + length rs ≡ length rs = omega arith in z)
 
-  put-bytes : b′ ≡ bytesOf rs ++ drop (length (bytesOf rs)) b
-  put-bytes = ap (λ (s : Place). s .bytes) e ∙ puts-front rs b room
-
   put-first : take (32 * n) b′ ≡ bytesOf rs
   put-first =
       let c = put-count in
       let l = bytes-length rs in
-      ap (take (32 * n)) put-bytes ∙ take-at (bytesOf rs) (drop (length (bytesOf rs)) b) (32 * n) (omega arith)
+      ap (take (32 * n)) (ap (λ (s : Place). s .bytes) e ∙ puts-front rs b room) ∙ take-at (bytesOf rs) (drop (length (bytesOf rs)) b) (32 * n) (omega arith)
 
-  put-all : length b ≡ 32 * length rs → b′ ≡ bytesOf rs
-  put-all h =
-      let l = bytes-length rs in
-      put-bytes ∙ ap (λ (l : List ℕ). bytesOf rs ++ l) (drop-of-length-le b {i = length (bytesOf rs)} (omega arith)) ∙ append-nil (bytesOf rs)
+-- and where they have no more
+put-all : (rs : List Record) (b : List ℕ) {b′ : List ℕ} → b′ ≡ puts rs (place b 0) .bytes → length b ≡ 32 * length rs → b′ ≡ bytesOf rs
+put-all rs b e h =
+    let l = bytes-length rs in
+    e
+    ∙ puts-front rs b (omega arith)
+    ∙ ap (λ (l : List ℕ). bytesOf rs ++ l) (drop-of-length-le b {i = length (bytesOf rs)} (omega arith))
+    ∙ append-nil (bytesOf rs)
 
 module _ (work table arms facts code heads : List ℕ) (p : Procedure) (w : Work) (body : Option ℕ) (budget : ℕ)
     (h : Ready (emit (factsIn facts body budget) p w) p w work table arms (length code) (length heads)) where
@@ -85,6 +88,12 @@ module _ (work table arms facts code heads : List ℕ) (p : Procedure) (w : Work
   size : length (joined blocks) ≡ length (joined (z .procedure .blocks))
   size = ap (λ (P : List (List Code)). length (joined P)) blocks-are
 
+  -- as many blocks as the table has records
+  same-blocks : length (z .procedure .blocks) ≡ length table / 32
+  same-blocks =
+      let rest = emptyFrom 0 marks (blocksOf work table) in
+      sym (ap length blocks-are) ∙ onto-length kept rest ∙ empty-length 0 marks (blocksOf work table) ∙ length-table work table
+
   -- the records that are put into the code: what is rescued, then the rest
   all-code : keptIn work table arms facts ++ joined (leftIn work table arms facts) ≡ map recordOf (joined blocks)
   all-code = code-is work table arms facts body budget (h .few) (h .numbered-arms) (h .canonical)
@@ -97,15 +106,17 @@ module _ (work table arms facts code heads : List ℕ) (p : Procedure) (w : Work
   kept-count : length (keptIn work table arms facts) ≡ length kept
   kept-count = ap length (kept-is work table arms facts body budget (h .few) (h .numbered-arms) (h .canonical)) ∙ length-map kept recordOf
 
-  pub emitted : {seen : List Bool} {code₁ code₂ heads₁ : List ℕ} {n k r m t : ℕ} → seen ≡ seenIn work table arms
+  pub emitted : {seen : List Bool} {code₁ code₂ heads₁ : List ℕ} {n k r t : ℕ} → seen ≡ seenIn work table arms
       → place code₁ k ≡ puts (rescuesIn facts seen R) (place code 0)
       → r ≡ min k 4294967295
-      → place heads₁ m ≡ puts (headsFrom 0 r (emptyIn 0 seen R)) (place heads 0)
+      → (k + length (joined (emptyIn 0 seen R)) ≤ length code₁ / 32 → length table / 32 ≤ length heads / 32
+      → heads₁ ≡ puts (headsFrom 0 (min k 4294967295) (emptyIn 0 seen R)) (place heads 0) .bytes)
+      → length code₁ ≡ length code
       → place code₂ t ≡ puts (joined (emptyIn 0 seen R)) (place code₁ k)
       → n ≡ min t (length code / 32)
       → Bytes code₂ → Bytes heads₁
       → Emitted z (record { n = n; rescued = r }) code₂ heads₁
-  emitted {seen} {code₁} {code₂} {heads₁} {n} {k} {r} {t = t} e a d b c g bc bh =
+  emitted {seen} {code₁} {code₂} {heads₁} {n} {k} {r} {t} e a d b long c g bc bh =
       let few = h .well-formed .code in
       let room = h .code-room in
       let s = size in
@@ -115,11 +126,14 @@ module _ (work table arms facts code heads : List ℕ) (p : Procedure) (w : Work
       let a′ : place code₁ k ≡ puts K (place code 0) = a ∙ ap (λ (m : List Bool). puts (rescuesIn facts m R) (place code 0)) e in
       let kc = put-count K code a′ (omega arith) in
       let r-is : r ≡ min (length K) 4294967295 = d ∙ ap (λ (k : ℕ). min k 4294967295) kc in
-      let b′ : place heads₁ _ ≡ puts (blockRecords 0 blocks) (place heads 0) =
-      b
-      ∙ ap (λ (m : List Bool). puts (headsFrom 0 r (emptyIn 0 m R)) (place heads 0)) e
-      ∙ ap (λ (k : ℕ). puts (headsFrom 0 k L) (place heads 0)) r-is
-      ∙ ap (λ (l : List Record). puts l (place heads 0))
+      let hr = h .heads-room in
+      let nt = same-blocks in
+      let left-size : length (joined (emptyIn 0 seen R)) ≡ length (joined L) = ap (λ (m : List Bool). length (joined (emptyIn 0 m R))) e in
+      let b′ : heads₁ ≡ puts (blockRecords 0 blocks) (place heads 0) .bytes =
+      b (omega arith) (omega arith)
+      ∙ ap (λ (m : List Bool). puts (headsFrom 0 (min k 4294967295) (emptyIn 0 m R)) (place heads 0) .bytes) e
+      ∙ ap (λ (k : ℕ). puts (headsFrom 0 (min k 4294967295) L) (place heads 0) .bytes) kc
+      ∙ ap (λ (l : List Record). puts l (place heads 0) .bytes)
       (heads-is work table arms facts body budget (h .few) (h .numbered-arms) (h .canonical) (omega arith)) in
       let c′ : place code₂ t ≡ puts (map recordOf (joined blocks)) (place code 0) =
       c
@@ -131,13 +145,12 @@ module _ (work table arms facts code heads : List ℕ) (p : Procedure) (w : Work
       let nh = length-blocks 0 blocks in
       let top = put-count (map recordOf (joined blocks)) code c′ (omega arith) in
       let n-is : n ≡ t = omega arith in
-      let hr = h .heads-room in
       let nb = ap length blocks-are in
       record {
         coded = coded-by (z .procedure) (h .well-formed) (take (32 * n) code₂) heads₁ (bytes-part (32 * n) 0 code₂ bc) bh
             (ap (λ (n : ℕ). take (32 * n) code₂) n-is
             ∙ put-first (map recordOf (joined blocks)) code c′ (omega arith)
             ∙ ap (λ (P : List (List Code)). bytesOf (map recordOf (joined P))) blocks-are)
-            (put-all (blockRecords 0 blocks) heads b′ (omega arith) (omega arith) ∙ ap (λ (P : List (List Code)). bytesOf (blockRecords 0 P)) blocks-are);
+            (put-all (blockRecords 0 blocks) heads b′ (omega arith) ∙ ap (λ (P : List (List Code)). bytesOf (blockRecords 0 P)) blocks-are);
         rescued = let q = kept-count in let t = rescued-is in omega arith;
       }

@@ -33,8 +33,7 @@ pub fn emit(
     let seen = reach::reached(work, table, arms);
     let kept = emit_records::put_keep(code, 0, work, table, &seen, facts);
     let rescued = general::least(kept, 4294967295) as u32;
-    emit_records::put_heads(heads, 0, rescued, work, table, &seen);
-    let top = emit_records::put_code(code, kept, work, table, &seen);
+    let top = emit_records::put_blocks(code, kept, heads, work, table, &seen);
     let n = general::least(top, room);
     Staged { n, rescued }
 }

@@ -2,4 +2,3 @@ pub mod Laws
 pub mod Passes
 pub mod Heads
 pub mod Bytes
-pub mod Measure

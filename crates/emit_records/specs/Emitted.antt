@@ -17,7 +17,7 @@ use Rattle.ends.specs.Ends.{endOf}
 use Rattle.steps.specs.Emit.{isJump, isRescued, firstStmt, stays}
 use Rattle.facts.specs.Storage.{factsIn}
 
--- "their singly written Const, ConstF and AddrOf"; the body, the budget and the statement don't matter
+-- "their singly written Const, ConstF and AddrOf"; the body, the budget and the statement are not asked
 abbrev pub rescuedBy : List ℕ → Inst → Bool
 rescuedBy facts x = isRescued (factsIn facts none 0) (record { inst = x; stmt = record { 0 = 0 } })
 
@@ -34,7 +34,7 @@ staysBy mark last c = mark || last || leb (length c) 1 && not (isJump (endOf c))
 abbrev pub branchRecord : BlockId → List Code → Record
 branchRecord next c = recordOf (record { inst = i.Br next; stmt = firstStmt c })
 
--- some bytes, and the place of the record to be written next
+-- some bytes, and the record of them that is written next
 pub record Place : Type 0 where
   pub bytes : List ℕ
   pub at : ℕ
@@ -42,7 +42,7 @@ pub record Place : Type 0 where
 abbrev pub place : List ℕ → ℕ → Place
 place b at = record { bytes = b; at = at }
 
--- a record written there, if the bytes have such a record
+-- a record written there, where the bytes have such a record
 unfoldable pub put : Record → Place → Place
 put r s = cond (ltb (s .at) (length (s .bytes) / 32)) (place (putOf (s .bytes) (s .at) r) (s .at + 1)) s
 
@@ -59,7 +59,7 @@ codesIn R = map (map codeOf) R
 abbrev pub marksIn : List Bool → List Bool
 marksIn seen = take 160 seen
 
--- block b stays; so does one without a mark
+-- block b stays; one that has no mark does
 abbrev pub staysAt : List Bool → List (List Code) → ℕ → Bool
 staysAt marks P b = staysBy (getD marks b true) (leb (length P - 1) b) (getD P b [])
 
@@ -67,7 +67,7 @@ staysAt marks P b = staysBy (getD marks b true) (leb (length P - 1) b) (getD P b
 abbrev pub lostAt : List ℕ → List Bool → List (List Record) → ℕ → List Record
 lostAt facts marks R b = cond (staysAt marks (codesIn R) b) [] (rescuedIn facts (getD R b []))
 
--- the records of block b in its emitted form
+-- the records of block b as it is emitted
 abbrev pub newAt : List Bool → List (List Record) → ℕ → List Record
 newAt marks R b = cond (staysAt marks (codesIn R) b) (getD R b []) (branchRecord (blockOf (suc b)) (map codeOf (getD R b [])) ∷ [])
 
@@ -84,7 +84,7 @@ emptyIn b [] (c ∷ cs) = c ∷ cs
 emptyIn b (m ∷ ms) (c ∷ cs) =
     cond (stays m (codesIn cs) (map codeOf c)) c (branchRecord (blockOf (suc b)) (map codeOf c) ∷ []) ∷ emptyIn (suc b) ms cs
 
--- where a block of some size ends, with some records put before it; capped at what a 32-bit field can hold
+-- where a block of some size ends, with some records put before it; no later than a 32-bit field can say
 abbrev pub endAfter : ℕ → ℕ → ℕ → ℕ
 endAfter start front size = min (start + front + size) 4294967295
 
@@ -94,7 +94,3 @@ headsFrom start front [] = []
 headsFrom start front (c ∷ cs) =
     let end = endAfter start front (length c) in
     blockRecord (record { start = start; end = end }) ∷ headsFrom end 0 cs
-
--- a count, capped at what 64 bits can hold
-abbrev pub counted : ℕ → ℕ
-counted n = min n 18446744073709551615
