@@ -18,7 +18,7 @@ ghost use Rattle.bench_c.specs.Steps.{ranOf, stagedOf, Put};
 ghost use Rattle.bench_c.specs.Forms.{answerOf, sent as sentOf, formOf};
 use steps::Answer;
 
-// How far `run` came before emit.
+// How far `run` got before Emit.
 #[repr(C)]
 pub struct HalivomueRan {
     pub top: usize,
@@ -98,7 +98,8 @@ pub extern "C" fn halivomue_emit(
     }
 }
 
-// A result with new registers is written into the output buffer; returns how many bytes are written, 0 where they have no room.
+// Writes a result with new registers into the output buffer; returns how many bytes were written, 0
+// if they don't fit.
 #[no_mangle]
 pub extern "C" fn halivomue_put(
     out: &mut [u8],

@@ -10,7 +10,7 @@ use Rattle.roles.specs.Roles.{defsOf, readsOf}
 use Rattle.ends.specs.Forms.{Form, const, constF, addrOf, move, bool, bin, jump, other, formOf}
 use Rattle.facts.specs.Storage.{cap}
 
--- each of a list in turn
+-- a function applied for each element of a list in turn
 unfoldable pub over : {S A : Type 0} → (S → A → S) → S → List A → S
 over f s [] = s
 over f s (x ∷ xs) = over f (f s x) xs
@@ -45,7 +45,7 @@ withWord t d v = cond (ready t d (λ k. not (eqb k 1))) (set (set t (5 * d + 3) 
 unfoldable pub withKonst : List ℕ → ℕ → List ℕ
 withKonst t d = cond (ready t d (λ k. eqb k 0)) (set t (5 * d + 3) 2) t
 
--- what one instruction says of the class of the register that it writes
+-- what one instruction says about the class of the register that it writes
 abbrev pub classIn : List ℕ → Form → List ℕ
 classIn t (const d v) = withWord t (d .0) v
 classIn t (constF d) = withKonst t (d .0)

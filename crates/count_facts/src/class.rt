@@ -10,7 +10,7 @@ use inst::Reg;
 use inst::kinds;
 use records::Record;
 
-// The v of a Const, if it is the first of a register that is written once.
+// Stores the v of a Const, if it is the first of a register that is written once.
 fn put_word(table: &mut [u64], d: Reg, v: u64)
     ensures { λ u. ⌜ now (table .exit) ≡ withWord (now (table .entry)) (d .0) v ⌝ }
 {
@@ -28,7 +28,7 @@ fn put_word(table: &mut [u64], d: Reg, v: u64)
     table[at + facts::VALUE] = v;
 }
 
-// A ConstF or AddrOf, of a register that is written once.
+// Stores the class of a ConstF or AddrOf, if its register is written once.
 fn put_konst(table: &mut [u64], d: Reg)
     ensures { λ u. ⌜ now (table .exit) ≡ withKonst (now (table .entry)) (d .0) ⌝ }
 {
@@ -67,7 +67,7 @@ fn put_address(table: &mut [u64], d: Reg, space: AddrSpace)
     put_konst(table, d);
 }
 
-// What an instruction says of the class of the register that it writes: a Const, ConstF or AddrOf.
+// Stores what a Const, ConstF or AddrOf says about the class of the register that it writes.
 fn put_inst(table: &mut [u64], i: Inst)
     ensures { λ u. ⌜ now (table .exit) ≡ classStep (now (table .entry)) i ⌝ }
 {
@@ -79,7 +79,7 @@ fn put_inst(table: &mut [u64], i: Inst)
     }
 }
 
-// The same of a record: of another kind nothing is read.
+// The same for a record; other kinds aren't decoded.
 fn put_class(table: &mut [u64], r: Record)
     ensures { λ u. ⌜ now (table .exit) ≡ classStep (now (table .entry)) (instOf r) ⌝ }
 {
@@ -90,7 +90,7 @@ fn put_class(table: &mut [u64], r: Record)
     }
 }
 
-// The class of each register, once the definitions are counted.
+// Stores the class of each register, after the definitions are counted.
 pub fn class(code: &[u8], table: &mut [u64])
     ensures { λ u. ⌜ now (table .exit) ≡ over classCode (now (table .entry)) (codesOf (now (code .entry))) ⌝ }
 {

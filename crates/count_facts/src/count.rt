@@ -18,7 +18,8 @@ const MOST_DEFINITIONS: u64 = 255;
 
 const MOST_USES: u64 = 4294967295;
 
-// One more in column j of a register's row, up to the most; nothing where the table has no such place.
+// Adds one in column j of a register's row, up to `most`; does nothing if the table has no such
+// place.
 fn bump(table: &mut [u64], j: usize, most: u64, r: Reg)
     requires { ⌜ j < 5 ⌝ }
     ensures { λ u. ⌜ now (table .exit) ≡ counted j most (now (table .entry)) (r .0) ⌝ }
@@ -32,7 +33,7 @@ fn bump(table: &mut [u64], j: usize, most: u64, r: Reg)
     }
 }
 
-// The registers from place a up to place e.
+// Counts the registers from place a up to place e.
 fn bump_regs(table: &mut [u64], j: usize, most: u64, reg: [Reg; 5], a: usize, e: usize)
     requires { ⌜ (e ≤ 5) × (j < 5) ⌝ }
     ensures { λ u. ⌜ now (table .exit) ≡ over (counted j most) (now (table .entry)) (drop a (take e (numbersOf reg))) ⌝ }
@@ -45,7 +46,7 @@ fn bump_regs(table: &mut [u64], j: usize, most: u64, reg: [Reg; 5], a: usize, e:
     }
 }
 
-// The operands of a list, from the operand records.
+// Counts the operands of a list, from the operand records.
 fn bump_list(table: &mut [u64], j: usize, most: u64, operands: &[u8], list: Regs)
     requires { ⌜ j < 5 ⌝ }
     ensures { λ u. ⌜ now (table .exit) ≡ over (counted j most) (now (table .entry)) (operandsOf (operandsIn (now (operands .entry))) list) ⌝ }
@@ -166,7 +167,7 @@ fn count_record(table: &mut [u64], operands: &[u8], code: &[u8], k: usize)
     }
 }
 
-// The definitions and uses of each register.
+// Counts the definitions and uses of each register.
 pub fn count(code: &[u8], operands: &[u8], table: &mut [u64])
     ensures { λ u. ⌜ now (table .exit) ≡ over (countCode (operandsIn (now (operands .entry)))) (now (table .entry)) (codesOf (now (code .entry))) ⌝ }
 {

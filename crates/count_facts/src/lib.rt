@@ -1,4 +1,4 @@
-// Fills the table of facts: definitions and uses are counted, constants noted.
+// Fills the table of facts: counts definitions and uses, and notes constants.
 ghost use mathlib.Core.Path.{_≡_};
 ghost use mathlib.Core.List.{_++_};
 ghost use Prim.Native.Nat.{_*_, _/_};
@@ -22,8 +22,8 @@ fn fill(code: &[u8], operands: &[u8], registers: &[u8], kinds: &[u8], table: &mu
     class::class(code, table);
 }
 
-// The facts of a code, with its operand and register records and the kinds of new registers behind these: five words for
-// each register that the table has room for. What stands behind them is left.
+// The facts of some code, with its operand and register records and the kinds of the new registers after these: five words for
+// each register that the table has room for. What comes after them stays.
 pub fn facts(code: &[u8], operands: &[u8], registers: &[u8], kinds: &[u8], table: &mut [u64])
     ensures { λ u. ⌜ now (table .exit)
         ≡ tableOf (now (table .entry)) (kindsOf (now (registers .entry)) ++ now (kinds .entry)) (operandsIn (now (operands .entry)))

@@ -17,7 +17,7 @@ fn put_row(table: &mut [u64], at: usize, kind: u32)
     table[at + facts::VALUE] = 0;
 }
 
-// The kind of register k: of those in the records, or of the new ones behind them.
+// The kind of register k: one of those in the records, or of the new ones after them.
 fn kind_of(registers: &[u8], kinds: &[u8], k: usize) -> u32
     ensures { λ z. ⌜ z ≡ getD (kindsOf (now (registers .entry)) ++ now (kinds .entry)) k 0 ⌝ }
 {
@@ -32,7 +32,7 @@ fn kind_of(registers: &[u8], kinds: &[u8], k: usize) -> u32
     0
 }
 
-// One for each register that the table has room for.
+// A row for each register that the table has room for.
 pub fn start(registers: &[u8], kinds: &[u8], table: &mut [u64])
     requires { ⌜ length (now table) ≡ 5 * (length (now table) / 5) ⌝ }
     ensures { λ u. ⌜ now (table .exit) ≡ rows (length (now (table .entry)) / 5) (bare (kindsOf (now (registers .entry)) ++ now (kinds .entry))) ⌝ }

@@ -1,4 +1,4 @@
--- The 24 kinds in five shapes: what an instruction's effect is made of. All else that the proof knows of a kind follows from its shape.
+-- The 24 kinds in seven shapes: what an instruction's effect is made of. Everything else that the proof knows of a kind follows from its shape.
 use Prim.Native.Nat.{ℕ, zero, suc, _≤_}
 use mathlib.Core.Path.{_≡_, refl, sym, subst, _∙_}
 use mathlib.Core.Logic.{inl, inr}

@@ -1,4 +1,4 @@
--- Storage, not the paper's: what Emit is lent, and what it leaves there.
+-- Storage, not the paper's: what Emit is lent, and what it leaves in it.
 use Prim.Native.Nat.{ℕ, _*_, _/_, _≤_}
 use mathlib.Core.Path.{_≡_}
 use mathlib.Core.List.{List, []}
@@ -14,7 +14,7 @@ use Rattle.round_trips.specs.WellFormed.{WellFormed}
 use Rattle.procedure_parts.specs.Opened.{Coded}
 use Rattle.emit.specs.declared.Staged.{Staged}
 
--- blocks of a work in code and block table, the tables of a procedure, and room for what Emit leaves of them, which is well formed
+-- blocks in code and block table, the tables of a procedure, and room for what Emit leaves of them, which is well formed
 pub record Ready (z : Shortened) (p : Procedure) (w : Work) (work table arms : List ℕ) (code heads : ℕ) : Type 0 where
   pub well-formed : WellFormed (z .procedure)
   pub blocks : blocksOf work table ≡ w .blocks

@@ -1,4 +1,4 @@
-// Emit over lent storage: what it leaves there is for the steps behind it and for the writer.
+// Emit over lent storage: it leaves its result there for the steps after it and for the writer.
 ghost use mathlib.Core.Option.{Option};
 ghost use Prim.Native.Nat.{ℕ, _/_, _≤_};
 ghost use lib.ListN.{length};
@@ -14,7 +14,7 @@ pub struct Staged {
     pub rescued: u32,
 }
 
-// What Emit leaves of code and block table is put into the storage, what is rescued first.
+// Puts Emit's code and block table into the storage, with the rescued instructions first.
 pub fn emit(
     code: &mut [u8],
     heads: &mut [u8],

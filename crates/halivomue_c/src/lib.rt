@@ -1,4 +1,5 @@
-// The C interface of include/halivomue.h. Each member of an answer is the definition's, and nothing stands in between.
+// The C interface of include/halivomue.h. Each member of an answer is stated to be that of the
+// definition.
 ghost use mathlib.Core.Path.{_≡_};
 ghost use mathlib.Core.List.{_++_};
 ghost use Prim.Native.Nat.{_+_, _/_, _≤_};

@@ -14,7 +14,7 @@ use Rattle.note_entries.specs.Storage.{heldIn}
 use Rattle.note.specs.declared.Noted.{Noted}
 use Rattle.note.specs.declared.Noted.the-variants as t
 
--- Bool, of what a table and some entries say of its operands
+-- Bool, from what a table and some entries say of its operands
 abbrev pub boolIn : List ℕ → Held → List ℕ → BoolOp → ℕ → ℕ → Option ℕ
 boolIn facts h known op x y =
     let value = valueOf (factsIn facts none 0) (heldIn h known []) in
@@ -25,7 +25,7 @@ abbrev pub newEntry : ℕ → Option ℕ → List (ℕ × ℕ)
 newEntry d none = []
 newEntry d (some v) = (d, v) ∷ []
 
--- Move, of a source as it is written
+-- Move, with its source as it is written
 abbrev pub moved : Facts → ℕ → ℕ → Known → Known
 moved f d s k = cond (eqb d s) k (noteMove f d (sourceOf k s) k)
 
@@ -33,7 +33,7 @@ moved f d s k = cond (eqb d s) k (noteMove f d (sourceOf k s) k)
 abbrev pub booled : Facts → BoolOp → ℕ → ℕ → ℕ → Known → Known
 booled f op d x y k = withValueIf d (boolOf op (valueOf f k x) (valueOf f k y)) k
 
--- room for one entry more of each, and one entry more of each at most
+-- room for one more entry of each, and at most one more entry of each
 pub record Roomy (h : Held) (known copy : List ℕ) : Type 0 where
   pub known-fit : h .known < length known / 2
   pub copy-fit : h .copy < length copy / 2
@@ -46,7 +46,7 @@ pub record OneMore (z h : Held) : Type 0 where
 abbrev pub enough : ℕ → List ℕ → List ℕ → Bool
 enough n known copy = leb n (length known / 2) && leb n (length copy / 2)
 
--- what is known, or none where there was no room
+-- what is known, or none if there was no room
 abbrev pub notedIn : Noted → List ℕ → List ℕ → Option Known
 notedIn (t.At h) known copy = some (heldIn h known copy)
 notedIn t.Full known copy = none

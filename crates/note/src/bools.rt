@@ -4,7 +4,7 @@ ghost use Rattle.facts.specs.Storage.{wordIn};
 use facts::Word;
 use inst::BoolOp;
 
-// Not, of the one word that is known.
+// Not, of one known word.
 fn one_of(op: BoolOp, v: u64) -> Word
     ensures { λ z. ⌜ wordIn z ≡ boolOfOne op v ⌝ }
 {
@@ -16,7 +16,7 @@ fn one_of(op: BoolOp, v: u64) -> Word
     }
 }
 
-// Bool, of what is known of its operands.
+// Bool, from what is known of its operands.
 pub fn bool_of(op: BoolOp, x: Word, y: Word) -> Word
     ensures { λ z. ⌜ wordIn z ≡ boolOf op (wordIn x) (wordIn y) ⌝ }
 {

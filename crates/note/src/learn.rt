@@ -14,7 +14,7 @@ use inst::BoolOp;
 use inst::Reg;
 use note_entries::Held;
 
-// Both of one kind, I64 or Ptr.
+// Whether both have the same kind, I64 or Ptr.
 fn copies(facts: &[u64], d: Reg, s: Reg) -> bool
     ensures { λ z. ⌜ z ≡ alike (factsIn (now (facts .entry)) none 0) (d .0) (s .0) ⌝ }
 {
@@ -29,7 +29,7 @@ fn copies(facts: &[u64], d: Reg, s: Reg) -> bool
     kind == facts::PTR
 }
 
-// One value more where there is one.
+// Adds a known value, if there is one.
 pub fn learn_value(known: &mut [u64], n: usize, d: Reg, v: Word) -> usize
     requires { ⌜ n < length (now known) / 2 ⌝ }
     ensures { λ z. ⌜ (entriesIn z (now (known .exit)) ≡ entriesIn n (now (known .entry)) ++ newEntry (d .0) (wordIn v)) × (z ≤ n + 1) ⌝ }
@@ -40,7 +40,7 @@ pub fn learn_value(known: &mut [u64], n: usize, d: Reg, v: Word) -> usize
     }
 }
 
-// The copy that Move makes.
+// Adds the copy that a Move makes.
 fn learn_copy(copy: &mut [u32], n: usize, facts: &[u64], d: Reg, s: Reg) -> usize
     requires { ⌜ n < length (now copy) / 2 ⌝ }
     ensures { λ z. ⌜ (entriesIn z (now (copy .exit))
@@ -52,7 +52,7 @@ fn learn_copy(copy: &mut [u32], n: usize, facts: &[u64], d: Reg, s: Reg) -> usiz
     n
 }
 
-// Move d s: nothing of a register moved to itself.
+// Move d s: nothing is learnt if a register is moved to itself.
 pub fn learn_move(
     known: &mut [u64],
     copy: &mut [u32],
@@ -75,7 +75,7 @@ pub fn learn_move(
     Held { known: n, copy: m }
 }
 
-// The value of Bool, where its operands tell it.
+// Adds the value of a Bool, if its operands are known.
 pub fn learn_bool(
     known: &mut [u64],
     h: Held,

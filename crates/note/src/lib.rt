@@ -19,7 +19,7 @@ use note_entries::Held;
 mod bools;
 mod learn;
 
-// What is known, or no room for it.
+// What is known, or that there was no room for it.
 pub enum Noted {
     At(Held),
     Full,
@@ -111,7 +111,7 @@ fn note(known: &mut [u64], copy: &mut [u32], h: Held, facts: &[u64], i: Inst) ->
     }
 }
 
-// What is known after the instructions of some records, from nothing.
+// What is known after the instructions of some records, starting with nothing.
 fn gather(code: &[u8], known: &mut [u64], copy: &mut [u32], facts: &[u64]) -> Held
     requires { ⌜ (length (now code) / 32 ≤ length (now known) / 2) × (length (now code) / 32 ≤ length (now copy) / 2) ⌝ }
     ensures { λ z. ⌜ heldIn z (now (known .exit)) (now (copy .exit))
@@ -126,7 +126,7 @@ fn gather(code: &[u8], known: &mut [u64], copy: &mut [u32], facts: &[u64]) -> He
     h
 }
 
-// The same, or Full where a slice has not two words for each record.
+// The same, or Full if a slice has fewer than two words for each record.
 pub fn notes(code: &[u8], known: &mut [u64], copy: &mut [u32], facts: &[u64]) -> Noted
     ensures { λ z. ⌜ notedIn z (now (known .exit)) (now (copy .exit))
         ≡ cond (enough (length (now (code .entry)) / 32) (now (known .entry)) (now (copy .entry)))

@@ -1,4 +1,4 @@
--- Storage, not the paper's: what Shorten answers and writes where the result's records and counts are these.
+-- Storage, not the paper's: what Shorten answers and writes, given the result's records and counts.
 use Prim.Native.Nat.{ℕ, min}
 use mathlib.Core.Bool.{Bool}
 use mathlib.Core.List.{List, [], _++_, map}
@@ -16,7 +16,7 @@ use Rattle.steps.specs.Shorten.{Outcome, fit}
 abbrev pub outcome : Answer → List ℕ → Outcome
 outcome a out = record { answer = a; output = out }
 
--- counts of a result: all that `fit` asks of it beside its bytes
+-- counts of a result: all that `fit` needs of it besides its bytes
 abbrev pub counts : Bool → ℕ → ℕ → ℕ → Shortened
 counts moved grown fresh rescued = record {
   procedure = record { registers = []; blocks = []; body = none; operands = []; tables = [] };
@@ -29,7 +29,7 @@ counts moved grown fresh rescued = record {
 abbrev pub filed : List Record → Shortened → List ℕ → Outcome
 filed rs s out = fit s (bytesOf rs) out
 
--- the answer where so many bytes are written
+-- the answer when a number of bytes are written
 abbrev pub wrote : ℕ → Shortened → Answer
 wrote n s = record {
   number = 0;
@@ -41,7 +41,7 @@ wrote n s = record {
   rescued = s .rescued;
 }
 
--- a count, no larger than a 32-bit field can say
+-- a count, capped at what a 32-bit field can hold
 abbrev pub short : ℕ → ℕ
 short n = min n 4294967295
 

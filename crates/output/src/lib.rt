@@ -1,4 +1,4 @@
-// The result of Shorten: measured, and written where it fits.
+// The result of Shorten: measured, and written if it fits.
 ghost use Prim.Native.Nat.{_*_, _<_};
 ghost use mathlib.Core.Path.{_≡_};
 ghost use mathlib.Core.List.{[]};
@@ -8,7 +8,7 @@ ghost use Rattle.emit_records.specs.Emitted.{place, puts};
 ghost use Rattle.output.specs.Filed.{outcome, counts, filed, wrote, short as shortOf, kindRecords, formRecords};
 use steps::Answer;
 
-// The refusal where the buffer is shorter than the result.
+// The refusal if the buffer is shorter than the result.
 fn refused() -> Answer
     ensures { λ r. ⌜ r ≡ refusal 9 0 [] .answer ⌝ }
 {
@@ -23,7 +23,7 @@ fn refused() -> Answer
     }
 }
 
-// The answer where n records are written.
+// The answer when n records are written.
 fn answered(n: usize, moved: bool, grown: u32, fresh: u32, rescued: u32) -> Answer
     requires { ⌜ 32 * n < 18446744073709551616 ⌝ }
     ensures { λ r. ⌜ r ≡ wrote (32 * n) (counts moved grown fresh rescued) ⌝ }
@@ -39,7 +39,7 @@ fn answered(n: usize, moved: bool, grown: u32, fresh: u32, rescued: u32) -> Answ
     }
 }
 
-// A count, no larger than a 32-bit field can say.
+// A count, capped at what a 32-bit field can hold.
 fn short(n: usize) -> u32
     ensures { λ r. ⌜ r ≡ shortOf n ⌝ }
 {
@@ -66,7 +66,7 @@ fn measure(
     front + rest + kinds.len()
 }
 
-// The kinds of new registers are written as records from a place on; returns the next place.
+// Writes the kinds of new registers as records from a place on; returns the next place.
 fn put_kinds(out: &mut [u8], at: usize, kinds: &[u8]) -> usize
     ensures { λ z. ⌜ place (now (out .exit)) z ≡ puts (kindRecords (now (kinds .entry))) (place (now (out .entry)) at) ⌝ }
 {
@@ -80,7 +80,7 @@ fn put_kinds(out: &mut [u8], at: usize, kinds: &[u8]) -> usize
     top
 }
 
-// A result is written, class by class; returns the place after it.
+// Writes a result, class by class; returns the place after it.
 fn write(
     out: &mut [u8],
     registers: &[u8],
@@ -106,7 +106,8 @@ fn write(
     emit_records::put_block(out, top, arms)
 }
 
-// What the steps leave is written where it fits: the bytes of each class, the kinds of the new registers, and the counts.
+// Writes what the steps leave, if it fits: the bytes of each class, the kinds of the new registers,
+// and the counts.
 pub fn put_form(
     out: &mut [u8],
     registers: &[u8],

@@ -6,7 +6,7 @@ use mathlib.Core.Bool.{Bool, true, false, _||_}
 use lib.Dec.{eqb}
 use lib.ListN.{length, getD, set, replicate}
 
--- a number is one of a list
+-- a number is in a list
 abbrev pub isIn : ℕ → List ℕ → Bool
 isIn s [] = false
 isIn s (t ∷ ts) = eqb t s || isIn s ts
@@ -27,7 +27,7 @@ unfoldable pub total : List (List ℕ) → ℕ
 total [] = 0
 total (x ∷ xs) = length x + total xs
 
--- the blocks still to be entered, after one whose mark was there already or not
+-- the blocks still to be entered, after one that was marked already or wasn't
 abbrev pub pushed : Bool → List ℕ → List ℕ → List ℕ
 pushed true more stack = stack
 pushed false more stack = more ++ stack
@@ -39,6 +39,6 @@ walk (suc k) edges [] marks = marks
 walk (suc k) edges (b ∷ stack) marks =
     walk k edges (pushed (getD marks b true) (getD edges b []) stack) (set marks b true)
 
--- one mark for each block, set where block a leads to it: a block is entered once for each edge at most, and at the start
+-- one mark for each block, set if block a leads to it: a block is entered at most once for each edge, and at the start
 unfoldable pub reachedFrom : List (List ℕ) → ℕ → List Bool
 reachedFrom edges a = walk (suc (total edges)) edges (a ∷ []) (replicate (length edges) false)

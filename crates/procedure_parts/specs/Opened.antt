@@ -1,4 +1,4 @@
--- Storage, not the paper's: a procedure in parts of bytes, as a file's or as a step leaves them, and what is known of them.
+-- Storage, not the paper's: a procedure in parts of bytes, from a file or as a step leaves them, and what is known of them.
 use Prim.Native.Nat.{ℕ, _*_, _≤_}
 use mathlib.Core.Path.{_≡_}
 use mathlib.Core.List.{List, [], _++_, map}
@@ -53,7 +53,7 @@ pub record Coded (P : List (List Code)) (code heads : List ℕ) : Type 0 where
   pub code-records : recordsOf code ≡ map recordOf (joined P)
   pub head-records : recordsOf heads ≡ blockRecords 0 P
 
--- a procedure held by parts of bytes, with the kinds of new registers behind the register records
+-- a procedure held by parts of bytes, with the kinds of new registers after the register records
 pub record Holds (p : Procedure) (x : Parts) (kinds : List ℕ) : Type 0 where
   pub well-formed : WellFormed p
   pub coded : Coded (p .blocks) (x .code) (x .heads)
@@ -71,7 +71,7 @@ pub record Holds (p : Procedure) (x : Parts) (kinds : List ℕ) : Type 0 where
   pub operands : operandsIn (x .operands) ≡ p .operands
   pub tables : tablesFrom [] (recordsOf (x .arms)) ≡ p .tables
   pub numbered-arms : numbered (recordsOf (x .arms)) ≡ length (recordsOf (x .arms))
-  -- the records that they are written as
+  -- the records that represent them
   pub register-records : recordsOf (x .registers) ≡ map (λ k. registerRecord (regTyOf k)) (kindsOf (x .registers))
   pub body-records : recordsOf (x .body) ≡ bodyRecords (p .body)
   pub operand-records : recordsOf (x .operands) ≡ map (λ r. operandRecord (regOf r)) (p .operands)

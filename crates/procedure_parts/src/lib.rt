@@ -1,1 +1,1 @@
-// A file within the shortening limits, opened into parts: definitions and laws alone.
+// A file within the shortening limits, opened into parts: only definitions and laws.

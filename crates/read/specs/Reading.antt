@@ -46,7 +46,7 @@ countsOf rs = record {
   operands = length (ofClass 5 rs);
 }
 
--- how many records stand before the first that names what doesn't exist
+-- how many records come before the first that names something that doesn't exist
 abbrev pub named : List Record → ℕ
 named rs = lead (namesExist (countsOf rs)) rs
 
@@ -54,11 +54,11 @@ named rs = lead (namesExist (countsOf rs)) rs
 abbrev pub answer : ℕ → ℕ → Reading
 answer number place = record { number = number; place = place }
 
--- of n records from a place on, k are passed: if that isn't all, the next is the offending one
+-- of n records from a place on, k are fine: if that isn't all, the next is the offending one
 unfoldable pub unless : ℕ → ℕ → ℕ → ℕ → Reading → Reading
 unless number first k n otherwise = cond (ltb k n) (answer number (first + k)) otherwise
 
--- 4 to 7, of records that are right and in order and within the limits
+-- 4 to 7, for records that are valid, in order and within the limits
 unfoldable pub readTables : List Record → Reading
 readTables rs =
     unless 6 (before 6 rs) (numbered (ofClass 6 rs)) (length (ofClass 6 rs))

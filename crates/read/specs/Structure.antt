@@ -7,19 +7,19 @@ use lib.ListN.{length, take, drop}
 use Rattle.records.specs.declared.Record.{Record}
 use Rattle.layout.specs.Walk.{walk, lead}
 
--- how far a walk along blocks or arms is: the number due next, and how many records are left
+-- how far a walk along blocks or arms is: the number expected next, and how many records are left
 abbrev pub State : Type 0
 State = ℕ × ℕ
 
 -- "p1 start, p2 end (exclusive); blocks tile the code in order, none empty":
--- after blocks that end at due, a block of a code of n instructions; the last one leaves no code over
+-- a block after others that end at `due`, in n instructions of code; the last one leaves no code over
 unfoldable pub tiles : ℕ → State → Record → Bool
 tiles n s r = eqb (r .p1) (s .0) && (ltb (r .p1) (r .p2) && (leb (r .p2) n && (not (eqb (s .1) 1) || eqb (r .p2) n)))
 
 abbrev pub nextBlock : State → Record → State
 nextBlock s r = (r .p2, s .1 - 1)
 
--- how many blocks stand before the first that doesn't tile
+-- how many blocks come before the first that doesn't tile
 abbrev pub tiled : ℕ → List Record → ℕ
 tiled n blocks = walk (tiles n) nextBlock (0, length blocks) blocks
 
@@ -38,7 +38,7 @@ endsWell code = eqb (lead (λ r. not (terminator r)) code + 1) (length code)
 abbrev pub codeOf : List Record → Record → List Record
 codeOf code r = take (r .p2 - r .p1) (drop (r .p1) code)
 
--- how many blocks stand before the first whose terminator is missing or early
+-- how many blocks come before the first whose terminator is missing or early
 abbrev pub ended : List Record → List Record → ℕ
 ended code blocks = lead (λ r. endsWell (codeOf code r)) blocks
 
@@ -46,14 +46,14 @@ ended code blocks = lead (λ r. endsWell (codeOf code r)) blocks
 abbrev pub isDefault : Record → Bool
 isDefault r = eqb (r .kind) 1
 
--- "Tables count from 0, each any number of arms, then one default.": an arm of the table due; the last arm is a default
+-- "Tables count from 0, each any number of arms, then one default.": an arm of the expected table; the last is a default
 unfoldable pub numbers : State → Record → Bool
 numbers s r = eqb (r .p1) (s .0) && (not (eqb (s .1) 1) || isDefault r)
 
 abbrev pub nextArm : State → Record → State
 nextArm s r = (s .0 + cond (isDefault r) 1 0, s .1 - 1)
 
--- how many arms stand before the first that is misnumbered or lacks its default
+-- how many arms come before the first that is misnumbered or lacks its default
 abbrev pub numbered : List Record → ℕ
 numbered arms = walk numbers nextArm (0, length arms) arms
 

@@ -1,4 +1,4 @@
--- Work definitions, for contracts between functions alone: a part of a file's records, and what is known of a file in order.
+-- Work definitions, only for contracts between functions: a part of a file's records, and what is known of a file in order.
 use Prim.Native.Nat.{ℕ, _≤_, _<_}
 use mathlib.Core.List.{List}
 use mathlib.Core.Path.{_≡_}
@@ -12,11 +12,11 @@ use Rattle.layout.specs.Classes.{ordered, before}
 abbrev pub part : ℕ → ℕ → List Record → List Record
 part first count rs = take count (drop first rs)
 
--- each block holds code and ends within a code of n instructions
+-- each block holds code and ends within n instructions of code
 abbrev pub InCode : ℕ → List Record → Type 0
 InCode n blocks = (k : ℕ) → k < length blocks → (getD blocks k blank .p1 < getD blocks k blank .p2) × (getD blocks k blank .p2 ≤ n)
 
--- the layout of records that are all right and in order
+-- the layout of records that are all valid and in order
 pub record LaidOut (rs : List Record) (l : Layout) : Type 0 where
   pub sorted : ordered rs ≡ length rs
   pub blocks : l .blocks ≡ before 2 rs

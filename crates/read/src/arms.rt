@@ -7,13 +7,13 @@ ghost use Rattle.read.specs.Structure.{numbers as numbersAfter, numbered
 ghost use Rattle.read.specs.Work.{part};
 use records::Record;
 
-// How many arms were passed, and the tables that they end.
+// How many arms were accepted, and how many tables they end.
 pub struct Numbering {
     pub passed: usize,
     pub tables: u32,
 }
 
-// The arm is of the table that is due, and the last one is a default.
+// Whether the arm belongs to the table that is expected; the last one must be a default.
 fn numbers(due: u32, left: usize, r: Record) -> bool
     ensures { λ z. ⌜ z ≡ numbersAfter (due, left) r ⌝ }
 {
@@ -29,7 +29,7 @@ fn ends_table(r: Record) -> u32
     if r.kind == 1 { 1 } else { 0 }
 }
 
-// How many of `count` arms stand before the first that is misnumbered or lacks its default.
+// How many of `count` arms come before the first that is misnumbered or lacks its default.
 pub fn numbered_arms(b: &[u8], first: usize, count: usize) -> Numbering
     requires { ⌜ (first + count ≤ length (recordsOf (now b))) × (count ≤ 128) ⌝ }
     ensures { λ n. ⌜ n .passed ≡ numbered (part first count (recordsOf (now (b .entry)))) ⌝ }

@@ -10,7 +10,8 @@ ghost use Rattle.read.specs.Structure.{tiles as tilesAfter, tiled, termi
 ghost use Rattle.read.specs.Work.{part, InCode};
 use records::Record;
 
-// The block starts where the one before it ended, holds code, and ends within the code; the last one ends with it.
+// Whether the block starts where the one before it ended, isn't empty, and ends within the code;
+// the last must end with it.
 fn tiles(n: u32, due: u32, left: usize, r: Record) -> bool
     ensures { λ z. ⌜ z ≡ tilesAfter n (due, left) r ⌝ }
 {
@@ -26,7 +27,7 @@ fn tiles(n: u32, due: u32, left: usize, r: Record) -> bool
     left != 1 || r.p2 == n
 }
 
-// How many of `count` blocks stand before the first that does not tile a code of n instructions.
+// How many of `count` blocks come before the first that doesn't tile n instructions of code.
 pub fn tiled_blocks(b: &[u8], first: usize, count: usize, n: u32) -> usize
     requires { ⌜ first + count ≤ length (recordsOf (now b)) ⌝ }
     ensures { λ r. ⌜ r ≡ tiled n (part first count (recordsOf (now (b .entry)))) ⌝ }
@@ -50,7 +51,7 @@ fn terminator(r: Record) -> bool
     18 <= r.kind && r.kind <= 22
 }
 
-// How many of `count` instructions stand before the first terminator.
+// How many of `count` instructions come before the first terminator.
 fn first_terminator(b: &[u8], first: usize, count: usize) -> usize
     requires { ⌜ first + count ≤ length (recordsOf (now b)) ⌝ }
     ensures { λ r. ⌜ r ≡ lead (λ i. not (isTerminator i)) (part first count (recordsOf (now (b .entry)))) ⌝ }
@@ -66,7 +67,7 @@ fn first_terminator(b: &[u8], first: usize, count: usize) -> usize
     k
 }
 
-// Of `count` instructions the last is the only terminator.
+// Whether the last of `count` instructions is the only terminator.
 fn ends_well(b: &[u8], first: usize, count: usize) -> bool
     requires { ⌜ first + count ≤ length (recordsOf (now b)) ⌝ }
     ensures { λ z. ⌜ z ≡ endsWell (part first count (recordsOf (now (b .entry)))) ⌝ }
@@ -74,7 +75,7 @@ fn ends_well(b: &[u8], first: usize, count: usize) -> bool
     first_terminator(b, first, count) + 1 == count
 }
 
-// How many of `count` blocks stand before the first whose terminator is missing or early.
+// How many of `count` blocks come before the first whose terminator is missing or early.
 pub fn ended_blocks(b: &[u8], first: usize, count: usize, code: usize, n: usize) -> usize
     requires { ⌜ (first + count ≤ length (recordsOf (now b))) × (code + n ≤ length (recordsOf (now b))) × InCode n (part first count (recordsOf (now b))) ⌝ }
     ensures { λ r. ⌜ r ≡ ended (part code n (recordsOf (now (b .entry)))) (part first count (recordsOf (now (b .entry)))) ⌝ }

@@ -14,7 +14,8 @@ mod arms;
 mod blocks;
 mod names;
 
-// Number 0 and place 0 of an accepted file; else the number of the refusal and the record that offends.
+// Number 0 and place 0 for an accepted file; else the number of the refusal and the offending
+// record.
 pub struct Reading {
     pub number: u32,
     pub place: u32,
@@ -30,7 +31,7 @@ fn refused(number: u32, place: usize) -> Reading
     }
 }
 
-// A class beyond its limit, or no block.
+// Whether a class is beyond its limit, or there is no block.
 fn beyond(
     registers: usize,
     blocks: usize,

@@ -13,7 +13,7 @@ use Rattle.codec.specs.Codec.{recordOf, InRange}
 use Rattle.procedure.specs.Procedure.{Procedure, Arm, Table}
 use Rattle.procedure.specs.Lists.{joined}
 
--- each element of a list
+-- something holds for each element of a list
 abbrev pub All : {A : Type 0} → (A → Type 0) → List A → Type 0
 All P [] = Unit {0}
 All P (x ∷ xs) = P x × All P xs
@@ -24,7 +24,7 @@ Ends [] = ⊥
 Ends (x ∷ []) = terminatorOf (x .inst) ≡ true
 Ends (x ∷ y ∷ c) = (terminatorOf (x .inst) ≡ false) × Ends (y ∷ c)
 
--- an instruction that its record can hold, and all that it names exists
+-- an instruction that fits its record, and everything that it names exists
 pub record Sound (n : Counts) (x : Code) : Type 0 where
   pub range : InRange x
   pub names : namesExist n (recordOf x) ≡ true
@@ -53,7 +53,7 @@ abbrev pub armCount : List Table → ℕ
 armCount [] = 0
 armCount (t ∷ ts) = suc (length (t .arms)) + armCount ts
 
--- what there is of that an instruction can name
+-- how many there are of the things that an instruction can name
 abbrev pub countsIn : Procedure → Counts
 countsIn p = record {
   registers = length (p .registers);

@@ -1,1 +1,1 @@
-// Laws alone: procedures within the limits, written and read back.
+// Only laws: procedures within the limits, written and read back.

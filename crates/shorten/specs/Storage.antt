@@ -1,4 +1,4 @@
--- Storage, not the paper's: a file whose storage is of some size, and its shortening over that storage.
+-- Storage, not the paper's: storage of some size for a file, and shortening over it.
 use Prim.Native.Nat.{ℕ, _+_, _*_, _/_, _≤_}
 use mathlib.Core.Path.{_≡_}
 use mathlib.Core.List.{List}
@@ -10,7 +10,7 @@ use Rattle.steps.specs.Shorten.{shortened}
 use Rattle.procedure_parts.specs.Opened.{Parts, Opened}
 use Rattle.output.specs.Filed.{outcome}
 
--- the lengths of storage that is enough for so many registers and instructions, and so many blocks
+-- the lengths of storage that is enough for a number of registers and instructions, and of blocks
 pub record Room (most blocks work table kinds known copy facts staged heads : ℕ) : Type 0 where
   pub few : most ≤ 480
   pub all-work : work ≡ 32 * (2 * most + (3 * most / 8 + 27))
@@ -22,7 +22,7 @@ pub record Room (most blocks work table kinds known copy facts staged heads : �
   pub all-staged : staged ≡ 32 * (most + most / 2 + 36)
   pub all-staged-heads : heads ≡ 32 * blocks
 
--- no more than so many registers and instructions, and so many blocks
+-- at most a number of registers and instructions, and of blocks
 pub record Fits (most blocks : ℕ) (x : Parts) : Type 0 where
   pub registers : length (x .registers) ≤ 32 * most
   pub heads : length (x .heads) ≤ 32 * blocks

@@ -31,7 +31,7 @@ fn refused(number: u32, place: u32) -> Answer
     }
 }
 
-// For how many registers and instructions there is storage, by the size of a file.
+// How many registers and instructions the storage is for, by the size of a file.
 const SMALL: usize = 24;
 
 const MEDIUM: usize = 120;
@@ -42,7 +42,8 @@ const LARGE: usize = 480;
 // How many blocks a file can have.
 const BLOCKS: usize = 160;
 
-// Storage for `most` registers and instructions, and some blocks, is lent as far as a file needs it.
+// Shortens over storage for `most` registers and instructions and some blocks; the file gets as
+// much as it needs.
 fn shorten_over(
     b: &[u8],
     l: Layout,
@@ -195,7 +196,7 @@ fn shorten_large(b: &[u8], l: Layout, out: &mut [u8]) -> Answer
     )
 }
 
-// Parts of so many bytes have at most n records.
+// True implies at most n registers, n blocks and n instructions.
 fn fits(b: &[u8], l: Layout, n: usize) -> bool
     ensures { λ z. ⌜ (z ≡ true → Fits n n (partsOf (now (b .entry)) l)) ⌝ }
 {
@@ -221,7 +222,8 @@ fn shorten_more(b: &[u8], l: Layout, out: &mut [u8]) -> Answer
     shorten_large(b, l, out)
 }
 
-// A file that is read and within the limits. One that the steps leave as it is needs no storage, a small one little.
+// Shortens an accepted file within the limits. One that no step changes needs no storage, a small
+// one little.
 fn shorten_read(b: &[u8], l: Layout, out: &mut [u8]) -> Answer
     ensures { λ r. ⌜ Done (partsOf (now (b .entry)) l) r (now (out .entry)) (now (out .exit)) ⌝ }
 {
@@ -275,7 +277,8 @@ fn shorten_below(bytes: &[u8], out: &mut [u8], registers: usize, code: usize) ->
     shorten_accepted(bytes, out, registers, code)
 }
 
-// Shortens a file of at most so many registers and instructions, no more than 480, into the output buffer, or refuses it.
+// Shortens a file within some limits, which are capped at 480, into the output buffer, or refuses
+// it.
 pub fn shorten_within(bytes: &[u8], out: &mut [u8], registers: usize, code: usize) -> Answer
     ensures is { λ r. ⌜ outcome r (now (out .exit)) ≡ spec.shortenWithin (min registers 480) (min code 480) (now (bytes .entry)) (now (out .entry)) ⌝ }
     ensures accepted { λ r. ⌜ (r .number ≡ 0 → reading (take (r .length) (now (out .exit))) ≡ answer 0 0) ⌝ }

@@ -1,4 +1,4 @@
--- Storage, not the paper's: what is lent to Shorten, and what stands there before it is written.
+-- Storage, not the paper's: what is lent to Shorten, and what it holds before the result is written.
 use Prim.Native.Nat.{ℕ, _+_, _*_, _/_, _≤_, min}
 use mathlib.Core.Path.{_≡_}
 use mathlib.Core.Bool.{Bool}
@@ -12,7 +12,7 @@ use Rattle.steps.specs.Run.{Shortened}
 use Rattle.procedure_parts.specs.Opened.{Parts, Opened}
 use Rattle.run.specs.Ran.{Left, ranIn, NoStep}
 
--- some bytes written over the first of others, as far as there is room
+-- some bytes written over the start of others, as far as there is room
 abbrev pub fronted : List ℕ → List ℕ → List ℕ
 fronted b s = paste b 0 s (min (length s) (length b))
 
@@ -32,7 +32,7 @@ lent work table kinds facts known copy = record { work = work; table = table; ki
 abbrev pub sizeOf : Parts → ℕ
 sizeOf x = length (x .code) / 32
 
--- no step does anything to a file
+-- no step changes the file
 abbrev pub NoStepIn : Parts → Type 0
 NoStepIn x = NoStep (firstOf (map (λ r. r .p1) (recordsOf (x .body)))) (x .code) (x .heads)
 
@@ -65,7 +65,7 @@ pub record LeftOf (p : Procedure) (x : Parts) (l : Left) : Type 0 where
   pub bytes : Bytes (storage .work)
   pub is : l ≡ leftIn x storage
 
--- the counts of a result, as they are told
+-- the counts of a result, as they are reported
 pub record Tells (s : Shortened) (moved : Bool) (grown fresh rescued : ℕ) : Type 0 where
   pub is-moved : s .moved ≡ moved
   pub is-grown : s .grown ≡ grown

@@ -1,4 +1,4 @@
-// Shorten over lent storage, of a file that is read and within the limits.
+// Shorten over lent storage, for an accepted file within the limits.
 ghost use mathlib.Core.Path.{_≡_};
 ghost use mathlib.Core.Bool.{true, false};
 ghost use mathlib.Core.List.{map};
@@ -18,7 +18,7 @@ use pause::Pause;
 use run::Ran;
 use steps::Answer;
 
-// Some bytes are written over the first of b, as far as there is room.
+// Writes some bytes over the start of b, as far as there is room.
 fn put_front(b: &mut [u8], s: &[u8])
     ensures { λ u. ⌜ now (b .exit) ≡ fronted (now (b .entry)) (now (s .entry)) ⌝ }
 {
@@ -41,7 +41,7 @@ pub fn pause_of(body: &[u8]) -> Pause
     Pause::At(BlockId(r.p1))
 }
 
-// No step does anything to a file.
+// True implies that no step would change the file.
 pub fn no_step(b: &[u8], l: Layout) -> bool
     ensures { λ z. ⌜ (z ≡ true → NoStepIn (partsOf (now (b .entry)) l)) ⌝ }
 {
@@ -53,7 +53,8 @@ pub fn no_step(b: &[u8], l: Layout) -> bool
     )
 }
 
-// Code, block table and new registers hold a result: it is written with the other parts of the file, where it fits.
+// Writes the result in code, block table and new registers, with the other parts of the file, if it
+// fits.
 fn put(
     out: &mut [u8],
     b: &[u8],
@@ -85,7 +86,7 @@ fn put(
     )
 }
 
-// The parts of a file are written as they were sent.
+// Writes the parts of a file as they were sent.
 pub fn put_sent(out: &mut [u8], b: &[u8], l: Layout) -> Answer
     ensures { λ z. ⌜ ((p : Procedure) → Parted p (partsOf (now (b .entry)) l) → outcome z (now (out .exit)) ≡ shortened (unchanged p) (now (out .entry))) ⌝ }
 {
@@ -102,7 +103,7 @@ pub fn put_sent(out: &mut [u8], b: &[u8], l: Layout) -> Answer
     )
 }
 
-// Code, block table and new registers hold what Emit leaves, or what there is where nothing is threaded. Steps behind Emit go
+// Code, block table and new registers hold what Emit left, or what there is if nothing was threaded. Steps after Emit go
 // here, each over the storage in place; then the result is written.
 fn finish(
     out: &mut [u8],
@@ -193,7 +194,7 @@ fn write_emitted(
     )
 }
 
-// What `run` left is emitted where threading edited some block, and written.
+// Emits what `run` left, if threading edited some block, and writes it.
 fn write(
     out: &mut [u8],
     b: &[u8],
@@ -218,7 +219,7 @@ fn write(
     write_same(out, b, l, work, table, kinds, facts, r)
 }
 
-// The steps over the parts of a file, and their result written where it fits.
+// Carries out the steps on the parts of a file and writes the result, if it fits.
 pub fn shorten_in(
     b: &[u8],
     l: Layout,

@@ -78,7 +78,7 @@ tooEarly lead x y b k = cond (eqb b x) (ltb k y) (lead b x)
 abbrev pub later : ℕ → ℕ → ℕ → ℕ → Bool
 later x y b k = eqb b x && ltb y k
 
--- a read of a register whose one writer is of that kind: any will do of a single Const or ConstF
+-- a read of a register whose one writer is of that kind: for a Const or ConstF any read is fine
 abbrev pub wrong : (ℕ → ℕ → Bool) → ℕ → ℕ → ℕ → ℕ → ℕ → Bool
 wrong lead kind x y b k = cond (leb kind 1) false (cond (eqb kind 3) (tooEarly lead x y b k) (not (later x y b k)))
 

@@ -1,4 +1,4 @@
--- What the private functions keep and hand on. Nothing here has to be believed: the contract of `tidy` doesn't name it.
+-- What the private functions keep and pass on. Nothing here has to be believed: the contract of `tidy` doesn't name it.
 pub mod Parts
 pub mod Writers
 pub mod Marks

@@ -21,7 +21,7 @@ fn reach(targets: &[u32; 320], from: BlockId, marks: &mut [bool; 160])
     }
 }
 
-// Whether a block leads to another. The blocks that it leads to are marked once, when they are first asked for.
+// Whether a block leads to another. The blocks that it leads to are marked once, when first needed.
 pub fn leads(targets: &[u32; 320], marks: &mut [bool; 160], from: BlockId, to: BlockId) -> bool
     requires { ⌜ Kept (now targets) (from .0) (now marks) ⌝ }
     ensures { λ z. ⌜ Kept (now (targets .entry)) (from .0) (now (marks .exit)) ⌝ }

@@ -12,7 +12,8 @@ mod reads;
 mod targets;
 mod writers;
 
-// The answer of Tidy: Read's number and place; then 1 where the file is tidy, or 0 and the lowest offending register.
+// The answer of Tidy: Read's number and place; then 1 if the file is tidy, or 0 and the lowest
+// offending register.
 pub struct Tidiness {
     pub number: u32,
     pub place: u32,
@@ -37,7 +38,7 @@ fn judge(b: &[u8], l: Layout) -> Tidiness
     reads::read_blocks(b, l, &ws, &targets, s)
 }
 
-// Asks of a file whether it is tidy.
+// Whether a file is tidy.
 pub fn tidy(b: &[u8]) -> Tidiness
     ensures { λ r. ⌜ r ≡ tidiness (now (b .entry)) ⌝ }
 {

@@ -13,7 +13,7 @@ use inst::Reg;
 use layout::Layout;
 use roles::Roles;
 
-// Whether a read is wrong, by what the table has of its register's writers.
+// Whether a read is wrong, by what the table says about its register's writers.
 fn wrong(v: u32, block: BlockId, place: u32, targets: &[u32; 320], marks: &mut [bool; 160]) -> bool
     requires { ⌜ Kept (now targets) (block .0) (now marks) ⌝ }
     ensures { λ z. ⌜ Kept (now (targets .entry)) (block .0) (now (marks .exit)) ⌝ }
@@ -48,7 +48,7 @@ fn no(r: Reg) -> Tidiness
     }
 }
 
-// The lowest offending register so far, or r.
+// The lower of the lowest offending register so far and r.
 fn lower(s: Tidiness, r: Reg) -> Tidiness
     ensures { λ t. ⌜ t ≡ lowerBy s (r .0) ⌝ }
 {
@@ -104,7 +104,7 @@ fn read_count(operands: usize, roles: Roles) -> usize
     fields + len
 }
 
-// The register that is read in place j.
+// The j-th register that is read.
 fn read_reg(b: &[u8], l: Layout, roles: Roles, j: usize) -> Reg
     requires { ⌜ Fit (recordsOf (now b)) l × Five roles × (j < readCount (l .arms - l .operands) roles) ⌝ }
     ensures { λ r. ⌜ r .0 ≡ getD (allReads (operandsIn (recordsOf (now (b .entry))) l) roles) j 0 ⌝ }
@@ -200,7 +200,7 @@ fn read_block(
     t
 }
 
-// All reads, judged by the table of writers and the targets of the blocks.
+// Checks all reads, by the table of writers and the targets of the blocks.
 pub fn read_blocks(b: &[u8], l: Layout, ws: &[u32], targets: &[u32; 320], s: Tidiness) -> Tidiness
     requires { ⌜ Fit (recordsOf (now b)) l × (l .blocks ≤ length (now ws)) × (length (now targets) ≡ 320) ⌝ }
     ensures { λ t. ⌜ t ≡ judgedIn (now (targets .entry)) (now (ws .entry)) l s (fileReads (now (b .entry)) l) ⌝ }

@@ -8,7 +8,7 @@ use ends::End;
 use inst::BlockId;
 use layout::Layout;
 
-// The targets of a Br or a CondBr; 160 is none.
+// The targets of a Br or a CondBr; 160 means none.
 pub struct Targets {
     pub one: BlockId,
     pub two: BlockId,

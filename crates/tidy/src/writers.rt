@@ -14,7 +14,7 @@ use inst::Reg;
 use layout::Layout;
 use roles::Roles;
 
-// One more writer of r: the first is kept, and a second leaves 1.
+// Adds a writer of r: the first is kept, a second leaves 1.
 fn note_write(ws: &mut [u32], r: Reg, v: u32)
     ensures { λ u. ⌜ now (ws .exit) ≡ note (now (ws .entry)) (r .0) v ⌝ }
 {

@@ -45,7 +45,7 @@ ordered c.Ge x y = leb y x
 unfoldable pub compares : ℕ → ℕ → CmpOp → ℕ → ℕ → ℕ
 compares kind kind′ op x y = bit (ordered op (signed x) (signed y))
 
--- "Bool tests operands against 0, giving 0 or 1"; Not reads the first alone
+-- "Bool tests operands against 0, giving 0 or 1"; Not reads only the first
 abbrev pub tests : BoolOp → ℕ → ℕ → ℕ
 tests b.And x y = bit (holds x && holds y)
 tests b.Or x y = bit (holds x || holds y)

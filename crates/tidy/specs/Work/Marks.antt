@@ -12,7 +12,7 @@ use Rattle.paths.specs.Paths.{reachedFrom}
 use Rattle.search.specs.Search.{clear}
 use Rattle.tidy.specs.Work.Parts.{blocksIn}
 
--- two numbers for each block: its targets, 160 where there is none
+-- two numbers for each block: its targets, 160 if there is none
 unfoldable pub edgesIn : List ℕ → List (List ℕ)
 edgesIn [] = []
 edgesIn (x ∷ []) = []
@@ -36,7 +36,7 @@ pub record TargetsIn (rs : List Record) (l : Layout) (ts : List ℕ) : Type 0 wh
   pub size : length ts ≡ 320
   pub each : (a : ℕ) → a < 160 → PairAt (targetsAt rs l a) ts a
 
--- the marks of the block that is read: clear until they are asked for
+-- the marks for the block being read: clear until they are needed
 pub record Kept (ts : List ℕ) (block : ℕ) (marks : List Bool) : Type 0 where
   pub low : block < 160
   pub size : length ts ≡ 320

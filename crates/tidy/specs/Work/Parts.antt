@@ -29,7 +29,7 @@ blocksIn rs l = map (blockCode rs l) (blockRecords rs l)
 abbrev pub placedAt : ℕ → ℕ → Record → Placed
 placedAt b k r = record { block = b; place = k; inst = instOf r }
 
--- what Read has seen to
+-- what Read has made sure of
 pub record Fit (rs : List Record) (l : Layout) : Type 0 where
   pub few : length rs ≤ 2048
   pub registers : l .blocks ≤ 756

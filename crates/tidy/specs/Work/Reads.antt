@@ -1,4 +1,4 @@
--- The reads, judged one by one by the table of writers; the lowest register so far.
+-- The reads, checked one by one by the table of writers; the lowest register so far.
 use Prim.Native.Nat.{ℕ, _+_, _-_, _/_, _%_, _≤_, min}
 use mathlib.Core.Path.{_≡_}
 use mathlib.Core.List.{List, [], _∷_, _++_, map}
@@ -18,7 +18,7 @@ use Rattle.tidy.specs.Tidy.{Placed, Field, placedIn, placedFrom, fieldsA
 use Rattle.tidy.specs.Work.Parts.{operandsIn, blocksIn, placedAt}
 use Rattle.tidy.specs.Work.Marks.{edgesIn}
 
--- a read at place k of block b judged by the table's number
+-- a read at place k of block b, checked by the table's number
 unfoldable pub judged : List (List ℕ) → ℕ → ℕ → ℕ → Bool
 judged es v b k =
     cond (ltb v 2) false
@@ -35,7 +35,7 @@ unfoldable pub lowered : Tidiness → List ℕ → Tidiness
 lowered s [] = s
 lowered s (r ∷ rs) = lowered (lower s r) rs
 
--- one read more: the edges, n registers and the table; the place of the read; the lowest so far; the register
+-- one more read: the edges, n registers and the table; the place of the read; the lowest so far; the register
 unfoldable pub step : List (List ℕ) → ℕ → List ℕ → ℕ → ℕ → Tidiness → ℕ → Tidiness
 step es n ws b k s r = cond (offence es n ws r b k) (lower s r) s
 
