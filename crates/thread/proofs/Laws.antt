@@ -9,10 +9,10 @@ use mathlib.Core.Option.{Option}
 use borrow.Author.Tests.{ltb-false}
 use lib.Dec.{eqb, ltb, leb}
 use lib.ListN.{length, getD, length-take}
+use Rattle.general.proofs.Booleans.{or-first, or-second}
 use Rattle.inst.specs.declared.Code.{Code}
 use Rattle.inst.specs.declared.Reg.{Reg}
 use Rattle.inst.specs.declared.BlockId.{BlockId}
-use Rattle.round_trips.proofs.Accepted.{or-first, or-second}
 use Rattle.procedure.specs.Lists.{present, holds}
 use Rattle.procedure.specs.Procedure.{codesOf}
 use Rattle.ends.specs.declared.End.{End}

@@ -10,7 +10,7 @@ use borrow.Author.Tests.{le-leb, not-false}
 use lib.Dec.{eqb, ltb}
 use lib.ListN.{length, getD, take, drop, length-take, length-drop, length-map, List·getD-eq-default}
 use lib.Seq.{length-take-le}
-use Rattle.general.proofs.Booleans.{and-first}
+use Rattle.general.proofs.Booleans.{and-first, or-second}
 use Rattle.general.proofs.Numbers.{order}
 use Rattle.records.specs.Record.{recordsOf, recordAt}
 use Rattle.records.proofs.Laws.{length-records}
@@ -37,7 +37,6 @@ use Rattle.hop_br.specs.Storage.{targetIn, copyIn, givenIn}
 use Rattle.hop_br.proofs.Hop as j
 use Rattle.round_trips.specs.WellFormed as wf
 use Rattle.round_trips.proofs.Lists.{all-at}
-use Rattle.round_trips.proofs.Accepted.{or-second}
 use Rattle.step_laws.proofs.Names.{withRegs}
 use Rattle.step_laws.proofs.Threads.{Inv, countsAt}
 use Rattle.step_laws.proofs.Copies.{copied-in, kinds-few}
