@@ -16,6 +16,7 @@ ghost use Rattle.emit.specs.Stage.{Ready, Emitted};
 ghost use Rattle.output.specs.Filed.{outcome, counts, filed, short, formRecords};
 ghost use Rattle.bench_c.specs.Steps.{ranOf, stagedOf, Put};
 ghost use Rattle.bench_c.specs.Forms.{answerOf, sent as sentOf, formOf};
+use output::Changes;
 use steps::Answer;
 
 // How far `run` got before Emit.
@@ -130,9 +131,11 @@ pub extern "C" fn halivomue_put(
         code,
         operands,
         arms,
-        true,
-        grown,
-        rescued,
+        Changes {
+            moved: true,
+            grown,
+            rescued,
+        },
     );
     a.length
 }

@@ -8,6 +8,14 @@ ghost use Rattle.emit_records.specs.Emitted.{place, puts};
 ghost use Rattle.output.specs.Filed.{outcome, counts, filed, wrote, short as shortOf, kindRecords, formRecords};
 use steps::Answer;
 
+// What the steps did to a file, as Shorten reports it: whether anything changed, and how many
+// instructions were copied and rescued. How many registers are new follows from their kinds.
+pub struct Changes {
+    pub moved: bool,
+    pub grown: u32,
+    pub rescued: u32,
+}
+
 // The refusal if the buffer is shorter than the result.
 fn refused() -> Answer
     ensures { λ r. ⌜ r ≡ refusal 9 0 [] .answer ⌝ }
@@ -24,18 +32,18 @@ fn refused() -> Answer
 }
 
 // The answer when n records are written.
-fn answered(n: usize, moved: bool, grown: u32, fresh: u32, rescued: u32) -> Answer
+fn answered(n: usize, fresh: u32, did: Changes) -> Answer
     requires { ⌜ 32 * n < 18446744073709551616 ⌝ }
-    ensures { λ r. ⌜ r ≡ wrote (32 * n) (counts moved grown fresh rescued) ⌝ }
+    ensures { λ r. ⌜ r ≡ wrote (32 * n) (counts (did .moved) (did .grown) fresh (did .rescued)) ⌝ }
 {
     Answer {
         number: 0,
         place: 0,
         length: 32 * n,
-        moved: moved as u32,
-        grown,
+        moved: did.moved as u32,
+        grown: did.grown,
         fresh,
-        rescued,
+        rescued: did.rescued,
     }
 }
 
@@ -106,8 +114,8 @@ fn write(
     emit_records::put_block(out, top, arms)
 }
 
-// Writes what the steps leave, if it fits: the bytes of each class, the kinds of the new registers,
-// and the counts.
+// Writes what the steps leave, if it fits: the bytes of each class, and the kinds of the new
+// registers.
 pub fn put_form(
     out: &mut [u8],
     registers: &[u8],
@@ -117,15 +125,13 @@ pub fn put_form(
     code: &[u8],
     operands: &[u8],
     arms: &[u8],
-    moved: bool,
-    grown: u32,
-    rescued: u32,
+    did: Changes,
 ) -> Answer
     ensures { λ r. ⌜ outcome r (now (out .exit))
         ≡ filed
         (formRecords (now (registers .entry)) (now (kinds .entry)) (now (heads .entry)) (now (body .entry)) (now (code .entry)) (now (operands .entry))
         (now (arms .entry)))
-        (counts moved grown (shortOf (length (now (kinds .entry)))) rescued)
+        (counts (did .moved) (did .grown) (shortOf (length (now (kinds .entry)))) (did .rescued))
         (now (out .entry)) ⌝ }
 {
     let n = measure(registers, kinds, heads, body, code, operands, arms);
@@ -133,5 +139,5 @@ pub fn put_form(
         return refused();
     }
     write(out, registers, kinds, heads, body, code, operands, arms);
-    answered(n, moved, grown, short(kinds.len()), rescued)
+    answered(n, short(kinds.len()), did)
 }

@@ -18,7 +18,7 @@ use Rattle.procedure.specs.Lists.{joined}
 use Rattle.blocks.specs.Blocks.{blocksOf}
 use Rattle.blocks.proofs.Parts.{records-part}
 use Rattle.blocks.proofs.Bytes.{bytes-part}
-use Rattle.steps.specs.Run.{Shortened, withBlocks, withRegisters, armsJoined, emit, run}
+use Rattle.steps.specs.Run.{Shortened, withBlocks, withRegisters, armsJoined, emit, threadedForm}
 use Rattle.steps.specs.Write.{blockRecords}
 use Rattle.facts.specs.Storage.{factsIn, kindsOf}
 use Rattle.thread.proofs.Refined.{workOf}
@@ -99,24 +99,24 @@ module _ (p : Procedure) (x : Parts) {l : Left} (h : LeftOf p x l) where
         copy-words = omega arith;
       }
 
-  well : WellFormed (run p .procedure)
+  well : WellFormed (threadedForm p .procedure)
   well = let r = o .few-registers in let c = o .few-code in run-well-formed p (o .parted .well-formed) (omega arith) (omega arith)
 
   -- nothing threaded
   module _ (off : l .store .at .edited ≡ false) where
-    stays : Still p (run p) (fronted (s .table) (x .heads)) l
+    stays : Still p (threadedForm p) (fronted (s .table) (x .heads)) l
     stays =
-        subst (λ (l : Left). l .store .at .edited ≡ false → Still p (run p) (fronted (s .table) (x .heads)) l) (sym (h .is)) (still lent) off
+        subst (λ (l : Left). l .store .at .edited ≡ false → Still p (threadedForm p) (fronted (s .table) (x .heads)) l) (sym (h .is)) (still lent) off
 
     abbrev code : List ℕ
     code = take (32 * min (sizeOf x) (length (l .store .work) / 32)) (l .store .work)
 
-    same-coded : Coded (run p .procedure .blocks) code (l .store .table)
+    same-coded : Coded (threadedForm p .procedure .blocks) code (l .store .table)
     same-coded =
         let z = stays in
         let work = l .store .work in
         let B = blocksOf work (fronted (s .table) (x .heads)) in
-        let is : B ≡ run p .procedure .blocks = sym (ap (λ (q : Procedure). q .blocks) (z .procedure)) in
+        let is : B ≡ threadedForm p .procedure .blocks = sym (ap (λ (q : Procedure). q .blocks) (z .procedure)) in
         let table : x .heads ≡ l .store .table = sym (z .same-table ∙ heads-are) in
         let c = o .parted .coded in
         let rs : recordsOf code ≡ map recordOf (joined B) =
@@ -137,22 +137,22 @@ module _ (p : Procedure) (x : Parts) {l : Left} (h : LeftOf p x l) where
           head-records = c .head-records ∙ sym (z .coded .heads);
         }))
 
-    pub same-held : Holds (run p .procedure) (recoded x code (l .store .table)) []
+    pub same-held : Holds (threadedForm p .procedure) (recoded x code (l .store .table)) []
     same-held =
         let q = stays .procedure in
-        exchanged (o .parted) (run p .procedure) well (o .parted .registers ∙ sym (ap (λ (q : Procedure). q .registers) q))
+        exchanged (o .parted) (threadedForm p .procedure) well (o .parted .registers ∙ sym (ap (λ (q : Procedure). q .registers) q))
         (sym (ap (λ (q : Procedure). q .body) q)) (sym (ap (λ (q : Procedure). q .operands) q)) (sym (ap (λ (q : Procedure). q .tables) q)) same-coded
 
-    pub same-tells : Tells (run p) (l .joined) 0 0 0
+    pub same-tells : Tells (threadedForm p) (record { moved = l .joined; grown = 0; rescued = 0 }) 0
     same-tells = let z = stays in record { is-moved = z .moved; is-grown = z .grown; is-fresh = z .fresh; is-rescued = z .rescued }
 
   -- some block edited
   module _ (on : l .store .at .edited ≡ true) where
-    edits : Edited p (run p) (fronted (s .work) (x .code)) (fronted (s .table) (x .heads)) (s .kinds) (s .facts) l
+    edits : Edited p (threadedForm p) (fronted (s .work) (x .code)) (fronted (s .table) (x .heads)) (s .kinds) (s .facts) l
     edits =
         subst
         (λ (l : Left). l .store .at .edited ≡ true
-        → Edited p (run p) (fronted (s .work) (x .code)) (fronted (s .table) (x .heads)) (s .kinds) (s .facts) l)
+        → Edited p (threadedForm p) (fronted (s .work) (x .code)) (fronted (s .table) (x .heads)) (s .kinds) (s .facts) l)
         (sym (h .is)) (edited lent) on
 
     abbrev budget : ℕ
@@ -204,22 +204,22 @@ module _ (p : Procedure) (x : Parts) {l : Left} (h : LeftOf p x l) where
       kinds-are : take (l .store .at .fresh) (l .store .kinds) ≡ kinds
       kinds-are = let i = fresh-fits in let n : l .store .at .fresh ≡ m = omega arith in ap (λ (n : ℕ). take n (l .store .kinds)) n
 
-      here : Emitted (run p) u code heads
+      here : Emitted (threadedForm p) u code heads
       here = subst (λ (y : Shortened). Emitted y u code heads) (sym (edits .emitted)) w
 
-      registers-are : p .registers ++ kinds ≡ run p .procedure .registers
+      registers-are : p .registers ++ kinds ≡ threadedForm p .procedure .registers
       unfolding emit
       registers-are = sym (ap (λ (y : Shortened). y .procedure .registers) (edits .emitted) ∙ ap (λ (k : List ℕ). p .registers ++ k) kinds-are)
 
-      pub emitted-held : Holds (run p .procedure) (recoded x (take (32 * u .n) code) heads) kinds
+      pub emitted-held : Holds (threadedForm p .procedure) (recoded x (take (32 * u .n) code) heads) kinds
       unfolding emit
       emitted-held =
           let i = edits .emitted in
-          exchanged (o .parted) (run p .procedure) well (ap (λ (k : List ℕ). k ++ kinds) (kinds-sent (o .parted)) ∙ registers-are)
+          exchanged (o .parted) (threadedForm p .procedure) well (ap (λ (k : List ℕ). k ++ kinds) (kinds-sent (o .parted)) ∙ registers-are)
           (sym (ap (λ (y : Shortened). y .procedure .body) i)) (sym (ap (λ (y : Shortened). y .procedure .operands) i))
           (sym (ap (λ (y : Shortened). y .procedure .tables) i)) (here .coded)
 
-      pub emitted-tells : {grown : ℕ} → grown ≡ short (l .store .at .grown) → Tells (run p) true grown (length kinds) (u .rescued)
+      pub emitted-tells : {grown : ℕ} → grown ≡ short (l .store .at .grown) → Tells (threadedForm p) (record { moved = true; grown = grown; rescued = u .rescued }) (length kinds)
       unfolding emit
       emitted-tells n =
           let i = edits .emitted in

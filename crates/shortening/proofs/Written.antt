@@ -17,6 +17,7 @@ use Rattle.steps.specs.Shorten.{Outcome, fitIf, fit, shortened}
 use Rattle.layout.specs.declared.Layout.{Layout}
 use Rattle.facts.specs.Storage.{kindsOf}
 use Rattle.procedure_parts.specs.Opened.{Parts, partsOf, recoded, Holds}
+use Rattle.output.specs.declared.Changes.{Changes}
 use Rattle.output.specs.Filed.{filed, counts, short, kindRecords, formRecords}
 use Rattle.shortening.specs.Storage.{Tells}
 
@@ -29,16 +30,16 @@ counts-fit s b out = by (ltb (length out) (length b))
     by false = refl
 
 -- a result by its records and counts
-result : (s : Shortened) (rs : List Record) {moved : Bool} {grown fresh rescued : ℕ} (out : List ℕ)
-    → recordsFor (s .procedure) ≡ rs → Tells s moved grown fresh rescued → filed rs (counts moved grown fresh rescued) out ≡ shortened s out
-result s rs {moved} {grown} {fresh} out a t =
+result : (s : Shortened) (rs : List Record) {did : Changes} {fresh : ℕ} (out : List ℕ)
+    → recordsFor (s .procedure) ≡ rs → Tells s did fresh → filed rs (counts (did .moved) (did .grown) fresh (did .rescued)) out ≡ shortened s out
+result s rs {did} {fresh} out a t =
     sym
     (counts-fit s (bytesOf (recordsFor (s .procedure))) out
     ∙ ap (λ (r : List Record). fit (counts (s .moved) (s .grown) (s .fresh) (s .rescued)) (bytesOf r) out) a
     ∙ ap (λ (m : Bool). fit (counts m (s .grown) (s .fresh) (s .rescued)) (bytesOf rs) out) (t .is-moved)
-    ∙ ap (λ (n : ℕ). fit (counts moved n (s .fresh) (s .rescued)) (bytesOf rs) out) (t .is-grown)
-    ∙ ap (λ (n : ℕ). fit (counts moved grown n (s .rescued)) (bytesOf rs) out) (t .is-fresh)
-    ∙ ap (λ (n : ℕ). fit (counts moved grown fresh n) (bytesOf rs) out) (t .is-rescued))
+    ∙ ap (λ (n : ℕ). fit (counts (did .moved) n (s .fresh) (s .rescued)) (bytesOf rs) out) (t .is-grown)
+    ∙ ap (λ (n : ℕ). fit (counts (did .moved) (did .grown) n (s .rescued)) (bytesOf rs) out) (t .is-fresh)
+    ∙ ap (λ (n : ℕ). fit (counts (did .moved) (did .grown) fresh n) (bytesOf rs) out) (t .is-rescued))
 
 -- registers that are sent and those that are new
 registers-front : (sent kinds : List ℕ) (rest : List Record) → kindRecords (sent ++ kinds) ++ rest ≡ kindRecords sent ++ (kindRecords kinds ++ rest)
@@ -61,15 +62,15 @@ module _ {p : Procedure} {x : Parts} {kinds : List ℕ} (h : Holds p x kinds) wh
       omega arith
 
 -- by the parts that were cut
-pub held-written : (b : List ℕ) (l : Layout) {code heads kinds registers body operands arms : List ℕ} {moved : Bool} {grown rescued : ℕ} {o : Outcome}
+pub held-written : (b : List ℕ) (l : Layout) {code heads kinds registers body operands arms : List ℕ} {did : Changes} {o : Outcome}
     (out : List ℕ) → registers ≡ partsOf b l .registers → body ≡ partsOf b l .body → operands ≡ partsOf b l .operands → arms ≡ partsOf b l .arms
-    → o ≡ filed (formRecords registers kinds heads body code operands arms) (counts moved grown (short (length kinds)) rescued) out
-    → (s : Shortened) → Holds (s .procedure) (recoded (partsOf b l) code heads) kinds → Tells s moved grown (length kinds) rescued → o ≡ shortened s out
-held-written b l {code} {heads} {kinds} {moved = moved} {grown} {rescued} out r y p a e s h t =
+    → o ≡ filed (formRecords registers kinds heads body code operands arms) (counts (did .moved) (did .grown) (short (length kinds)) (did .rescued)) out
+    → (s : Shortened) → Holds (s .procedure) (recoded (partsOf b l) code heads) kinds → Tells s did (length kinds) → o ≡ shortened s out
+held-written b l {code} {heads} {kinds} {did = did} out r y p a e s h t =
     let few = few-kinds h in
     let n : short (length kinds) ≡ length kinds = omega arith in
     let x = recoded (partsOf b l) code heads in
     e
     ∙ rw (r, y, p, a) refl
-    ∙ ap (λ (k : ℕ). filed (formRecords (x .registers) kinds heads (x .body) code (x .operands) (x .arms)) (counts moved grown k rescued) out) n
+    ∙ ap (λ (k : ℕ). filed (formRecords (x .registers) kinds heads (x .body) code (x .operands) (x .arms)) (counts (did .moved) (did .grown) k (did .rescued)) out) n
     ∙ result s (formRecords (x .registers) kinds heads (x .body) code (x .operands) (x .arms)) out (held-records h) t

@@ -1,7 +1,6 @@
 -- Storage, not the paper's: what is lent to Shorten, and what it holds before the result is written.
 use Prim.Native.Nat.{ℕ, _+_, _*_, _/_, _≤_, min}
 use mathlib.Core.Path.{_≡_}
-use mathlib.Core.Bool.{Bool}
 use mathlib.Core.List.{List, map}
 use lib.ListN.{length}
 use lib.Seq.{paste}
@@ -11,6 +10,7 @@ use Rattle.procedure.specs.Procedure.{Procedure, firstOf}
 use Rattle.steps.specs.Run.{Shortened}
 use Rattle.procedure_parts.specs.Opened.{Parts, Opened}
 use Rattle.run.specs.Ran.{Left, ranIn, NoStep}
+use Rattle.output.specs.declared.Changes.{Changes}
 
 -- some bytes written over the start of others, as far as there is room
 abbrev pub fronted : List ℕ → List ℕ → List ℕ
@@ -66,8 +66,8 @@ pub record LeftOf (p : Procedure) (x : Parts) (l : Left) : Type 0 where
   pub is : l ≡ leftIn x storage
 
 -- the counts of a result, as they are reported
-pub record Tells (s : Shortened) (moved : Bool) (grown fresh rescued : ℕ) : Type 0 where
-  pub is-moved : s .moved ≡ moved
-  pub is-grown : s .grown ≡ grown
+pub record Tells (s : Shortened) (did : Changes) (fresh : ℕ) : Type 0 where
+  pub is-moved : s .moved ≡ did .moved
+  pub is-grown : s .grown ≡ did .grown
   pub is-fresh : s .fresh ≡ fresh
-  pub is-rescued : s .rescued ≡ rescued
+  pub is-rescued : s .rescued ≡ did .rescued

@@ -14,6 +14,7 @@ ghost use Rattle.output.specs.Filed.{outcome};
 ghost use Rattle.shortening.specs.Storage.{fronted, lent, NoStepIn, Tells, LeftOf, Enough, Staging};
 use inst::BlockId;
 use layout::Layout;
+use output::Changes;
 use pause::Pause;
 use run::Ran;
 use steps::Answer;
@@ -62,13 +63,11 @@ fn put(
     code: &[u8],
     heads: &[u8],
     kinds: &[u8],
-    moved: bool,
-    grown: u32,
-    rescued: u32,
+    did: Changes,
 ) -> Answer
     ensures { λ z. ⌜ ((s : Shortened)
         → Holds (s .procedure) (recoded (partsOf (now (b .entry)) l) (now (code .entry)) (now (heads .entry))) (now (kinds .entry))
-        → Tells s moved grown (length (now (kinds .entry))) rescued
+        → Tells s did (length (now (kinds .entry)))
         → outcome z (now (out .exit)) ≡ shortened s (now (out .entry))) ⌝ }
 {
     output::put_form(
@@ -80,9 +79,7 @@ fn put(
         code,
         parts::part(b, l.operands, l.arms),
         parts::part(b, l.arms, l.end),
-        moved,
-        grown,
-        rescued,
+        did,
     )
 }
 
@@ -97,9 +94,11 @@ pub fn put_sent(out: &mut [u8], b: &[u8], l: Layout) -> Answer
         parts::part(b, l.code, l.operands),
         parts::part(b, l.blocks, l.bodies),
         &b[..0],
-        false,
-        0,
-        0,
+        Changes {
+            moved: false,
+            grown: 0,
+            rescued: 0,
+        },
     )
 }
 
@@ -112,16 +111,14 @@ fn finish(
     code: &mut [u8],
     heads: &mut [u8],
     kinds: &[u8],
-    moved: bool,
-    grown: u32,
-    rescued: u32,
+    did: Changes,
 ) -> Answer
     ensures { λ z. ⌜ ((s : Shortened)
         → Holds (s .procedure) (recoded (partsOf (now (b .entry)) l) (now (code .entry)) (now (heads .entry))) (now (kinds .entry))
-        → Tells s moved grown (length (now (kinds .entry))) rescued
+        → Tells s did (length (now (kinds .entry)))
         → outcome z (now (out .exit)) ≡ shortened s (now (out .entry))) ⌝ }
 {
-    put(out, b, l, code, heads, kinds, moved, grown, rescued)
+    put(out, b, l, code, heads, kinds, did)
 }
 
 // Nothing is threaded: the storage holds the result already, the code with its equal arms joined.
@@ -147,9 +144,11 @@ fn write_same(
         &mut work[..32 * m],
         table,
         &kinds[..0],
-        r.joined,
-        0,
-        0,
+        Changes {
+            moved: r.joined,
+            grown: 0,
+            rescued: 0,
+        },
     )
 }
 
@@ -188,9 +187,11 @@ fn write_emitted(
         &mut code[..32 * n],
         heads,
         &kinds[..m],
-        true,
-        grown,
-        e.rescued,
+        Changes {
+            moved: true,
+            grown,
+            rescued: e.rescued,
+        },
     )
 }
 

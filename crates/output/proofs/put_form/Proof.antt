@@ -20,7 +20,7 @@ returns c =
     let rs = formRecords (now (a .registers)) (now (a .kinds)) (now (a .heads)) (now (a .body)) (now (a .code)) (now (a .operands)) (now (a .arms)) in
     let n = m .measure .ensures in
     let t = i .if1 .taken in
-    filed-refused rs (counts (a .moved) (a .grown) (short (length (now (a .kinds)))) (a .rescued)) (now (a .out)) (omega arith) (c .refused .ensures)
+    filed-refused rs (counts (a .did .moved) (a .did .grown) (short (length (now (a .kinds)))) (a .did .rescued)) (now (a .out)) (omega arith) (c .refused .ensures)
 
 answered-requires : tie.Need-answered-requires
 answered-requires c κs =
@@ -38,8 +38,8 @@ returns-2 c =
     let q : tie.After-answered = search in
     let a = start-of m .args in
     let rs = formRecords (now (a .registers)) (now (a .kinds)) (now (a .heads)) (now (a .body)) (now (a .code)) (now (a .operands)) (now (a .arms)) in
-    filed-written rs (counts (a .moved) (a .grown) (short (length (now (a .kinds)))) (a .rescued)) (now (a .out)) (m .measure .ensures) (i .if1 .left)
-    (q .answered .ensures ∙ ap (λ (x : ℕ). wrote (32 * m .measure .result) (counts (a .moved) (a .grown) x (a .rescued))) (k .short .ensures))
+    filed-written rs (counts (a .did .moved) (a .did .grown) (short (length (now (a .kinds)))) (a .did .rescued)) (now (a .out)) (m .measure .ensures) (i .if1 .left)
+    (q .answered .ensures ∙ ap (λ (x : ℕ). wrote (32 * m .measure .result) (counts (a .did .moved) (a .did .grown) x (a .did .rescued))) (k .short .ensures))
     (w .write .ensures)
 
 pub put-form-spec : {M : Type 1} → statement M

@@ -5,7 +5,7 @@ use mathlib.Core.Logic.{⊎-elim}
 use denote.Ref.{now}
 use lib.ListN.{length, length-take}
 use Rattle.procedure.specs.Lists.{joined}
-use Rattle.steps.specs.Run.{armsJoined, run}
+use Rattle.steps.specs.Run.{armsJoined, threadedForm}
 use Rattle.procedure_parts.specs.Opened.{partsOf}
 use Rattle.thread.specs.Storage.{store}
 use Rattle.thread.proofs.Refined.{workOf}
@@ -63,7 +63,7 @@ returns c p h g on =
     let x = partsOf (now (a .b)) (a .l) in
     let w = q .emit .ensures .1 (armsJoined p .procedure) (workOf (store (now (a .work)) (now (a .table)) (now (a .kinds)) (a .r .at))) (p .body)
     (length (joined (p .blocks)) / 2 + 32) (ready p x h on (length (now (a .code))) (length (now (a .heads))) (y .part .ensures) g) in
-    f .finish .ensures (run p) (emitted-held p x h on w (m .least .ensures))
+    f .finish .ensures (threadedForm p) (emitted-held p x h on w (m .least .ensures))
     (emitted-tells p x h on w (m .least .ensures) (⊎-elim (λ w. omega arith) (λ w. omega arith) (i .if1 .came)))
 
 pub write-emitted-spec : {M : Type 1} → statement M

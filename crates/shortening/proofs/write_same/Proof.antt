@@ -4,7 +4,7 @@ use mathlib.Core.Path.{sym, ap, subst, _∙_}
 use mathlib.Core.List.{List, []}
 use denote.Ref.{now}
 use lib.ListN.{length, take, length-take}
-use Rattle.steps.specs.Run.{run}
+use Rattle.steps.specs.Run.{threadedForm}
 use Rattle.procedure_parts.specs.Opened.{partsOf, recoded, Holds}
 use Rattle.shortening.proofs.Left.{same-held, same-tells}
 use borrow.Author.Needs.{needs}
@@ -31,8 +31,8 @@ returns c p h off =
     let a = start-of p1 .args in
     let x = partsOf (now (a .b)) (a .l) in
     let n = m .least .ensures ∙ ap (λ (y : List ℕ). min (length y / 32) (length (now (a .work)) / 32)) (p1 .part .ensures) in
-    q .finish .ensures (run p)
-    (subst (λ (n : ℕ). Holds (run p .procedure) (recoded x (take (32 * n) (now (a .work))) (now (a .table))) []) (sym n) (same-held p x h off))
+    q .finish .ensures (threadedForm p)
+    (subst (λ (n : ℕ). Holds (threadedForm p .procedure) (recoded x (take (32 * n) (now (a .work))) (now (a .table))) []) (sym n) (same-held p x h off))
     (same-tells p x h off)
 
 pub write-same-spec : {M : Type 1} → statement M
