@@ -1,6 +1,6 @@
 -- Laws of Booleans.
 use mathlib.Core.Path.{_≡_, refl, sym, ap, subst, _∙_}
-use mathlib.Core.Bool.{Bool, true, false, not, _&&_, _||_, false≢true}
+use mathlib.Core.Bool.{Bool, true, false, not, _&&_, _||_, false≢true, true≢false}
 use mathlib.Core.Logic.{_⊎_, inl, inr}
 use lib.Dec.{T}
 
@@ -21,6 +21,14 @@ and-first false b e = e
 pub and-second : (a b : Bool) → (a && b) ≡ true → b ≡ true
 and-second true b e = e
 and-second false b e = absurd (false≢true e)
+
+pub or-first : (a b : Bool) → (a || b) ≡ false → a ≡ false
+or-first true b e = absurd (true≢false e)
+or-first false b e = refl
+
+pub or-second : (a b : Bool) → (a || b) ≡ false → b ≡ false
+or-second true b e = absurd (true≢false e)
+or-second false b e = e
 
 -- what a conjunction comes to once its first part is known
 pub both : {h a b x : Bool} → h ≡ a → h ≡ true → x ≡ b → x ≡ (a && b)

@@ -1,26 +1,25 @@
 -- What the layout of a file in order says of its classes, and the answers that follow.
 use Prim.Native.Nat.{ℕ, zero, suc, _+_, _-_, _≤_, _<_}
-use native.Mathlib.Nat.{zero-add, add-assoc, suc-add}
+use native.Mathlib.Nat.{zero-add, suc-add}
 use native.Mathlib.Omega.{arith}
-use mathlib.Core.Path.{_≡_, refl, sym, ap, subst, _∙_}
-use mathlib.Core.Bool.{Bool, true, false, _||_, cond}
+use mathlib.Core.Path.{_≡_, refl, sym, ap, _∙_}
+use mathlib.Core.Bool.{Bool, true, false, cond}
 use mathlib.Core.List.{List, [], _∷_}
-use mathlib.Core.Logic.{_⊎_, inl, inr, ⊎-elim}
+use mathlib.Core.Logic.{_⊎_, inl, inr}
 use borrow.Author.Tests.{lt-ltb, le-ltb, eq-eqb, ltb-true, ltb-false, leb-true, eqb-true}
 use lib.Dec.{ltb, leb, eqb}
-use lib.ListN.{length, getD, take, drop}
+use lib.ListN.{length, take, drop}
 use lib.Seq.{take-all}
-use Rattle.general.proofs.Booleans.{and-first, and-second, cases}
+use Rattle.general.proofs.Booleans.{cases, and-first, and-second, or-second}
 use Rattle.records.specs.declared.Record.{Record}
-use Rattle.records.specs.Record.{blank}
 use Rattle.record_rules.specs.declared.exist.Counts.{Counts}
 use Rattle.record_rules.specs.Exist.{namesExist}
 use Rattle.record_rules.proofs.Laws.{no-names}
 use Rattle.layout.specs.declared.Layout.{Layout}
 use Rattle.layout.specs.Walk.{walk, lead}
 use Rattle.layout.specs.Classes.{inOrder, ordered, ofClass, before, layoutOf}
-use Rattle.layout.proofs.Walks.{walk-pass, walk-head, walk-tail, walk-le, lead-le}
-use Rattle.layout.proofs.Order.{Sorted, sorted-of, before-none, before-count, before-end, ordered-end, of-part, tail-in, class-from, before-in, before-out}
+use Rattle.layout.proofs.Walks.{walk-pass, walk-head, walk-tail, walk-le}
+use Rattle.layout.proofs.Order.{Sorted, sorted-of, before-none, before-count, before-end, ordered-end, of-part, tail-in, before-in, before-out}
 use Rattle.read.specs.declared.Reading.{Reading}
 use Rattle.read.specs.Structure.{State, tiles, nextBlock, tiled, ended, numbered, tables}
 use Rattle.read.specs.Reading.{answer, unless, countsOf, named, beyond, beyondLimit}
@@ -63,6 +62,19 @@ refuse-at number first k n o e f h = e ∙ ap (answer number) f ∙ sym (rw (lt-
 pub pass-on : (number first k n : ℕ) {o x : Reading} → n ≤ k → x ≡ o → x ≡ unless number first k n o
 unfolding unless
 pass-on number first k n h e = e ∙ sym (rw (le-ltb k n h))
+
+-- a condition that an accepted file passed
+pub passed : (number first k n : ℕ) (o : Reading) → 0 < number → unless number first k n o .number ≡ 0 → (n ≤ k) × (o .number ≡ 0)
+unfolding unless
+passed number first k n o h e = by (cases (ltb k n))
+  where
+    by : (ltb k n ≡ true) ⊎ (ltb k n ≡ false) → (n ≤ k) × (o .number ≡ 0)
+    by (inl t) = absurd (let i : number ≡ 0 = sym (rw t) ∙ e in omega arith)
+    by (inr t) = (ltb-false k n t, sym (rw t) ∙ e)
+
+pub held : (b : Bool) (number place : ℕ) (o : Reading) → 0 < number → cond b (answer number place) o .number ≡ 0 → (b ≡ false) × (o .number ≡ 0)
+held true number place o h e = absurd (omega arith)
+held false number place o h e = (refl, e)
 
 -- registers and blocks name nothing
 pub names-from : (n : Counts) (p : ℕ) (rs : List Record) → Sorted p rs → lead (namesExist n) rs ≡ before 3 rs + lead (namesExist n) (drop (before 3 rs) rs)
@@ -189,10 +201,6 @@ beyond-is {rs} {l} h =
     let e : l .arms - l .operands ≡ length (ofClass 5 rs) = omega arith in
     let f : l .end - l .arms ≡ length (ofClass 6 rs) = omega arith in
     rw (b, c, d, e, f, z .registers)
-
-or-second : (a b : Bool) → (a || b) ≡ false → b ≡ false
-or-second true b e = absurd (mathlib.Core.Bool.true≢false e)
-or-second false b e = e
 
 pub few-arms : (a b c d e f : ℕ) → beyond a b c d e f ≡ false → f ≤ 128
 few-arms a b c d e f h =

@@ -1,23 +1,21 @@
 -- The seven conditions of Read, as facts of a file's records.
-use Prim.Native.Nat.{ℕ, _%_, _≤_, _<_}
+use Prim.Native.Nat.{ℕ, _%_, _≤_}
 use native.Mathlib.Omega.{arith}
-use mathlib.Core.Path.{_≡_, refl, sym, _∙_}
-use mathlib.Core.Bool.{Bool, true, false, _||_, not, cond, true≢false}
+use mathlib.Core.Path.{_≡_, refl, sym}
+use mathlib.Core.Bool.{true, false, not}
 use mathlib.Core.List.{List}
-use mathlib.Core.Logic.{_⊎_, inl, inr}
 use borrow.Author.Tests.{ltb-false, eqb-true, eqb-false, eq-eqb, ne-eqb, le-ltb, not-false}
 use lib.Dec.{eqb, ltb}
 use lib.ListN.{length}
-use Rattle.general.proofs.Booleans.{cases}
+pub use Rattle.general.proofs.Booleans.{or-first, or-second}
 use Rattle.records.specs.declared.Record.{Record}
 use Rattle.records.specs.Record.{recordsOf}
 use Rattle.record_rules.specs.Exist.{namesExist}
 use Rattle.layout.specs.Classes.{ofClass, ordered, before, inOrder}
 use Rattle.layout.proofs.Walks.{walk-le, lead-le}
-use Rattle.read.specs.declared.Reading.{Reading}
 use Rattle.read.specs.Structure.{tiles, nextBlock, tiled, endsWell, ended, numbers, nextArm, numbered, codeOf as recordsOfBlock}
-use Rattle.read.specs.Reading.{unless, answer, checked, readRecords, readBlocks, readTables, countsOf, named, beyond, beyondLimit, wrongLength}
-use Rattle.read.proofs.Laid.{pass-on}
+use Rattle.read.specs.Reading.{answer, checked, readRecords, readBlocks, readTables, countsOf, named, beyond, beyondLimit, wrongLength}
+use Rattle.read.proofs.Laid.{passed, held, pass-on}
 use Rattle.round_trips.specs.WellFormed.{All}
 use Rattle.round_trips.proofs.Lists.{lead-all, all-lead}
 use Rattle.round_trips.proofs.Sections.{InOrder}
@@ -47,14 +45,6 @@ pub record Accepted (rs : List Record) : Type 0 where
   pub number : Numbered 0 (ofClass 6 rs)
   pub name : All (λ r. namesExist (countsOf rs) r ≡ true) rs
 
-pub or-first : (a b : Bool) → (a || b) ≡ false → a ≡ false
-or-first true b e = absurd (true≢false e)
-or-first false b e = refl
-
-pub or-second : (a b : Bool) → (a || b) ≡ false → b ≡ false
-or-second true b e = absurd (true≢false e)
-or-second false b e = e
-
 module _ (a b c d e f : ℕ) where
   within-of : beyond a b c d e f ≡ false → Within a b c d e f
   within-of h =
@@ -79,19 +69,6 @@ module _ (a b c d e f : ℕ) where
       let s = w .some-block in
       rw (le-ltb 756 a (w .registers), le-ltb 160 b (w .blocks), ne-eqb b 0 (λ i. omega arith), le-ltb 1 c (w .bodies))
       (rw (le-ltb 756 d (w .code), le-ltb 128 e (w .operands), le-ltb 128 f (w .arms)))
-
--- a condition that an accepted file passed
-passed : (number first k n : ℕ) (o : Reading) → 0 < number → unless number first k n o .number ≡ 0 → (n ≤ k) × (o .number ≡ 0)
-unfolding unless
-passed number first k n o h e = by (cases (ltb k n))
-  where
-    by : (ltb k n ≡ true) ⊎ (ltb k n ≡ false) → (n ≤ k) × (o .number ≡ 0)
-    by (inl t) = absurd (let i : number ≡ 0 = sym (rw t) ∙ e in omega arith)
-    by (inr t) = (ltb-false k n t, sym (rw t) ∙ e)
-
-held : (b : Bool) (number place : ℕ) (o : Reading) → 0 < number → cond b (answer number place) o .number ≡ 0 → (b ≡ false) × (o .number ≡ 0)
-held true number place o h e = absurd (omega arith)
-held false number place o h e = (refl, e)
 
 all-of : {k n : ℕ} → k ≤ n → n ≤ k → k ≡ n
 all-of h i = omega arith

@@ -7,7 +7,7 @@ use mathlib.Core.List.{List, [], _∷_, _++_}
 use mathlib.Core.Logic.{_⊎_, inl, inr}
 use lib.Dec.{leb}
 use lib.ListN.{length, length-append}
-use Rattle.general.proofs.Booleans.{cases, and-first}
+use Rattle.general.proofs.Booleans.{cases, and-first, or-first, or-second}
 use Rattle.record_rules.specs.declared.exist.Counts.{Counts}
 use Rattle.ends.specs.Ends.{terminatorOf}
 use Rattle.inst.specs.declared.Code.{Code}
@@ -20,7 +20,6 @@ use Rattle.steps.specs.Facts.{Facts}
 use Rattle.steps.specs.Emit.{isJump, isLast, stays, emptied, emptyFrom, isRescued, rescuedOf, rescues, ontoFront}
 use Rattle.round_trips.specs.WellFormed.{All, Ends, Sound, BlockIn}
 use Rattle.round_trips.proofs.Lists.{all-append, all-turn}
-use Rattle.round_trips.proofs.Accepted.{or-first, or-second}
 use Rattle.step_laws.proofs.Blocks.{fixed-goes-on, ends-append, final-sound, br-final}
 
 -- a block that goes is not the last

@@ -9,6 +9,7 @@ use borrow.Author.Tests.{ltb-true, ltb-false, eqb-true, eqb-false}
 use lib.Dec.{eqb, ltb}
 use lib.ListN.{length, take, drop}
 use lib.Seq.{take-append-seam}
+use Rattle.general.proofs.Booleans.{or-first, or-second}
 use Rattle.records.specs.declared.Record.{Record}
 use Rattle.records.specs.Record.{recordsOf}
 use Rattle.put_record.specs.Store.{Bytes}
@@ -21,7 +22,6 @@ use Rattle.steps.specs.Run.{Shortened, run}
 use Rattle.steps.specs.Write.{recordsFor, bytesOf}
 use Rattle.steps.specs.Shorten.{refusal, success, fitIf, above, runUnless, acceptIf, shortenWithin, shorten, instructions}
 use Rattle.round_trips.specs.WellFormed.{WellFormed}
-use Rattle.round_trips.proofs.Accepted.{or-first, or-second}
 use Rattle.round_trips.proofs.Laws.{read-well-formed, read-registers, read-code, write-back, written-few, written-accepted, written-code}
 use Rattle.step_laws.proofs.Laws.{run-same, run-sized, run-well-formed}
 

@@ -8,7 +8,7 @@ use mathlib.Core.Logic.{_⊎_, inl, inr}
 use borrow.Author.Tests.{leb-true, ltb-false, not-false}
 use lib.Dec.{eqb, ltb, leb}
 use lib.ListN.{length, getD, length-append, length-set, List·getD-eq-default}
-use Rattle.general.proofs.Booleans.{and-first}
+use Rattle.general.proofs.Booleans.{and-first, or-first, or-second}
 use Rattle.general.proofs.Numbers.{order}
 use Rattle.record_rules.specs.declared.exist.Counts.{Counts}
 use Rattle.inst.specs.declared.Reg.{Reg}
@@ -29,7 +29,6 @@ use Rattle.steps.specs.Thread.{Work, blockAt, edit, matching, armOf, stops, nex
 use Rattle.steps.proofs.Edits.{sourceAt, turned, joinedTo, Edit, joins, folds, turns, Edits, nil, then}
 use Rattle.round_trips.specs.WellFormed.{All, BlockIn}
 use Rattle.round_trips.proofs.Lists.{all-at, all-turn, all-append}
-use Rattle.round_trips.proofs.Accepted.{or-first, or-second}
 use Rattle.step_laws.proofs.Names.{withRegs, more-block}
 use Rattle.step_laws.proofs.Blocks.{all-set, joined-set, EndIn, end-in, lone-in, inside, front-length, joined-in}
 use Rattle.step_laws.proofs.Blocks.{end-length, Final, end-with, br-final, condbr-final}

@@ -1,10 +1,9 @@
 -- What a file that Read accepts is, for the steps of Tidy.
 use Prim.Native.Nat.{ℕ, _-_, _%_, _≤_, _<_}
 use native.Mathlib.Omega.{arith}
-use mathlib.Core.Path.{_≡_, refl, sym, ap, subst, _∙_}
-use mathlib.Core.Bool.{Bool, true, false, _||_, not, cond}
+use mathlib.Core.Path.{_≡_, sym, ap, subst, _∙_}
+use mathlib.Core.Bool.{false, not, cond}
 use mathlib.Core.List.{List, [], map}
-use mathlib.Core.Logic.{_⊎_, inl, inr}
 use borrow.Author.Tests.{ltb-false, eq-eqb, ne-eqb}
 use lib.Dec.{eqb, ltb}
 use lib.ListN.{length, getD, replicate, length-map, length-replicate, getD-replicate, List·getD-map}
@@ -13,13 +12,13 @@ use Rattle.records.specs.Record.{recordsOf}
 use Rattle.records.proofs.Laws.{length-records}
 use Rattle.layout.specs.declared.Layout.{Layout}
 use Rattle.layout.specs.Classes.{ofClass, inOrder, ordered}
-use Rattle.general.proofs.Booleans.{cases}
+use Rattle.general.proofs.Booleans.{or-first, or-second}
 use Rattle.layout.proofs.Walks.{walk-le}
 use Rattle.read.specs.declared.Reading.{Reading}
 use Rattle.read.specs.Structure.{tiles, nextBlock, tiled, codeOf as recordsOfBlock}
-use Rattle.read.specs.Reading.{unless, answer, checked, readRecords, readBlocks, beyond, beyondLimit, wrongLength}
+use Rattle.read.specs.Reading.{answer, checked, readRecords, readBlocks, beyond, beyondLimit, wrongLength}
 use Rattle.read.specs.Work.{InCode, LaidOut}
-use Rattle.read.proofs.Laid.{sizes, class-part, in-tiles}
+use Rattle.read.proofs.Laid.{passed, held, sizes, class-part, in-tiles}
 use Rattle.codec.specs.Codec.{codeOf}
 use Rattle.procedure.specs.Procedure.{procedureOf}
 use Rattle.ends.specs.Ends.{endOf, targets}
@@ -55,27 +54,6 @@ module _ {rs : List Record} {l : Layout} (h : LaidOut rs l) where
   pub the-registers : length (procedureOf rs .registers) ≡ l .blocks
   unfolding procedureOf
   the-registers = length-map (ofClass 1 rs) (λ r. r .kind) ∙ sym (sizes h .registers)
-
--- the conditions, taken off one by one
-passed : (number first k n : ℕ) (o : Reading) → 0 < number → unless number first k n o .number ≡ 0 → (n ≤ k) × (o .number ≡ 0)
-unfolding unless
-passed number first k n o h e = by (cases (ltb k n))
-  where
-    by : (ltb k n ≡ true) ⊎ (ltb k n ≡ false) → (n ≤ k) × (o .number ≡ 0)
-    by (inl t) = absurd (let i : number ≡ 0 = sym (rw t) ∙ e in omega arith)
-    by (inr t) = (ltb-false k n t, sym (rw t) ∙ e)
-
-held : (b : Bool) (number place : ℕ) (o : Reading) → 0 < number → cond b (answer number place) o .number ≡ 0 → (b ≡ false) × (o .number ≡ 0)
-held true number place o h e = absurd (omega arith)
-held false number place o h e = (refl, e)
-
-or-first : (a b : Bool) → (a || b) ≡ false → a ≡ false
-or-first true b e = absurd (mathlib.Core.Bool.true≢false e)
-or-first false b e = refl
-
-or-second : (a b : Bool) → (a || b) ≡ false → b ≡ false
-or-second true b e = absurd (mathlib.Core.Bool.true≢false e)
-or-second false b e = e
 
 within : (a b c d e f : ℕ) → beyond a b c d e f ≡ false → (a ≤ 756) × (b ≤ 160)
 within a b c d e f h = (ltb-false 756 a (or-first (ltb 756 a) _ h), ltb-false 160 b (or-first (ltb 160 b) _ (or-second (ltb 756 a) _ h)))
