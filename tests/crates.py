@@ -15,7 +15,7 @@ ROOT = os.path.dirname(os.path.dirname(os.path.abspath(__file__)))
 os.chdir(ROOT)
 KIT = ("check", "libc", "io", "os", "bytes")
 # What the functions of a crate take or give, or a type holds, of another crate's types; each before what it leads to.
-HELD = {"shortening": {"pause"}, "run": {"thread"}, "pause": {"inst"}, "ops": {"inst"}, "items": {"inst"}, "inst": {"real"}}
+HELD = {"shorten": {"steps"}, "shortening": {"pause"}, "run": {"thread"}, "pause": {"inst"}, "ops": {"inst"}, "items": {"inst"}, "inst": {"real"}}
 ROW = re.compile(r"^([a-z_0-9]+):(.*)$", re.M)
 
 

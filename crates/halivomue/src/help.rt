@@ -1,6 +1,4 @@
 // What the program says of itself: on standard output where it is asked, else on standard error.
-use crate::line;
-use crate::quote;
 use crate::status;
 use crate::status::Status;
 use libc::STDERR_FILENO;
@@ -9,7 +7,8 @@ use libc::STDOUT_FILENO;
 fn say_usage(fd: i32) -> bool {
     io::write_all(
         fd,
-        b"usage: halivomue read|tidy|list [--words] [--] [FILE..]
+        b"usage: halivomue read|tidy [--words] [--] [FILE..]
+       halivomue list [--words] [--only PART] [--] [FILE..]
        halivomue shorten [--words] [--] IN OUT
        halivomue --help|--version
 ",
@@ -22,7 +21,7 @@ pub fn usage() -> Status {
 }
 
 pub fn version() -> Status {
-    status::of(line::say(b"halivomue 0.3\n"))
+    status::of(files::say(b"halivomue 0.4\n"))
 }
 
 pub fn help() -> Status {
@@ -30,12 +29,13 @@ pub fn help() -> Status {
         os::fail(b"standard output");
         return Status::Failed;
     }
-    status::of(line::say(
+    status::of(files::say(
         b"  read      of each file: accepted, or refused, number and record
   tidy      of each file: yes, or no and the lowest offending register, or refused
   list      of each file: counts, registers, blocks and code of its shortened form, or refused
   shorten   writes the shortened form of IN to OUT, whole or not at all, and prints the counts
   --words   what the numbers mean, beside them
+  --only    the part of the listing: counts, registers, blocks or code; also --only=PART
   --status  writes 0, 1 (a file was refused or failed) or 2 (usage) to descriptor 3
   --        what follows are names, even with a dash in front
 Without a name the bare answer of standard input; the name - is standard input. OUT is a file.
@@ -51,6 +51,33 @@ pub fn wrong_names() -> Status {
 ",
     );
     usage()
+}
+
+// Of `--only`: no value, another than the four, or another command than `list`.
+pub fn no_part() -> Status {
+    io::write_all(
+        STDERR_FILENO,
+        b"halivomue: --only wants counts, registers, blocks or code\n",
+    );
+    Status::Usage
+}
+
+pub fn wrong_part(word: &[u8]) -> Status {
+    let mut text = [0u8; 1024];
+    let n = line::put(
+        &mut text,
+        0,
+        b"halivomue: --only wants counts, registers, blocks or code, not '",
+    );
+    let n = quote::put_name(&mut text, n, word);
+    let n = line::put(&mut text, n, b"'\n");
+    io::write_all(STDERR_FILENO, &text[..n]);
+    Status::Usage
+}
+
+pub fn only_for_list() -> Status {
+    io::write_all(STDERR_FILENO, b"halivomue: --only is for list\n");
+    Status::Usage
 }
 
 // A word that is no command, or no option.

@@ -1,35 +1,66 @@
 // The program: read, tidy, list and shorten, over files and standard input.
-use answer::Question;
-use options::Options;
+use arguments::Options;
+use replies::Ask;
+use replies::Question;
+use replies::list::Part;
 use status::Status;
 
-mod answer;
-mod counts;
-mod files;
+mod arguments;
+mod each_file;
 mod help;
-mod input;
-mod line;
-mod listing;
-mod options;
-mod quote;
-mod reading;
-mod refusal;
-mod replace;
 mod shortened;
 mod status;
-mod tidiness;
+
+fn ask(o: Options, question: Question) -> Status {
+    let all = Ask {
+        question: question,
+        part: Part::All,
+        words: o.words,
+    };
+    each_file::answer_all(o, all)
+}
+
+fn list_only(o: Options, part: Part) -> Status {
+    let some = Ask {
+        question: Question::List,
+        part: part,
+        words: o.words,
+    };
+    each_file::answer_all(o, some)
+}
+
+fn list_named(o: Options, name: &[u8]) -> Status {
+    let part = replies::list::part_named(name);
+    match part {
+        Part::Unknown => help::wrong_part(name),
+        _ => list_only(o, part),
+    }
+}
+
+fn list(o: Options) -> Status {
+    if o.only.at == 0 {
+        return ask(o, Question::List);
+    }
+    let mut word = io::buffer();
+    let n = os::arg(o.only.at, &mut word);
+    let from = line::front(&word[..n], o.only.from);
+    list_named(o, &word[from..n])
+}
 
 fn command(o: Options) -> Status {
     let mut word = io::buffer();
     let n = os::arg(o.command, &mut word);
+    if check::same(&word[..n], b"list") {
+        return list(o);
+    }
+    if o.only.at != 0 {
+        return help::only_for_list();
+    }
     if check::same(&word[..n], b"read") {
-        return files::answer_all(o, Question::Read);
+        return ask(o, Question::Read);
     }
     if check::same(&word[..n], b"tidy") {
-        return files::answer_all(o, Question::Tidy);
-    }
-    if check::same(&word[..n], b"list") {
-        return files::answer_all(o, Question::List);
+        return ask(o, Question::Tidy);
     }
     if check::same(&word[..n], b"shorten") {
         return shortened::shorten_file(o);
@@ -47,6 +78,9 @@ fn run(o: Options) -> Status {
     if o.version {
         return help::version();
     }
+    if o.wants {
+        return help::no_part();
+    }
     if o.command == 0 {
         return help::usage();
     }
@@ -54,7 +88,7 @@ fn run(o: Options) -> Status {
 }
 
 fn main() {
-    let o = options::scan();
+    let o = arguments::scan();
     let status = run(o);
     if o.status {
         status::tell(status);

@@ -1,16 +1,11 @@
 // The command `shorten`.
-use crate::counts;
+use crate::arguments;
+use crate::arguments::Options;
 use crate::help;
-use crate::input;
-use crate::input::Input;
-use crate::line;
-use crate::listing;
-use crate::options::Options;
-use crate::quote;
-use crate::refusal;
-use crate::replace;
 use crate::status;
 use crate::status::Status;
+use files::Input;
+use libc::STDERR_FILENO;
 use libc::STDIN_FILENO;
 
 // Tells why the file whose name of n bytes stands in the text failed, while errno says so.
@@ -20,7 +15,7 @@ fn fail(text: &mut [u8], n: usize, what: &[u8]) {
 }
 
 fn read_open(fd: i32, text: &mut [u8], n: usize, bytes: &mut [u8]) -> Input {
-    let got = input::read_whole(fd, bytes);
+    let got = files::read_whole(fd, bytes);
     if !got.ok {
         fail(text, n, b": cannot be read");
     }
@@ -46,25 +41,25 @@ fn read_named(path: &[u8], text: &mut [u8], n: usize, bytes: &mut [u8]) -> Input
 
 // Says how the file whose name of n bytes stands in the text was shortened.
 fn shorten_read(bytes: &[u8], text: &mut [u8], n: usize, to: &[u8], words: bool) -> Status {
-    let mut result = [0u8; listing::ROOM];
+    let mut result = [0u8; replies::list::ROOM];
     let a = shorten::shorten(bytes, &mut result);
     let at = line::put(text, n, b": ");
     if a.number != 0 {
-        let end = refusal::put(text, at, words, a.number, a.place);
-        line::say(&text[..end]);
+        let end = reasons::put_refusal(text, at, words, a.number, a.place);
+        files::say(&text[..end]);
         return Status::Failed;
     }
     let m = line::front(&result, a.length);
-    if !replace::replace(to, &result[..m]) {
+    if !files::replace(to, &result[..m]) {
         return Status::Failed;
     }
-    let end = counts::put(text, at, a);
-    status::of(line::say(&text[..end]))
+    let end = listing::put_counts(text, at, a);
+    status::of(files::say(&text[..end]))
 }
 
 fn shorten_named(from: &[u8], to: &[u8], words: bool) -> Status {
     let mut bytes = [0u8; 65537];
-    let mut text = [0u8; line::ROOM];
+    let mut text = [0u8; quote::ROOM];
     let n = quote::put_name(&mut text, 0, from);
     let got = read_named(from, &mut text, n, &mut bytes);
     if !got.ok {
@@ -77,9 +72,9 @@ fn shorten_named(from: &[u8], to: &[u8], words: bool) -> Status {
 // An argument that no path is as long as.
 fn too_long(i: usize) -> Status {
     let mut text = [0u8; 80];
-    let n = line::put(&mut text, 0, b"argument ");
-    let n = line::put_place(&mut text, n, i);
-    os::fail(&text[..n]);
+    let n = line::put_numbered(&mut text, 0, b"argument ", arguments::typed(i));
+    let n = line::put(&mut text, n, b": File name too long\n");
+    io::write_all(STDERR_FILENO, &text[..n]);
     Status::Failed
 }
 
