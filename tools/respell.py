@@ -126,9 +126,11 @@ def main(words):
             print("CLASH", m, sorted(old))
         return
     fields = {n for n, at in declared().items() if any(line.startswith("  ") for _, line in at)}
+    # in code a name in snake case is a function's
+    in_code = {n: m for n, m in new.items() if re.search(r"[A-Z-]", n)}
     for path in files("crates/*/specs/**/*.antt") + files("crates/*/proofs/**/*.antt") + files("crates/*/src/**/*.rt"):
         text = open(path, encoding="utf-8").read()
-        after = turned(text, new, bool(PROOF.search(path)), fields)
+        after = turned(text, in_code if path.endswith(".rt") else new, bool(PROOF.search(path)), fields)
         if after != text:
             open(path, "w", encoding="utf-8").write(after)
 

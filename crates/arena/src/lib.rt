@@ -1,4 +1,6 @@
 // The work storage of Thread: the block that is being edited is the last one and grows at its end.
+#![tactic(auto)]
+
 ghost use Rattle.std.specs.Prelude.{◌≡◌, ℕ, ◌+◌, ◌≤◌, length, take, drop};
 ghost use Rattle.std.proofs.Math.Seq.{paste};
 ghost use Rattle.arena.specs.Arena as spec;
@@ -65,7 +67,7 @@ fn point(table: &mut [u8], k: BlockId, start: u32, end: u32)
 }
 
 // Moves block k to the top, unless it is there or has no room; returns the new top.
-pub fn to_end_lem(work: &mut [u8], table: &mut [u8], k: BlockId, top: usize) -> usize
+pub fn to_end(work: &mut [u8], table: &mut [u8], k: BlockId, top: usize) -> usize
     ensures { arena work.new table.new result ≡ spec.to_end k.0 (arena work.old table.old top) }
 {
     let r = records::record_at(table, k.0 as usize);

@@ -1,4 +1,6 @@
 // Only for tests: the steps, which the benchmark times on storage that it opens itself, and the forms of a file by number.
+#![tactic(auto)]
+
 ghost use Rattle.std.specs.Prelude.{◌≡◌, true, List, map, ℕ, length};
 ghost use Rattle.std.proofs.Math.Option.{Option};
 ghost use Rattle.records.specs.Record.{records_of};
@@ -18,7 +20,7 @@ use steps::Answer;
 
 // How far `run` got before Emit.
 #[repr(C)]
-#[derive(Drop)]
+#[derive(Clone, Copy)]
 pub struct HalivomueRan {
     pub top: usize,
     pub grown: u64,
@@ -61,7 +63,7 @@ pub extern "C" fn halivomue_run(
 
 // How many instructions emit left, and how many of them are rescued.
 #[repr(C)]
-#[derive(Drop)]
+#[derive(Clone, Copy)]
 pub struct HalivomueStaged {
     pub n: usize,
     pub rescued: u32,
@@ -132,7 +134,7 @@ pub extern "C" fn halivomue_put(
 
 // The answer about a form, in the order of struct halivomue_shortening: number is 0 if the form is written.
 #[repr(C)]
-#[derive(Drop)]
+#[derive(Clone, Copy)]
 pub struct HalivomueForm {
     pub number: u32,
     pub place: u32,

@@ -1,4 +1,6 @@
 // The blocks of some code, given by a lent slice of Block structs.
+#![tactic(auto)]
+
 ghost use Rattle.std.specs.Prelude.{◌≡◌, [], ℕ, ◌<◌, get_or};
 ghost use Rattle.records.specs.Record.{record_at};
 ghost use Rattle.items.specs.Items.{block_of};

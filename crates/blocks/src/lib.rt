@@ -1,4 +1,6 @@
 // The blocks of some code, by its block table: each is a part of the code's bytes.
+#![tactic(auto)]
+
 ghost use Rattle.std.specs.Prelude.{◌≡◌, [], eqb, length, get_or};
 ghost use Rattle.records.specs.Record.{record_at};
 ghost use Rattle.inst.specs.declared.Inst.TheVariants as i;

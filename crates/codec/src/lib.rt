@@ -1,4 +1,6 @@
 // The instruction of a record, and the record of an instruction.
+#![tactic(auto)]
+
 ghost use Rattle.std.specs.Prelude.{◌≡◌};
 ghost use Rattle.inst.specs.declared.Inst.TheVariants as i;
 ghost use Rattle.codec.specs.Codec.{word_of, low_of, high_of, row_of, inst_of, code_of, inst_record, record_of, rewritten_record};

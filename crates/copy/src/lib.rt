@@ -1,4 +1,6 @@
 // A target's code copied, with constants left out and registers given new numbers.
+#![tactic(auto)]
+
 ghost use Rattle.std.specs.Prelude.{◌≡◌, [], ◌∷◌, ℕ, ◌≤◌, ◌<◌, min, take, drop};
 ghost use Rattle.std.proofs.Math.Option.{Option};
 ghost use Rattle.roles.specs.Roles.{uses_of, numbers_of};
@@ -13,7 +15,7 @@ use inst::{Code, Inst, Reg, StmtId};
 
 // What happens to an instruction in the copy: left out, given a new number for what it writes, or
 // kept.
-#[derive(Drop)]
+#[derive(Clone, Copy)]
 enum How {
     LeftOut,
     Renumbered(Reg),
@@ -21,7 +23,7 @@ enum How {
 }
 
 // A copy: n instructions, and `fresh` old registers with the new number that each got.
-#[derive(Drop)]
+#[derive(Clone, Copy)]
 pub struct Copied {
     pub code: [Code; 4],
     pub n: usize,

@@ -1,4 +1,6 @@
 // Fills the table of facts: counts definitions and uses, and notes constants.
+#![tactic(auto)]
+
 ghost use Rattle.std.specs.Prelude.{◌≡◌, ◌++◌, ◌*◌, ◌/◌, length};
 ghost use Rattle.procedure.specs.Procedure.{codes_of};
 ghost use Rattle.facts.specs.Storage.{rows, row_of, table_of, kinds_of, operands_in};

@@ -1,4 +1,6 @@
 // Emit over lent storage: it leaves its result there for the steps after it and for the writer.
+#![tactic(auto)]
+
 ghost use Rattle.std.proofs.Math.Option.{Option};
 ghost use Rattle.std.specs.Prelude.{ℕ, ◌/◌, ◌≤◌, length};
 ghost use Rattle.procedure.specs.Procedure.{Procedure};
@@ -8,7 +10,7 @@ ghost use Rattle.facts.specs.Storage.{facts_in};
 ghost use Rattle.emit.specs.Stage.{Ready, Emitted};
 
 // How many instructions Emit leaves, and how many of them are rescued.
-#[derive(Drop)]
+#[derive(Clone, Copy)]
 pub struct Staged {
     pub n: usize,
     pub rescued: u32,

@@ -1,4 +1,6 @@
 // The parts of Emit: which blocks stay, what is rescued, and their records.
+#![tactic(auto)]
+
 ghost use Rattle.std.specs.Prelude.{◌+◌, ◌/◌, ◌≤◌, min, ◌≡◌, true, cond, length, get_or};
 ghost use Rattle.std.proofs.Math.Seq.{paste};
 ghost use Rattle.records.specs.Record.{records_of};

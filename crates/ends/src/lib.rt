@@ -1,4 +1,6 @@
 // How a block ends: Br, CondBr, Case or another terminator.
+#![tactic(auto)]
+
 ghost use Rattle.std.specs.Prelude.{◌≡◌};
 ghost use Rattle.codec.specs.Codec.{inst_of};
 ghost use Rattle.procedure.specs.Procedure.{codes_of};
@@ -8,7 +10,7 @@ use inst::{BlockId, Inst, Reg, kinds};
 use records::Record;
 
 // How a block ends, as the branch steps look at it.
-#[derive(Drop)]
+#[derive(Clone, Copy)]
 pub enum End {
     Br(BlockId),
     CondBr(Reg, BlockId, BlockId),

@@ -1,4 +1,6 @@
 // The equal-arms step: a CondBr whose arms meet becomes a Br.
+#![tactic(auto)]
+
 ghost use Rattle.std.specs.Prelude.{◌≡◌, Bool, true, false, ◌-◌, ◌/◌, ◌≤◌, length};
 ghost use Rattle.codec.specs.Codec.{block_of};
 ghost use Rattle.steps.specs.EqualArms as steps;
@@ -38,7 +40,7 @@ fn follow(code: &[u8], table: &[u8], b: BlockId) -> BlockId
 }
 
 // The block that both arms of a block's CondBr reach, if it is the same one.
-#[derive(Drop)]
+#[derive(Clone, Copy)]
 pub enum Meeting {
     At(BlockId),
     Apart,

@@ -1,4 +1,6 @@
 // The table of facts about a file's registers: kind, definitions, uses, constant.
+#![tactic(auto)]
+
 ghost use Rattle.std.specs.Prelude.{◌≡◌, ◌<◌, length, get_or};
 ghost use Rattle.facts.specs.Storage.{cell, kinds_in, single_in, uses_in, const_at, konst_at, word_in};
 
@@ -32,7 +34,7 @@ pub const PTR: u8 = 2;
 const NO_KIND: u64 = 5;
 
 // A word, or none.
-#[derive(Drop)]
+#[derive(Clone, Copy)]
 pub enum Word {
     Some(u64),
     None,

@@ -1,7 +1,7 @@
 ghost use Rattle.io.specs.Counts.{IsPrefixLen};
 
 // Whether every read went well, and how many bytes came.
-#[derive(Drop)]
+#[derive(Clone, Copy)]
 pub struct Input {
     pub ok: bool,
     pub length: usize,

@@ -1,4 +1,6 @@
 // Reading whole files, replacing whole files, and standard output.
+#![tactic(auto)]
+
 mod input;
 mod replacement;
 

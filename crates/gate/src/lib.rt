@@ -1,4 +1,6 @@
 // The gate of threading: `has_back_edge`, `may_thread`.
+#![tactic(auto)]
+
 ghost use Rattle.std.specs.Prelude.{◌≡◌, [], Bool, false, ℕ, ◌≤◌, leb, get_or, drop};
 ghost use Rattle.procedure.specs.Lists.{any_of};
 ghost use Rattle.ends.specs.Ends.{end_of, lone_of, targets};

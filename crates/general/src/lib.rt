@@ -1,4 +1,6 @@
 // Laws of Booleans, numbers and lists, for any crate, and the smaller of two numbers.
+#![tactic(auto)]
+
 ghost use Rattle.std.specs.Prelude.{◌≡◌, min};
 
 // The smaller of two numbers.

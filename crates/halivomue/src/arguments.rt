@@ -2,13 +2,13 @@
 use options::{Before, Role, Word};
 
 // The argument that holds a value, and the byte where the value starts; 0 if there is none.
-#[derive(Drop)]
+#[derive(Clone, Copy)]
 pub struct Value {
     pub at: usize,
     pub from: usize,
 }
 
-#[derive(Drop)]
+#[derive(Clone, Copy)]
 pub struct Options {
     pub words: bool,
     pub status: bool,

@@ -1,4 +1,6 @@
 // The program: read, tidy, list and shorten, over files and standard input.
+#![tactic(auto)]
+
 use arguments::Options;
 use replies::list::Part;
 use replies::{Ask, Question};

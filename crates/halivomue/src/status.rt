@@ -1,7 +1,7 @@
 // The exit status that the program would have: in Rattle it is always 0. With --status the program
 // writes the digit to descriptor 3, and the script `halivomue` exits with it.
 
-#[derive(Drop)]
+#[derive(Clone, Copy)]
 pub enum Status {
     Good,
     // A file was refused or could not be read, or the answer could not be written.

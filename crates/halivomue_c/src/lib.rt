@@ -1,5 +1,7 @@
 // The C interface of include/halivomue.h. Each member of an answer is stated to be that of the
 // definition.
+#![tactic(auto)]
+
 ghost use Rattle.std.specs.Prelude.{◌≡◌, ◌++◌, ◌+◌, ◌/◌, ◌≤◌, length, take, drop};
 ghost use Rattle.read.specs.Reading.{reading, answer};
 ghost use Rattle.tidy.specs.Tidy.{tidiness, Tidy};
@@ -21,7 +23,7 @@ pub extern "C" fn halivomue_version() -> u32
 
 // struct halivomue_reading of include/halivomue.h: `place` is its member `record`.
 #[repr(C)]
-#[derive(Drop)]
+#[derive(Clone, Copy)]
 pub struct HalivomueReading {
     pub number: u32,
     pub place: u32,
@@ -41,7 +43,7 @@ pub extern "C" fn halivomue_read(bytes: &[u8]) -> HalivomueReading
 
 // struct halivomue_tidiness of include/halivomue.h: `place` is its member `record`.
 #[repr(C)]
-#[derive(Drop)]
+#[derive(Clone, Copy)]
 pub struct HalivomueTidiness {
     pub number: u32,
     pub place: u32,
@@ -67,7 +69,7 @@ pub extern "C" fn halivomue_tidy(bytes: &[u8]) -> HalivomueTidiness
 
 // struct halivomue_shortening of include/halivomue.h: `place` is its member `record`.
 #[repr(C)]
-#[derive(Drop)]
+#[derive(Clone, Copy)]
 pub struct HalivomueShortening {
     pub number: u32,
     pub place: u32,
@@ -111,7 +113,7 @@ pub extern "C" fn halivomue_shorten(bytes: &[u8], out: &mut [u8]) -> HalivomueSh
 
 // struct halivomue_provisioning of include/halivomue.h: `place` is its member `record`.
 #[repr(C)]
-#[derive(Drop)]
+#[derive(Clone, Copy)]
 pub struct HalivomueProvisioning {
     pub number: u32,
     pub place: u32,

@@ -1,4 +1,6 @@
 // A hop over a Br: whether it stays, or is replaced by its target's code.
+#![tactic(auto)]
+
 ghost use Rattle.std.specs.Prelude.{◌≡◌, map, ◌&&◌, ℕ, get_or, take};
 ghost use Rattle.std.proofs.Math.Option.{Option};
 ghost use Rattle.roles.specs.Roles.{numbers_of};
@@ -53,7 +55,7 @@ pub fn stops(
 }
 
 // What a join leaves: the new top, and how many instructions and new registers were added.
-#[derive(Drop)]
+#[derive(Clone, Copy)]
 pub struct Joined {
     pub top: usize,
     pub n: usize,
@@ -117,7 +119,7 @@ pub fn join(
     let code = z.code;
     let old = z.old;
     put_kinds(kinds, facts, old, z.fresh, fresh);
-    let last = arena::to_end_lem(work, table, a, top);
+    let last = arena::to_end(work, table, a, top);
     let cut = arena::pop(table, a, last);
     let end = arena::append(work, table, a, cut, code, z.n);
     Joined {

@@ -1,4 +1,6 @@
 // A hop over a CondBr: it is decided by a known value, or skips a block that tests the same register.
+#![tactic(auto)]
+
 ghost use Rattle.std.specs.Prelude.{◌≡◌, ◌&&◌, eqb};
 ghost use Rattle.codec.specs.Codec.{block_of};
 ghost use Rattle.word.specs.Word as word;
@@ -14,7 +16,7 @@ use pause::Pause;
 
 // Nothing was written; or the block's last instruction was, and no more hops follow; or it was, and
 // the next hop follows.
-#[derive(Drop)]
+#[derive(Clone, Copy)]
 pub enum Turn {
     Stay,
     Last,

@@ -1,4 +1,6 @@
 // The instructions as values, with the tuple structs Reg, BlockId and StmtId.
+#![tactic(auto)]
+
 ghost use Rattle.std.specs.Prelude.{◌≡◌};
 ghost use Rattle.inst.specs.Inst.{kind_of};
 
@@ -6,30 +8,30 @@ use real::Real;
 
 pub mod kinds;
 
-#[derive(Drop)]
+#[derive(Clone, Copy)]
 pub struct Reg(pub u32);
 
-#[derive(Drop)]
+#[derive(Clone, Copy)]
 pub struct BlockId(pub u32);
 
-#[derive(Drop)]
+#[derive(Clone, Copy)]
 pub struct StmtId(pub u32);
 
 // The Rust's Option<Reg>.
-#[derive(Drop)]
+#[derive(Clone, Copy)]
 pub enum OptReg {
     Some(Reg),
     None,
 }
 
 // A part of the operands: where it starts, and its length.
-#[derive(Drop)]
+#[derive(Clone, Copy)]
 pub struct Regs {
     pub start: u32,
     pub len: u32,
 }
 
-#[derive(Drop)]
+#[derive(Clone, Copy)]
 pub enum RegTy {
     I64,
     F64,
@@ -38,7 +40,7 @@ pub enum RegTy {
     Handle,
 }
 
-#[derive(Drop)]
+#[derive(Clone, Copy)]
 pub enum Width {
     B1,
     B4,
@@ -46,7 +48,7 @@ pub enum Width {
     Sig,
 }
 
-#[derive(Drop)]
+#[derive(Clone, Copy)]
 pub enum AddrSpace {
     Frame,
     Up(u8),
@@ -56,7 +58,7 @@ pub enum AddrSpace {
     Shared,
 }
 
-#[derive(Drop)]
+#[derive(Clone, Copy)]
 pub enum IntOp {
     Add,
     Sub,
@@ -67,7 +69,7 @@ pub enum IntOp {
     Pow,
 }
 
-#[derive(Drop)]
+#[derive(Clone, Copy)]
 pub enum CmpOp {
     Eq,
     Ne,
@@ -77,7 +79,7 @@ pub enum CmpOp {
     Ge,
 }
 
-#[derive(Drop)]
+#[derive(Clone, Copy)]
 pub enum BoolOp {
     And,
     Or,
@@ -85,7 +87,7 @@ pub enum BoolOp {
     Not,
 }
 
-#[derive(Drop)]
+#[derive(Clone, Copy)]
 pub enum CheckKind {
     Range,
     Index,
@@ -95,7 +97,7 @@ pub enum CheckKind {
 }
 
 // The 24 kinds, in the file's order.
-#[derive(Drop)]
+#[derive(Clone, Copy)]
 pub enum Inst {
     Const {
         dst: Reg,
@@ -215,14 +217,14 @@ pub enum Inst {
 }
 
 // An instruction with its statement.
-#[derive(Drop)]
+#[derive(Clone, Copy)]
 pub struct Code {
     pub inst: Inst,
     pub stmt: StmtId,
 }
 
 // Where a block starts and ends in the code; the end is exclusive.
-#[derive(Drop)]
+#[derive(Clone, Copy)]
 pub struct Block {
     pub start: u32,
     pub end: u32,
@@ -230,7 +232,7 @@ pub struct Block {
 
 // An arm as its record has it: with its table, and whether it is the default (then its bounds are
 // zero).
-#[derive(Drop)]
+#[derive(Clone, Copy)]
 pub struct ArmEntry {
     pub table: u32,
     pub low: u64,

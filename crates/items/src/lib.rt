@@ -1,4 +1,6 @@
 // The records that aren't instructions, as far as the steps read or write them: registers, blocks, operands, arms.
+#![tactic(auto)]
+
 ghost use Rattle.std.specs.Prelude.{◌≡◌};
 ghost use Rattle.items.specs.Items.{row_of, register_record, block_of, block_record, operand_of, arm_of};
 

@@ -1,4 +1,6 @@
 // Where the classes of a file start, found in one walk that stops at the first wrong record.
+#![tactic(auto)]
+
 ghost use Rattle.std.specs.Prelude.{◌≡◌, ◌&&◌, ◌+◌, ◌≤◌, eqb, length, drop};
 ghost use Rattle.records.specs.Record.{records_of};
 ghost use Rattle.layout.specs.Walk.{lead};
@@ -9,7 +11,7 @@ use records::Record;
 
 // Where the records of each class from 2 on start in a file, and where the last end. Registers
 // start at 0.
-#[derive(Drop)]
+#[derive(Clone, Copy)]
 pub struct Layout {
     pub blocks: usize,
     pub bodies: usize,
@@ -20,7 +22,7 @@ pub struct Layout {
 }
 
 // Whether the record is of the class and valid by itself.
-fn right_of_lem(class: u32, r: Record) -> bool
+fn right_of(class: u32, r: Record) -> bool
     ensures { result ≡ right_of class r }
 {
     r.class == class && record_rules::fit::right(r)

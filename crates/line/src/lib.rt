@@ -1,4 +1,6 @@
 // Puts a line together in a lent buffer. What doesn't fit is left out.
+#![tactic(auto)]
+
 ghost use Rattle.std.specs.Prelude.{min, ◌≡◌, [], ◌∷◌, length};
 ghost use Rattle.io.specs.Counts.{IsPrefixLen};
 ghost use Rattle.line.specs.Line.{Put, Numbered, decimal};

@@ -1,4 +1,6 @@
 // The lines of document 01's listing: counts, registers, blocks and code of a shortened form.
+#![tactic(auto)]
+
 ghost use Rattle.std.specs.Prelude.{◌≡◌, ◌++◌};
 ghost use Rattle.line.specs.Line.{Put};
 ghost use Rattle.listing.specs.Listing.{pair, counts_line, moved_text, fresh_text, reg_line, block_line, code_line, code_text, places_text};

@@ -1,4 +1,6 @@
 // What is known of registers before a block's last instruction: `note`.
+#![tactic(auto)]
+
 ghost use Rattle.std.specs.Prelude.{◌≡◌, cond, ◌/◌, ◌≤◌, length};
 ghost use Rattle.std.proofs.Math.Option.{none, some};
 ghost use Rattle.roles.specs.Roles.{defs_of};
@@ -16,7 +18,7 @@ mod bools;
 mod learn;
 
 // What is known, or that there was no room for it.
-#[derive(Drop)]
+#[derive(Clone, Copy)]
 pub enum Noted {
     At(Held),
     Full,

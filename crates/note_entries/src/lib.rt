@@ -1,4 +1,6 @@
 // Known values and copies, kept in two lent slices.
+#![tactic(auto)]
+
 ghost use Rattle.std.specs.Prelude.{◌≡◌, cond, ◌||◌, [], ◌/◌, ◌≤◌, eqb, length};
 ghost use Rattle.std.proofs.Math.Option.{none};
 ghost use Rattle.procedure.specs.Lists.{found, value_or};
@@ -11,7 +13,7 @@ use inst::Reg;
 
 // How many entries there are of known values, and of copies. They are at the front of two lent
 // slices, two words each: a register and its value, a register and the source that it copies.
-#[derive(Drop)]
+#[derive(Clone, Copy)]
 pub struct Held {
     pub known: usize,
     pub copy: usize,

@@ -1,4 +1,6 @@
 // The numbers of the ops, and the ops of the numbers.
+#![tactic(auto)]
+
 ghost use Rattle.std.specs.Prelude.{◌≡◌};
 ghost use Rattle.ops.specs.Ops.{cmp_of, cmp_num, bool_of, bool_num, int_of, int_num, width_of, width_num, check_of, check_num, reg_ty_of, reg_ty_num};
 ghost use Rattle.ops.specs.Ops.{space_of, space_num, space_arg, opt_of, opt_num, opt_arg};

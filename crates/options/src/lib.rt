@@ -1,11 +1,13 @@
 // The words that the program is started with, one by one: options may be anywhere before a `--`, and
 // the first other word is the command. An option's value is the word after it, whatever that is, or
 // follows a `=` in the same word.
+#![tactic(auto)]
+
 ghost use Rattle.std.specs.Prelude.{◌≤◌, ◌≡◌, true, ◌||◌, length};
 ghost use Rattle.io.specs.Counts.{IsPrefixLen};
 ghost use Rattle.options.specs.Options.{Taken, plain_role, is_none, is_command, is_end};
 
-#[derive(Drop)]
+#[derive(Clone, Copy)]
 pub enum Role {
     Command,
     Name,
@@ -20,7 +22,7 @@ pub enum Role {
 }
 
 // What a word is, and where its value starts in it, or 0.
-#[derive(Drop)]
+#[derive(Clone, Copy)]
 pub struct Word {
     pub role: Role,
     pub value: usize,
@@ -28,7 +30,7 @@ pub struct Word {
 
 // The state after the words so far: whether a command came, whether a `--` came, and whether the
 // last word needs a value.
-#[derive(Drop)]
+#[derive(Clone, Copy)]
 pub struct Before {
     pub command: bool,
     pub ended: bool,

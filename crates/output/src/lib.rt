@@ -1,4 +1,6 @@
 // The result of Shorten: measured, and written if it fits.
+#![tactic(auto)]
+
 ghost use Rattle.std.specs.Prelude.{◌*◌, ◌<◌, ◌≡◌, [], length};
 ghost use Rattle.steps.specs.Shorten.{refusal};
 ghost use Rattle.emit_records.specs.Emitted.{place, puts};
@@ -8,7 +10,7 @@ use steps::Answer;
 
 // What the steps did to a file, as Shorten reports it: whether anything changed, and how many
 // instructions were copied and rescued. How many registers are new follows from their kinds.
-#[derive(Drop)]
+#[derive(Clone, Copy)]
 pub struct Changes {
     pub moved: bool,
     pub grown: u32,

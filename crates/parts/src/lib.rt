@@ -1,4 +1,6 @@
 // An accepted file, cut into the bytes of its classes.
+#![tactic(auto)]
+
 ghost use Rattle.std.specs.Prelude.{◌≡◌};
 ghost use Rattle.records.specs.Record.{records_of};
 ghost use Rattle.parts.specs.Parts.{start_at, starts_in, part_of};

@@ -1,4 +1,6 @@
 // The body: the block that a process pauses at, if there is one.
+#![tactic(auto)]
+
 ghost use Rattle.std.specs.Prelude.{◌≡◌};
 ghost use Rattle.procedure.specs.Lists.{present, holds};
 ghost use Rattle.pause.specs.Storage.{body_in};
@@ -7,7 +9,7 @@ use inst::BlockId;
 
 // The Rust's Option<usize>: the block that a process pauses at before its first run, the file's
 // body.
-#[derive(Drop)]
+#[derive(Clone, Copy)]
 pub enum Pause {
     At(BlockId),
     Nowhere,

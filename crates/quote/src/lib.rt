@@ -1,6 +1,8 @@
 // Names as they are printed: what a terminal would obey, what is invisible and what isn't UTF-8 is
 // shown byte by byte as \x and two digits, and a backslash as two. So no name can print a line of
 // its own, and the name can be recovered from what is shown.
+#![tactic(auto)]
+
 mod unseen;
 
 ghost use Rattle.std.specs.Prelude.{◌<◌, ◌≡◌, [], ◌∷◌};

@@ -5,14 +5,14 @@ ghost use Rattle.std.specs.Prelude.{◌<◌};
 
 // How many bytes are left of the character that a byte belongs to, including that byte, and whether
 // the character is hidden.
-#[derive(Drop)]
+#[derive(Clone, Copy)]
 pub struct Part {
     pub left: usize,
     pub hidden: bool,
 }
 
 // A character's number and how many bytes it has.
-#[derive(Drop)]
+#[derive(Clone, Copy)]
 struct Char {
     code: u32,
     length: usize,

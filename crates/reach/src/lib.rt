@@ -1,4 +1,6 @@
 // Which blocks Emit reaches from block 0.
+#![tactic(auto)]
+
 ghost use Rattle.std.specs.Prelude.{◌≡◌};
 ghost use Rattle.records.specs.Record.{records_of};
 ghost use Rattle.reach.specs.Reached.{targets_in, leads_in, seen_in};

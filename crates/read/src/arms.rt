@@ -9,7 +9,7 @@ use records::Record;
 const DEFAULT: u32 = 1;
 
 // How many arms were accepted, and how many tables they end.
-#[derive(Drop)]
+#[derive(Clone, Copy)]
 pub struct Numbering {
     pub passed: usize,
     pub tables: u32,

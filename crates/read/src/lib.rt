@@ -1,4 +1,6 @@
 // Document 01's Read: a file is accepted, or refused with number and record.
+#![tactic(auto)]
+
 ghost use Rattle.std.specs.Prelude.{◌≡◌, ◌||◌, ℕ, ◌+◌, ◌≤◌, ltb, eqb, length};
 ghost use Rattle.records.specs.Record.{records_of};
 ghost use Rattle.read.specs.Reading.{answer, beyond as beyondLimits, read_tables, read_blocks, read_records, checked, reading};
@@ -13,7 +15,7 @@ mod names;
 
 // Number 0 and place 0 for an accepted file; else the number of the refusal and the offending
 // record.
-#[derive(Drop)]
+#[derive(Clone, Copy)]
 pub struct Reading {
     pub number: u32,
     pub place: u32,

@@ -1,4 +1,6 @@
 // Whether code names a register that only one constant writes: `reads_konst`.
+#![tactic(auto)]
+
 ghost use Rattle.std.specs.Prelude.{◌≡◌, ◌++◌};
 ghost use Rattle.roles.specs.Roles.{defs_of, uses_of};
 ghost use Rattle.procedure.specs.Lists.{any_of};

@@ -1,9 +1,11 @@
 // The f64 of a ConstF, kept bit for bit.
+#![tactic(auto)]
+
 ghost use Rattle.std.specs.Prelude.{◌≡◌};
 ghost use Rattle.real.specs.Real.{real_of, bits_of};
 
 // An f64 kept bit for bit. A NaN is kept as its bits, since the logic's f64 has only one NaN.
-#[derive(Drop)]
+#[derive(Clone, Copy)]
 pub enum Real {
     Number(f64),
     Nan(u64),

@@ -1,4 +1,6 @@
 // Refusals and untidy registers, as numbers, and in words if these are asked for.
+#![tactic(auto)]
+
 ghost use Rattle.std.specs.Prelude.{◌≡◌};
 ghost use Rattle.line.specs.Line.{Added, Ended};
 

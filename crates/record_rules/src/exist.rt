@@ -6,7 +6,7 @@ ghost use Rattle.record_rules.specs.Work.{below, leading_registers};
 use records::Record;
 
 // How many registers, blocks, tables and operands there are: what a record may name.
-#[derive(Drop)]
+#[derive(Clone, Copy)]
 pub struct Counts {
     pub registers: u32,
     pub blocks: u32,

@@ -1,9 +1,11 @@
 // A file's bytes as records of 32 bytes: the record at a place.
+#![tactic(auto)]
+
 ghost use Rattle.std.specs.Prelude.{◌≡◌, ℕ, ◌+◌, ◌*◌, ◌≤◌, ◌<◌, length};
 ghost use Rattle.records.specs.Record.{word_at, record_in, record_at, blank};
 
 // The fields of a 32-byte record.
-#[derive(Drop)]
+#[derive(Clone, Copy)]
 pub struct Record {
     pub class: u32,
     pub kind: u32,

@@ -4,7 +4,7 @@ ghost use Rattle.line.specs.Line.{Ended};
 use records::Record;
 
 // Where the line ends, and whether the file was accepted.
-#[derive(Drop)]
+#[derive(Clone, Copy)]
 pub struct Answer {
     pub at: usize,
     pub good: bool,

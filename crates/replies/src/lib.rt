@@ -1,11 +1,13 @@
 // The question about a file, and the answer as it is written to standard output.
+#![tactic(auto)]
+
 mod answers;
 pub mod list;
 
 use answers::Answer;
 use list::Part;
 
-#[derive(Drop)]
+#[derive(Clone, Copy)]
 pub enum Question {
     Read,
     Tidy,
@@ -13,7 +15,7 @@ pub enum Question {
 }
 
 // The question, which part of a listing is wanted, and whether numbers are explained in words.
-#[derive(Drop)]
+#[derive(Clone, Copy)]
 pub struct Ask {
     pub question: Question,
     pub part: Part,
@@ -21,7 +23,7 @@ pub struct Ask {
 }
 
 // Whether the file was accepted, and whether its answer could be written.
-#[derive(Drop)]
+#[derive(Clone, Copy)]
 pub struct Told {
     pub good: bool,
     pub written: bool,

@@ -6,7 +6,7 @@ use crate::Told;
 use records::Record;
 use steps::Answer;
 
-#[derive(Drop)]
+#[derive(Clone, Copy)]
 pub enum Part {
     All,
     Counts,
@@ -40,7 +40,7 @@ pub const ROOM: usize = 61728;
 const FULL: usize = 16384;
 
 // Where the next line stands in the text, and whether all before it could be written.
-#[derive(Drop)]
+#[derive(Clone, Copy)]
 struct Page {
     at: usize,
     written: bool,

@@ -1,4 +1,6 @@
 // Which registers an instruction writes and reads, as a list of roles (`Inst::visit`).
+#![tactic(auto)]
+
 ghost use Rattle.std.specs.Prelude.{◌≡◌};
 ghost use Rattle.roles.specs.Roles.{no_list, roles_of};
 ghost use Rattle.roles.specs.Work.{row_of, bool_roles, check_roles, call_roles, ret_roles};
@@ -7,7 +9,7 @@ use inst::{BoolOp, CheckKind, Inst, OptReg, Reg, Regs};
 
 // The registers of an instruction, in the order of visit_mut: the first `defs` of reg are written,
 // the others up to `n` are read. Then the list of operands that it reads too, empty if it has none.
-#[derive(Drop)]
+#[derive(Clone, Copy)]
 pub struct Roles {
     pub defs: usize,
     pub n: usize,

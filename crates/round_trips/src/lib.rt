@@ -1,1 +1,2 @@
 // Only laws: procedures within the limits, written and read back.
+#![tactic(auto)]

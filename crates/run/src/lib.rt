@@ -1,4 +1,6 @@
 // `run` before Emit: equal arms, gate, counts, Thread.
+#![tactic(auto)]
+
 ghost use Rattle.std.specs.Prelude.{◌≡◌, true, List, ℕ, length};
 ghost use Rattle.pause.specs.Storage.{body_in};
 ghost use Rattle.equal_arms.specs.Joined.{joined};
@@ -8,7 +10,7 @@ use pause::Pause;
 use thread::Threaded;
 
 // How far `run` got before Emit: whether equal arms were joined, and how far threading got.
-#[derive(Drop)]
+#[derive(Clone, Copy)]
 pub struct Ran {
     pub joined: bool,
     pub at: Threaded,

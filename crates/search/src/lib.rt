@@ -1,4 +1,6 @@
 // The search for the blocks that one leads to: the step that Tidy and Emit share.
+#![tactic(auto)]
+
 ghost use Rattle.std.specs.Prelude.{◌≡◌};
 ghost use Rattle.search.specs.Search.{Sized, search_of, pushed};
 

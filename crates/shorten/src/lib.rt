@@ -1,4 +1,6 @@
 // Document 01's Shorten: bytes in, bytes out.
+#![tactic(auto)]
+
 ghost use Rattle.std.specs.Prelude.{◌≡◌, true, List, ◌++◌, ℕ, ◌+◌, ◌/◌, ◌≤◌, min, length, take, drop};
 ghost use Rattle.read.specs.Reading.{reading, answer};
 ghost use Rattle.tidy.specs.Tidy.{Tidy, tidiness};
@@ -311,7 +313,7 @@ pub fn shorten(bytes: &[u8], out: &mut [u8]) -> Answer
 }
 
 // The answers of Tidy and of Shorten.
-#[derive(Drop)]
+#[derive(Clone, Copy)]
 pub struct Provisioning {
     pub tidiness: Tidiness,
     pub shortening: Answer,

@@ -1,4 +1,6 @@
 // Shorten over lent storage, for an accepted file within the limits.
+#![tactic(auto)]
+
 ghost use Rattle.std.specs.Prelude.{◌≡◌, true, false, map, length};
 ghost use Rattle.records.specs.Record.{records_of};
 ghost use Rattle.procedure.specs.Procedure.{Procedure, first_of};

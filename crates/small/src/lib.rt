@@ -1,4 +1,6 @@
 // Blocks that may be copied: `dupable`, `small`, `latch`.
+#![tactic(auto)]
+
 ghost use Rattle.std.specs.Prelude.{◌≡◌, ◌&&◌, ◌||◌, ℕ, suc, ◌+◌, eqb, leb, length};
 ghost use Rattle.codec.specs.Codec.{inst_of};
 ghost use Rattle.procedure.specs.Procedure.{codes_of};

@@ -1,7 +1,8 @@
 // Definitions of document 01's steps and of Shorten. The only code is Shorten's answer.
+#![tactic(auto)]
 
 // number is 0 on success; on a refusal, place is the offending record; length is in bytes.
-#[derive(Drop)]
+#[derive(Clone, Copy)]
 pub struct Answer {
     pub number: u32,
     pub place: u32,

@@ -1,4 +1,6 @@
 // Thread: goes over the blocks in order, with at most six hops for each.
+#![tactic(auto)]
+
 ghost use Rattle.std.specs.Prelude.{◌≡◌, List, ℕ, length};
 ghost use Rattle.pause.specs.Storage.{body_in};
 ghost use Rattle.thread.specs.Storage.{store, hopping, edited_at, turn_at, fresh_to, hop_br_in, hop_cond_br_in, hops_in, thread_in};
@@ -10,7 +12,7 @@ use pause::Pause;
 
 // How far threading got: the arena's top, how many instructions and registers were added, whether a
 // block was edited.
-#[derive(Drop)]
+#[derive(Clone, Copy)]
 pub struct Threaded {
     pub top: usize,
     pub grown: u64,
@@ -19,7 +21,7 @@ pub struct Threaded {
 }
 
 // The same after a hop, and whether the next hop follows.
-#[derive(Drop)]
+#[derive(Clone, Copy)]
 pub struct Hopped {
     pub at: Threaded,
     pub more: bool,

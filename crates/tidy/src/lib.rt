@@ -1,4 +1,6 @@
 // Document 01's Tidy: whether a file is tidy, or its lowest offending register.
+#![tactic(auto)]
+
 ghost use Rattle.std.specs.Prelude.{◌≡◌};
 ghost use Rattle.records.specs.Record.{records_of};
 ghost use Rattle.read.specs.Work.{LaidOut};
@@ -15,7 +17,7 @@ mod writers;
 
 // The answer of Tidy: Read's number and place; then 1 if the file is tidy, or 0 and the lowest
 // offending register.
-#[derive(Drop)]
+#[derive(Clone, Copy)]
 pub struct Tidiness {
     pub number: u32,
     pub place: u32,

@@ -9,7 +9,7 @@ use inst::BlockId;
 use layout::Layout;
 
 // The targets of a Br or a CondBr; 160 means none.
-#[derive(Drop)]
+#[derive(Clone, Copy)]
 pub struct Targets {
     pub one: BlockId,
     pub two: BlockId,

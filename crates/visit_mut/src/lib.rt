@@ -1,4 +1,6 @@
 // The registers of an instruction, replaced by their roles (`Inst::visit_mut`).
+#![tactic(auto)]
+
 ghost use Rattle.std.specs.Prelude.{◌≡◌, ℕ};
 ghost use Rattle.roles.specs.Exchange.{over, over_optional, bool_second, check_low, check_high, exchanged, through, written, first_pairs};
 

@@ -1,4 +1,6 @@
 // What the machine computes with words: comparisons, Booleans, choices.
+#![tactic(auto)]
+
 ghost use Rattle.std.specs.Prelude.{◌≡◌};
 ghost use Rattle.word.specs.Word.{bit as bit_of, choose as chosen, signed as signed_of, ordered as orderedOf, compares as comparesOf, tests as testsOf};
 
