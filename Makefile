@@ -11,8 +11,8 @@
 # installed as they are.
 PREFIX ?= /usr/local
 to := $(DESTDIR)$(PREFIX)
-program := $(or $(HALIVOMUE_PROGRAM),target/bin/halivomue)
-archive := $(or $(HALIVOMUE_ARCHIVE_DIR),target/staticlib)/libhalivomue_c.a
+program := $(or $(HALIVOMUE_PROGRAM),crates/halivomue/out/halivomue)
+archive := $(or $(HALIVOMUE_ARCHIVE_DIR),crates/halivomue_c/out)/libhalivomue_c.a
 version := $(shell sed -n 's/^.define HALIVOMUE_VERSION "\(.*\)"/\1/p' include/halivomue.h)
 DIST ?= build
 name := halivomue-$(version)-linux-x86_64
@@ -21,7 +21,7 @@ PYTHON ?= python3
 .PHONY: all install uninstall dist
 
 define make_archive
-flock build/halivomue.lock rt staticlib halivomue_c >build/staticlib.log 2>&1 || { tail -n 40 build/staticlib.log; exit 1; }
+(cd crates/halivomue_c && flock ../../build/halivomue.lock rt lib) >build/archive.log 2>&1 || { tail -n 40 build/archive.log; exit 1; }
 endef
 
 all:

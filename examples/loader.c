@@ -1,6 +1,6 @@
 /* A keypad's loader: shortens a procedure from one buffer into another, without heap or files.
  *
- *     cc -Os -I include -Wl,--gc-sections examples/loader.c target/staticlib/libhalivomue_c.a
+ *     cc -Os -I include -Wl,--gc-sections examples/loader.c crates/halivomue_c/out/libhalivomue_c.a
  *
  * What a loader needs (tests/fleet/sizes measures it):
  *   room   HALIVOMUE_ROOM bytes for the result of any procedure. If the result is known to be small, 32 bytes for each of

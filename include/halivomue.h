@@ -1,8 +1,8 @@
 /* Halivomue: checks call procedure files, says whether they are tidy, and
  * shortens their branches.
  *
- * Linking  `rt staticlib halivomue_c` writes target/staticlib/libhalivomue_c.a,
- *          for x86-64 Linux, position independent. It needs only the C
+ * Linking  `rt lib`, run in crates/halivomue_c, writes out/libhalivomue_c.a
+ *          there, for x86-64 Linux, position independent. It needs only the C
  *          library:  cc program.c libhalivomue_c.a
  *          After `make install`, pkg-config finds it:
  *          cc program.c $(pkg-config --cflags --libs halivomue)

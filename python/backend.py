@@ -41,7 +41,7 @@ def _version():
 def _can_build():
     """Is there a compiler, and an archive or the toolchain to make one?"""
     script = os.path.join(_HERE, "build")
-    archives = os.environ.get("HALIVOMUE_ARCHIVE_DIR") or os.path.join(_HERE, "..", "target", "staticlib")
+    archives = os.environ.get("HALIVOMUE_ARCHIVE_DIR") or os.path.join(_HERE, "..", "crates", "halivomue_c", "out")
     archive = os.path.exists(os.path.join(archives, "libhalivomue_c.a"))
     return os.path.exists(script) and shutil.which("gcc") and (archive or shutil.which("rt"))
 

@@ -15,7 +15,7 @@ import warnings
 HERE = pathlib.Path(__file__).resolve().parent
 ROOT = HERE.parent.parent
 SAMPLES = ROOT / "samples"
-PROGRAM = pathlib.Path(os.environ.get("HALIVOMUE_PROGRAM", ROOT / "target" / "bin" / "halivomue"))
+PROGRAM = pathlib.Path(os.environ.get("HALIVOMUE_PROGRAM", ROOT / "crates/halivomue/out/halivomue"))
 REFERENCE = ROOT / "build" / "reference" / "release" / "reference"
 sys.dont_write_bytecode = True
 sys.path[:0] = [str(HERE), str(ROOT / "python"), str(ROOT / "tests" / "vectors"), str(ROOT / "tests" / "reference")]

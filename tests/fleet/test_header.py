@@ -14,7 +14,7 @@ import replay
 from halivomue import _library
 from halivomue import answers as words
 
-ARCHIVE = os.path.join(os.environ.get("HALIVOMUE_ARCHIVE_DIR", str(ROOT / "target/staticlib")), "libhalivomue_c.a")
+ARCHIVE = os.path.join(os.environ.get("HALIVOMUE_ARCHIVE_DIR", str(ROOT / "crates/halivomue_c/out")), "libhalivomue_c.a")
 STRICT = ["-Wall", "-Wextra", "-Werror", "-pedantic", "-I", str(ROOT / "include")]
 
 CONSTANTS = """

@@ -14,7 +14,7 @@ import zipfile
 
 from common import Case, PROGRAM, ROOT, SAMPLES, halivomue, sample, tree, unittest
 
-ARCHIVES = os.environ.get("HALIVOMUE_ARCHIVE_DIR", str(ROOT / "target/staticlib"))
+ARCHIVES = os.environ.get("HALIVOMUE_ARCHIVE_DIR", str(ROOT / "crates/halivomue_c/out"))
 # A path without the toolchain, and an environment without anything of these tests.
 BARE = {"PATH": "/usr/bin:/bin", "LC_ALL": "C.UTF-8", "HOME": "/nonexistent"}
 INSTALLED = {"bin/halivomue", "include/halivomue.h", "lib/libhalivomue_c.a", "lib/pkgconfig/halivomue.pc",

@@ -9,7 +9,7 @@ from common import Case, ROOT, halivomue, sample, unittest
 
 import fleet
 
-ARCHIVE = os.path.join(os.environ.get("HALIVOMUE_ARCHIVE_DIR", str(ROOT / "target/staticlib")), "libhalivomue_c.a")
+ARCHIVE = os.path.join(os.environ.get("HALIVOMUE_ARCHIVE_DIR", str(ROOT / "crates/halivomue_c/out")), "libhalivomue_c.a")
 
 
 class Loader(Case):

@@ -11,16 +11,17 @@ from common import PROGRAM, ROOT, Case, sample, unittest
 
 # A toolchain that works until the file `hold` is gone, with a process of its own; with `stubborn` both ignore SIGTERM.
 TOOLCHAIN = """#!/bin/sh
+cd "$(dirname "$0")/.." || exit
 [ ! -e stubborn ] || trap '' TERM
 echo start >>starts
 sleep 30 &
 echo $! >child
 echo $$ >rt
-for crate in a b c d e; do echo "rt: $crate proved (1 s)"; done
+for crate in a b c d e; do echo "logic=proved fns=1 ($crate)"; done
 while [ -e hold ]; do sleep 0.05; done
 kill -KILL $(cat child)
-mkdir -p target/bin target/log
-cp toolchain/program target/bin/halivomue
+mkdir -p crates/halivomue/out
+cp toolchain/program crates/halivomue/out/halivomue
 """
 
 
@@ -79,7 +80,7 @@ class Script(Case):
         return subprocess.run(["flock", "-n", self.at("build/halivomue.lock"), "true"], check=False).returncode != 0
 
     def test_stopped_while_it_builds(self):
-        """Before, rt went on, and the next start ran another in the same target."""
+        """Before, rt went on, and the next start ran another in the same folders."""
         for number, status in ((signal.SIGTERM, 143), (signal.SIGINT, 130), (signal.SIGHUP, 129)):
             started = self.building()
             started.send_signal(number)

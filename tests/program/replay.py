@@ -71,7 +71,7 @@ def replay(path, write):
         os.chmod(folder, 0o755)
         os.mkdir(folder + "/bin")
         for name, target in (("bin/halivomue", "halivomue"), ("halivomue", "halivomue"), ("samples", "samples"),
-                             ("bin/program", "target/bin/halivomue"), ("bin/tree", "tests/program/tree"),
+                             ("bin/program", "crates/halivomue/out/halivomue"), ("bin/tree", "tests/program/tree"),
                              ("bin/other", "tests/program/other"), ("bin/disk", "tests/program/disk"),
                              ("bin/stored", "tests/program/stored.py")):
             os.symlink(os.path.join(ROOT, target), os.path.join(folder, name))
