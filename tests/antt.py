@@ -24,7 +24,7 @@ MARKS = {"pub", "abbrev", "unfoldable", "axiom"}
 CLOSER = {"(": ")", "{": "}", "[": "]"}
 WORDS = set(
     "data record deriving module where use mod pub package using open as unfoldable abbrev axiom unfold unfolding "
-    "ruleset mutual infix infixl infixr elim let in do λ ∀ Type 𝕀 𝔽 coe fcoe tcoe hcom com V vin vproj inS outS ∨ ∧ "
+    "ruleset mutual infix infixl infixr elim let in do λ ∀ Type 𝕀 𝔽 coe fcoe tcoe hcom com ∨ ∧ "
     ": = → × ↔ ↦ | ← _ ⊔ [ ] ⟦ ⟧".split()
 )
 NUMBER = re.compile(r"[0-9][0-9a-fA-FxobX_]*$")
@@ -37,7 +37,7 @@ class Fault(Exception):
 def plain(part):
     """«x» is x if x needs no quotes."""
     inner = part[1:-1] if part.startswith("«") else None
-    return inner if inner and "_" not in inner and inner not in WORDS else part
+    return inner if inner and inner not in WORDS else part
 
 
 def past_block(text, at, where):
@@ -378,8 +378,8 @@ def read_definition(file, row, marks, telescopes, block, last):
 
 
 def pieces(name):
-    """The parts of an operator's name, or of a section of it: `_+_` and `_+` have `+`."""
-    return set() if name.startswith("«") or name == "_" else set(name.split("_")) - {"", name}
+    """The parts of an operator's name, or of a section of it: `◌+◌` and `◌+` have `+`."""
+    return set() if name.startswith("«") else set(name.split("◌")) - {"", name}
 
 
 def heads(left, names):

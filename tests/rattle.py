@@ -10,11 +10,12 @@ from dataclasses import dataclass, field
 from antt import Fault, grouped, lex, uses_in
 
 Clause = namedtuple("Clause", "kind name text line")
-Function = namedtuple("Function", "name exported public parameters result clauses line text")
+Function = namedtuple("Function", "name exported public parameters ghosts result clauses line text")
 Declared = namedtuple("Declared", "kind name file lines variants types text")  # a struct or an enum
 
 LITERAL = r"b?'(?:\\.|[^'\\\n])'|b?\"(?:\\.|[^\"\\])*\""
 NOTE = re.compile(rf"({LITERAL})|//[^\n]*|/\*.*?\*/", re.S)
+INNER = re.compile(r"#!\[[^\]\n]*\]")
 ITEM = re.compile(
     r"(?:#\[[^\]\n]*\]\s*)*"
     r"(?:(?P<ghost>ghost use)\b|(?:pub\s+)?(?:(?P<use>use)|(?P<mod>mod)|(?P<type>struct|enum)"
@@ -38,6 +39,7 @@ class Code:
     aliases: set = field(default_factory=set)
     types: dict = field(default_factory=dict)
     functions: dict = field(default_factory=dict)
+    cycles: set = field(default_factory=set)  # of functions that call one another
 
 
 def blanked(text):
@@ -62,6 +64,10 @@ def read_code(text, path):
     code, text, at = Code(path), blanked(text), 0
     while text[at:].strip():
         at += len(text[at:]) - len(text[at:].lstrip())
+        inner = INNER.match(text, at)
+        if inner:
+            at = inner.end()
+            continue
         line = text.count("\n", 0, at) + 1
         found = ITEM.match(text, at)
         if re.match(r'(?:pub\s+)?extern\s+"C"\s*\{', text[at:at + 40]):
@@ -175,19 +181,23 @@ def read_function(code, text, found, line):
         name, _, kind = part.partition(":")
         parameters[re.sub(r"^mut\s+", "", name.strip())] = kind.strip()
     word = RESULT.match(text, end)
-    result, at, clauses = word.group("type") or "", word.end(), []
+    result, at, clauses, ghosts = word.group("type") or "", word.end(), [], []
     while True:
-        clause = re.compile(r"\s*(requires|ensures|ghost)\b\s*(\w+)?\s*(?=\{)").match(text, at)
+        clause = re.compile(r"\s*((?:requires|ensures|ghost)\b\*?)\s*(\w+)?(\s*:)?\s*(?=\{)").match(text, at)
         if not clause:
             break
         at = closing(text, clause.end(), where)
         first = text.count("\n", 0, clause.end()) + 1
+        if (clause.group(1) == "ghost") != bool(clause.group(3)):
+            raise Fault(f"{where}: a clause of a shape that isn't known")
+        ghosts += [clause.group(2)] if clause.group(3) else []
         clauses.append(Clause(clause.group(1), clause.group(2) or "", text[clause.end() + 1:at - 1], first))
     if not text[at:].lstrip().startswith("{"):
         raise Fault(f"{where}: a contract of a shape that isn't known")
     whole = found.group()
+    code.cycles.update(re.findall(r"#\[cycle\((\w+)\)\]", whole))
     code.functions[head.group(1)] = Function(
-        head.group(1), bool(found.group("extern")), "pub" in whole.split(), parameters, result, clauses, line,
+        head.group(1), bool(found.group("extern")), "pub" in whole.split(), parameters, ghosts, result, clauses, line,
         text[found.start():at].rstrip(),
     )
     return closing(text, text.index("{", at), where)

@@ -21,19 +21,24 @@ from rattle import Declared, read_code, types_in
 
 Tool = namedtuple("Tool", "name")
 Made = namedtuple("Made", "name")  # by the prover, of a function's code
-LIBRARY = re.compile(r"Rattle·([a-z0-9_]+)(?:·(specs|proofs))?$")
+OWNER = "Rattle"  # the first name of the path to a crate's module: Rattle.CRATE.specs.M
 
 # The names of antt's prelude that are used here; its text isn't part of the toolchain's kit.
-PRELUDE = set("IsProp IsSet ⊥ absurd ¬_ Dec yes no Discrete ∥_∥₁ ∣_∣₁ squash₁ Unit tt Id J Path".split())
-PRELUDE |= set("rw rw⁻¹ simp search grw cc omega cap".split())
-# What every clause of a contract has without a `ghost use` (`rattle check --help`).
-LENT = set("⌜_⌝ ∀ₛ ∃ₛ _∧ₛ_ _∨ₛ_ _→ₛ_ _∗_ _-∗_ ⊤ₛ ⊥ₛ _>>=_ _>>_ now 𝓤 H A".split())
+PRELUDE = set("IsProp IsSet ⊥ absurd ¬◌ Dec yes no Discrete ∥◌∥₁ ∣◌∣₁ squash₁ Unit tt Id J Path refl".split())
+PRELUDE |= set("rw rw⁻¹ simp search grw cc omega grind hlevel assumption first_of cap".split())
+# What every clause of a contract has without a `ghost use` (`rattle check --help`), with the result of an `ensures`.
+LENT = set("⌜◌⌝ ∀ₛ ∃ₛ ◌∧ₛ◌ ◌∨ₛ◌ ◌→ₛ◌ ◌∗◌ ◌-∗◌ ⊤ₛ ⊥ₛ ◌>>=◌ ◌>>◌ 𝓤 𝓛 result".split())
 
 
 def kit():
-    """The toolchain's folder."""
+    """The folder that has the toolchain's sources of the logic and of its crates."""
     guide = subprocess.run(["rt", "doc"], capture_output=True, text=True, check=True).stdout.strip()
-    return os.path.dirname(os.path.dirname(guide))
+    return os.path.join(os.path.dirname(guide), "rattle")
+
+
+def crate_of(path):
+    """The crate that the name of a module, or of what is in one, begins with, and its side; or None."""
+    return path[1:3] if path[0] == OWNER and len(path) > 2 and path[2] in ("specs", "proofs") else None
 
 
 class Scope:
@@ -117,18 +122,31 @@ def members(target):
     return target.members if isinstance(target, Declaration) else ()
 
 
+def project(folder):
+    """The project file of a library of the logic."""
+    with open(os.path.join(folder, "antt-project.json")) as text:
+        return json.load(text)
+
+
+def mounts(folder):
+    """The libraries that a project mounts: name to folder."""
+    return {name: os.path.normpath(os.path.join(folder, to)) for name, to in project(folder)["mounts"].items()}
+
+
+def source_of(folder):
+    return os.path.normpath(os.path.join(folder, project(folder).get("src", "src")))
+
+
 class Tree:
     def __init__(self, root):
         self.root, self.home = root, kit()
         with open(os.path.join(root, "crates.txt")) as lines:
-            self.crates = [found.group(1) for line in lines if (found := re.match(r"\s*(\w+)\s*:", line))]
-        with open(os.path.join(self.home, "logic", "antt-project.json")) as text:
-            rows = json.load(text)["libraries"]
-        self.libraries = {row["name"]: os.path.normpath(os.path.join(self.home, "logic", row["src"])) for row in rows}
-        self.kit_crates = set(os.listdir(os.path.join(self.home, "libs")))
+            self.crates = [found.group(1) for line in lines if (found := re.match(r"\s*(\w+)\b[^:#]*:", line))]
+        self.libraries = {name: source_of(folder) for name, folder in mounts(os.path.join(self.home, "logic")).items()}
+        self.kit_crates = {name for name in os.listdir(self.home) if os.path.isdir(os.path.join(self.home, name, "src"))}
 
     def is_library(self, name):
-        return name in self.libraries or bool(LIBRARY.match(name)) or name == "Prim"
+        return name in self.libraries or name in (OWNER, "Prim")
 
     def read(self, path):
         with open(os.path.join(self.root, path)) as text:
@@ -138,49 +156,61 @@ class Tree:
 
     def file_of(self, path):
         """The file of a module's whole name, or None: relative to the root for a crate's."""
-        found = LIBRARY.match(path[0])
-        if found:
-            crate, side = found.groups()
-            if len(path) < 2 or path[1] not in ("specs", "proofs") or side not in (None, path[1]):
-                return None
-            folder = "crates" if crate in self.crates else os.path.join(self.home, "libs")
-            file = os.path.join(folder, crate, path[1], *(path[2:] or ("Lib",))) + ".antt"
+        if crate_of(path):
+            crate, side = crate_of(path)
+            folder, rest = os.path.join("crates" if crate in self.crates else self.home, crate, side), path[3:]
         elif path[0] in self.libraries:
-            file = os.path.join(self.libraries[path[0]], *(path[1:] or ("Lib",))) + ".antt"
+            folder, rest = self.libraries[path[0]], path[1:]
         else:
             return None
-        return file if os.path.isfile(os.path.join(self.root, file)) else None
+        for file in (os.path.join(folder, *rest), os.path.join(folder, *rest, "Lib")):
+            if rest and os.path.isfile(os.path.join(self.root, file + ".antt")):
+                return file + ".antt"
+        top = os.path.join(folder, "Lib.antt")
+        return top if not rest and os.path.isfile(os.path.join(self.root, top)) else None
 
     def is_made(self, path):
         """Whether the prover makes the module, from a function, a cycle of functions or a type."""
-        found = LIBRARY.match(path[0])
-        if not found or path[1:2] != ("proofs",) or len(path) < 3:
+        if not crate_of(path) or len(path) < 4:
             return False
-        if found.group(1) in self.kit_crates - set(self.crates):
+        crate, side = crate_of(path)
+        if side == "specs":
+            return path[3] == "contracts"
+        if crate in self.kit_crates - set(self.crates):
             return True
-        for k in range(2, len(path)):
-            code = self.code(found.group(1), path[2:k])
+        for k in range(3, len(path)):
+            code = self.code(crate, path[3:k])
             names = set(path[k].strip("+").split("+"))
-            if code and names <= {*code.functions, *code.types}:
+            if code and names <= {*code.functions, *code.types, *code.cycles}:
                 return True
         return False
 
     def declared(self, path):
         """The type that specs.declared.PATH.T leads to, with what is left of the path, or None."""
-        found = LIBRARY.match(path[0])
-        if not found or path[1:3] != ("specs", "declared") or found.group(1) not in self.crates:
+        if not crate_of(path) or path[2:4] != ("specs", "declared") or path[1] not in self.crates:
             return None
-        for k in range(3, len(path)):
-            code = self.code(found.group(1), path[3:k])
+        for k in range(4, len(path)):
+            code = self.code(path[1], path[4:k])
             if code and path[k] in code.types:
                 return code.types[path[k]], path[k + 1:]
         return None
+
+    def is_kits_type(self, path):
+        """Whether specs.declared.PATH.T, or a variant there, stands in the code of a crate of the toolchain."""
+        if not crate_of(path) or path[2:4] != ("specs", "declared") or path[1] in self.crates or len(path) < 6:
+            return False
+        inner = path[4:-2] if path[-2] != "TheVariants" else path[4:-3]
+        source = os.path.join(self.home, path[1], "src", *inner)
+        files = [source + ".rt", os.path.join(source, "mod.rt")] if inner else [os.path.join(source, "lib.rt")]
+        texts = [self.read(file) for file in files if os.path.isfile(file)]
+        word = rf"\b(?:struct|enum) {path[-1]}\b" if path[-2] != "TheVariants" else rf"(?m)^ +{path[-1]}\b"
+        return any(re.search(word, text) for text in texts)
 
     def is_module(self, path):
         if path[0] == "Prim" or self.file_of(path) or self.is_made(path):
             return True
         found = self.declared(path)
-        return bool(found) and found[1] in ((), ("the-variants",))
+        return bool(found) and found[1] in ((), ("TheVariants",))
 
     @functools.lru_cache(maxsize=None)
     def antt(self, path):
@@ -225,11 +255,13 @@ class Tree:
         declared = self.declared(path)
         if declared:
             kind, rest = declared
-            if rest == (kind.name,) or rest[:1] == ("the-variants",) and rest[1:] and rest[1] in kind.variants:
+            if rest == (kind.name,) or rest[:1] == ("TheVariants",) and rest[1:] and rest[1] in kind.variants:
                 return kind
             raise nowhere
+        if self.is_kits_type(path):
+            return Tool(".".join(path))
         if self.is_made(path[:-1]) and not self.file_of(path[:-1]):
-            return (Made if LIBRARY.match(path[0]).group(1) in self.crates else Tool)(".".join(path))
+            return (Made if path[1] in self.crates else Tool)(".".join(path))
         file = next((file for k in range(len(path) - 1, 0, -1) if (file := self.file_of(path[:k]))), "")
         return self.tool(path, nowhere) if os.path.isabs(file) else self.defined(path, where, nowhere)
 
@@ -277,7 +309,7 @@ class Tree:
         """The scope of a crate's file of antt."""
         read = self.antt(file)
         crate, *rest = file[len("crates/"):-len(".antt")].split("/")
-        module = (f"Rattle·{crate}",) + tuple(part for part in rest if part != "Lib")
+        module = (OWNER, crate) + tuple(part for part in rest if part != "Lib")
         return Scope(self, file, read.uses, module, read.declarations, tuple(read.mods))
 
     def cited(self, declaration, statement=False):
@@ -321,7 +353,7 @@ class Tree:
         for clause in function.clauses:
             where = f"{code.path}:{clause.line}"
             citing = Citing(where, scope.is_constructor)
-            bound = {name if "_" not in name else f"«{name}»" for name in function.parameters}
+            bound = {*function.parameters, *function.ghosts}
             citing.walk(grouped(lex(clause.text, code.path, clause.line), where), bound)
             for parts, line in citing.found.items():
                 found += scope.targets(parts, line)
