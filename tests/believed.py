@@ -35,7 +35,7 @@ ROOT = os.path.dirname(os.path.dirname(os.path.abspath(__file__)))
 MAP = os.path.join(ROOT, "docs", "MAP.md")
 EXPORTING = "halivomue_c"
 OPERATIONS = [("read", "read"), ("tidy", "tidy"), ("shorten", "shorten"), ("shorten", "shorten_within"), ("shorten", "tidy_and_shorten")]
-THEOREM = ("Rattle·promise", "proofs", "Promised", "promise")
+THEOREM = ("Rattle", "promise", "proofs", "Promised", "promise")
 
 BELIEVED, TYPES = "## What a reader has to believe", "### The types that they use"
 BESIDE, STORAGE = "### In the same files, but needed by nothing public", "## Storage and statements"
