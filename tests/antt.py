@@ -23,7 +23,7 @@ LEX = re.compile(
 MARKS = {"pub", "abbrev", "unfoldable", "axiom"}
 CLOSER = {"(": ")", "{": "}", "[": "]"}
 WORDS = set(
-    "data record deriving module where use mod pub package using open as unfoldable abbrev axiom unfold unfolding "
+    "data record deriving module where use mod pub package open as unfoldable abbrev axiom unfold unfolding "
     "ruleset mutual infix infixl infixr elim let in do λ ∀ Type 𝕀 𝔽 coe fcoe tcoe hcom com ∨ ∧ "
     ": = → × ↔ ↦ | ← _ ⊔ [ ] ⟦ ⟧".split()
 )
@@ -345,13 +345,12 @@ def read_member(d, row, where):
 
 
 def read_open(file, d, nodes):
-    """open R t using (x, y as z): each name cites R and t."""
-    at = place(nodes, "using")
-    if at is None or at + 2 != len(nodes) or not isinstance(nodes[-1], Group):
+    """open t use {x, y as z, f.{a}}: each name cites t."""
+    at = place(nodes, "use")
+    if not at or at + 2 != len(nodes) or not isinstance(nodes[-1], Group) or nodes[-1].open != "{":
         raise Fault(f"{file.path}:{d.spans[0][0]}: an `open` of a shape that isn't known")
-    for row in split(nodes[-1].nodes, ","):
-        d.names.append(row[-1].parts[-1])
-    d.clauses = [([], [n for n in nodes[:at]], [])]
+    d.names = [use.name for use in items_in((), nodes[-1], False, file.path)]
+    d.clauses = [([], nodes[:at], [])]
     file.declarations.append(d)
 
 
