@@ -72,4 +72,4 @@ pub returns-in-22 : goal.returns-in-22
 returns-in-22 c = inst-at c.args.r 22 c.in-22.is
 
 pub returns-in_default : goal.returns-in_default
-returns-in_default c = inst-past c.args.r (past 23 c.args.r.kind c.in_default.rest)
+returns-in_default c = inst-past c.args.r (past 23 c.args.r.kind c.in_default.in_default-own.rest)

@@ -6,7 +6,7 @@ use Rattle.emit_records.proofs.is_rescued.Goals as goal
 pub returns-in_default : goal.returns-in_default
 returns-in_default c =
     let a = c.args in
-    other_record a.facts.now a.r c.if-kind-lt2.false c.in_default-1.rest.1
+    other_record a.facts.now a.r c.in_default.if-kind-lt2-own.false c.in_default.in_default-own.rest.1
 
 pub returns-in-0 : goal.returns-in-0
 returns-in-0 c =

@@ -20,5 +20,5 @@ returns-in-20 c = view_kind c.args.r 20 c.in-20.is
 pub returns-in_default : goal.returns-in_default
 returns-in_default c =
     let k = c.args.r.kind in
-    let rest = c.in_default.rest in
+    let rest = c.in_default.in_default-own.rest in
     sym (other_record c.args.r (rw (ne_eqb k 18 rest.0.0.1, ne_eqb k 19 rest.0.1, ne_eqb k 20 rest.1)))

@@ -13,4 +13,4 @@ pub returns-in-4 : goal.returns-in-4
 returns-in-4 c = rw c.in-4.is
 
 pub returns-in_default : goal.returns-in_default
-returns-in_default c = let h : 5 ≤ c.args.op = past 5 _ c.in_default.rest in rw get_or-eq_default
+returns-in_default c = let h : 5 ≤ c.args.op = past 5 _ c.in_default.in_default-own.rest in rw get_or-eq_default

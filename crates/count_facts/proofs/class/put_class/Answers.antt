@@ -7,7 +7,7 @@ use Rattle.count_facts.proofs.class.put_class.Goals as goal
 pub returns-in_default : goal.returns-in_default
 returns-in_default c =
     let a = c.args in
-    other_record a.table.now a.r (λ e. omega arith) (λ e. omega arith) c.in_default-1.rest.1
+    other_record a.table.now a.r (λ e. omega arith) (λ e. omega arith) c.in_default.in_default-own.rest.1
 
 pub returns-in-0 : goal.returns-in-0
 returns-in-0 c =

@@ -13,4 +13,4 @@ pub returns-in-1 : goal.returns-in-1
 returns-in-1 c = rw c.in-1.is c.one-in-1.ensures
 
 pub returns-in_default : goal.returns-in_default
-returns-in_default c = ap (λ (l : List Place). all_exist c.args.n l (fields c.args.r)) (at_rest arm_places [] (past 2 _ c.in_default.rest))
+returns-in_default c = ap (λ (l : List Place). all_exist c.args.n l (fields c.args.r)) (at_rest arm_places [] (past 2 _ c.in_default.in_default-own.rest))

@@ -57,7 +57,7 @@ returns-else-r-eq0-2 c =
 
 pub returns-in_default : goal.returns-in_default
 returns-in_default c =
-    let n = c.in_default.rest in
+    let n = c.in_default.in_default-own.rest in
     let r = c.args.r in
     last-names c.args.n r
     (past_ret r.kind c.requires n.0.0.0.0.0.1 n.0.0.0.0.1 n.0.0.0.1 n.0.0.1 n.0.1 n.1)

@@ -14,4 +14,4 @@ pub returns-in-6 : goal.returns-in-6
 returns-in-6 c = names_as_lem c.args.n c.args.r c.in-6.is c.arm_exist.ensures
 
 pub returns-in_default : goal.returns-in_default
-returns-in_default c = let n = c.in_default.rest in no_names c.args.n c.args.r n.0.0.0.1 n.0.0.1 n.0.1 n.1
+returns-in_default c = let n = c.in_default.in_default-own.rest in no_names c.args.n c.args.r n.0.0.0.1 n.0.0.1 n.0.1 n.1

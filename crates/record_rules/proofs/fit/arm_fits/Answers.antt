@@ -11,4 +11,4 @@ returns-in-1 c = rw c.in-1.is c.all_zero.ensures
 pub returns-in_default : goal.returns-in_default
 returns-in_default c =
     c.blank.ensures
-    ∙ ap (λ (l : List Place). all_fit l (fields c.args.r)) (at_rest arm_places [] (past 2 _ c.in_default.rest))
+    ∙ ap (λ (l : List Place). all_fit l (fields c.args.r)) (at_rest arm_places [] (past 2 _ c.in_default.in_default-own.rest))

@@ -42,4 +42,4 @@ pub returns-else-plain-5 : goal.returns-else-plain-5
 returns-else-plain-5 c = plain-wrong c.args.r arms c.in-6.is c.plain-in-6.ensures c.if-plain-5.false
 
 pub returns-in_default : goal.returns-in_default
-returns-in_default c = let n = c.in_default.rest in no_class c.args.r n.0.0.0.0.0.1 n.0.0.0.0.1 n.0.0.0.1 n.0.0.1 n.0.1 n.1
+returns-in_default c = let n = c.in_default.in_default-own.rest in no_class c.args.r n.0.0.0.0.0.1 n.0.0.0.0.1 n.0.0.0.1 n.0.0.1 n.0.1 n.1

@@ -15,4 +15,4 @@ pub returns-in-2 : goal.returns-in-2
 returns-in-2 c = rw c.in-2.is
 
 pub returns-in_default : goal.returns-in_default
-returns-in_default c = ap (λ (x : Place). fit x c.args.number) (at_rest (unused ∷ small ∷ unused ∷ number ∷ number ∷ []) unused (past 5 _ c.in_default.rest))
+returns-in_default c = ap (λ (x : Place). fit x c.args.number) (at_rest (unused ∷ small ∷ unused ∷ number ∷ number ∷ []) unused (past 5 _ c.in_default.in_default-own.rest))

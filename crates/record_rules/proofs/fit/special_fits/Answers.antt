@@ -45,7 +45,7 @@ returns-else-r-eq0-2 c =
 
 pub returns-in_default : goal.returns-in_default
 returns-in_default c = let r = c.args.r in
-    let n = c.in_default.rest in
+    let n = c.in_default.in_default-own.rest in
     c.blank-in_default.ensures
     ∙ ap (λ (u : ℕ). zeros (drop u (fields r))) c.requires
     ∙ plain_row r r.kind r.op n.0.0.0.1 n.0.0.1 n.0.1 n.1
