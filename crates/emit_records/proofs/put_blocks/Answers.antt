@@ -45,7 +45,4 @@ returns c =
     let a = c.args in
     let R = block_records_in a.work.now a.table.now in
     let m = marks_in a.seen.now in
-    let n = length-table a.work.now a.table.now in (
-      sym (ap (λ (r : List Record). puts r (place c.loop-b.code c.loop-b.top)) (empty_end m R c.loop-b.b (omega arith))) ∙ c.loop-b.inv.4,
-      λ i j. heading_end m R (omega arith) (c.loop-b.inv.5 i j),
-    )
+    let n = length-table a.work.now a.table.now in record { code = sym (ap (λ (r : List Record). puts r (place c.loop-b.code c.loop-b.top)) (empty_end m R c.loop-b.b (omega arith))) ∙ c.loop-b.inv.4; heads = λ i j. heading_end m R (omega arith) (c.loop-b.inv.5 i j); }

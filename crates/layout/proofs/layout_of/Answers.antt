@@ -1,50 +1,76 @@
 use mathlib.Core.Path.{◌≡◌, refl, sym, ◌∙◌}
+use mathlib.Core.List.{List}
+use Rattle.records.specs.declared.Record.{Record}
 use Rattle.records.specs.Record.{records_of}
 use Rattle.records.proofs.Laws.{length_records}
 use Rattle.layout.proofs.Order.{end_of, end_of_le}
 use Rattle.layout.proofs.Laid.{span_next, laid_out, not_laid}
 use Rattle.layout.proofs.layout_of.Goals as goal
 
-at1 : (c : tie.After-span) → c.span.result ≡ end_of 1 (records_of c.before.before.args.b.now)
+start_is : (rs : List Record) → 0 ≡ end_of 0 rs
 unfolding end_of
-at1 c = span_next 0 (records_of c.before.before.args.b.now) refl c.span.ensures
-
-at2 : (c : tie.After-span2) → c.span2.result ≡ end_of 2 (records_of c.before.before.before.args.b.now)
-at2 c = span_next 1 (records_of c.before.before.before.args.b.now) (at1 c.before) c.span2.ensures
-
-at3 : (c : tie.After-span3) → c.span3.result ≡ end_of 3 (records_of c.before.before.before.before.args.b.now)
-at3 c = span_next 2 (records_of c.before.before.before.before.args.b.now) (at2 c.before) c.span3.ensures
-
-at4 : (c : tie.After-span4) → c.span4.result ≡ end_of 4 (records_of c.before.before.before.before.before.args.b.now)
-at4 c = span_next 3 (records_of c.before.before.before.before.before.args.b.now) (at3 c.before) c.span4.ensures
-
-at5 : (c : tie.After-span5) → c.span5.result ≡ end_of 5 (records_of c.before.before.before.before.before.before.args.b.now)
-at5 c = span_next 4 (records_of c.before.before.before.before.before.before.args.b.now) (at4 c.before) c.span5.ensures
-
-at6 : (c : tie.After-span6) → c.span6.result ≡ end_of 6 (records_of c.before.before.before.before.before.before.before.args.b.now)
-at6 c = span_next 5 (records_of c.before.before.before.before.before.before.before.args.b.now) (at5 c.before) c.span6.ensures
+start_is rs = refl
 
 pub span-bodies-requires : goal.span-bodies-requires
-span-bodies-requires c = rw (at1 c) (end_of_le 1 (records_of c.args.b.now))
+span-bodies-requires c = 
+    let rs = records_of c.args.b.now in
+    let e1 = span_next 0 rs (start_is rs) c.span-blocks.ensures in
+    rw e1 (end_of_le 1 rs)
 
 pub span-code-requires : goal.span-code-requires
-span-code-requires c = rw (at2 c) (end_of_le 2 (records_of c.args.b.now))
+span-code-requires c = 
+    let rs = records_of c.args.b.now in
+    let e1 = span_next 0 rs (start_is rs) c.span-blocks.ensures in
+    let e2 = span_next 1 rs (e1) c.span-bodies.ensures in
+    rw e2 (end_of_le 2 rs)
 
 pub span-operands-requires : goal.span-operands-requires
-span-operands-requires c = rw (at3 c) (end_of_le 3 (records_of c.args.b.now))
+span-operands-requires c = 
+    let rs = records_of c.args.b.now in
+    let e1 = span_next 0 rs (start_is rs) c.span-blocks.ensures in
+    let e2 = span_next 1 rs (e1) c.span-bodies.ensures in
+    let e3 = span_next 2 rs (e2) c.span-code.ensures in
+    rw e3 (end_of_le 3 rs)
 
 pub span-arms-requires : goal.span-arms-requires
-span-arms-requires c = rw (at4 c) (end_of_le 4 (records_of c.args.b.now))
+span-arms-requires c = 
+    let rs = records_of c.args.b.now in
+    let e1 = span_next 0 rs (start_is rs) c.span-blocks.ensures in
+    let e2 = span_next 1 rs (e1) c.span-bodies.ensures in
+    let e3 = span_next 2 rs (e2) c.span-code.ensures in
+    let e4 = span_next 3 rs (e3) c.span-operands.ensures in
+    rw e4 (end_of_le 4 rs)
 
 pub span-end-requires : goal.span-end-requires
-span-end-requires c = rw (at5 c) (end_of_le 5 (records_of c.args.b.now))
+span-end-requires c = 
+    let rs = records_of c.args.b.now in
+    let e1 = span_next 0 rs (start_is rs) c.span-blocks.ensures in
+    let e2 = span_next 1 rs (e1) c.span-bodies.ensures in
+    let e3 = span_next 2 rs (e2) c.span-code.ensures in
+    let e4 = span_next 3 rs (e3) c.span-operands.ensures in
+    let e5 = span_next 4 rs (e4) c.span-arms.ensures in
+    rw e5 (end_of_le 5 rs)
 
 pub returns-then-end-b : goal.returns-then-end-b
 returns-then-end-b c =
     let b = c.args.b.now in
-    laid_out (records_of b) (at1 c) (at2 c) (at3 c) (at4 c) (at5 c) (at6 c) (c.if-end-b.true ∙ sym (length_records b))
+    let rs = records_of b in
+    let e1 = span_next 0 rs (start_is rs) c.span-blocks.ensures in
+    let e2 = span_next 1 rs (e1) c.span-bodies.ensures in
+    let e3 = span_next 2 rs (e2) c.span-code.ensures in
+    let e4 = span_next 3 rs (e3) c.span-operands.ensures in
+    let e5 = span_next 4 rs (e4) c.span-arms.ensures in
+    let e6 = span_next 5 rs (e5) c.span-end.ensures in
+    laid_out rs e1 e2 e3 e4 e5 e6 (c.if-end-b.true ∙ sym (length_records b))
 
 pub returns-else-end-b : goal.returns-else-end-b
 returns-else-end-b c =
     let b = c.args.b.now in
-    not_laid (records_of b) (at1 c) (at2 c) (at3 c) (at4 c) (at5 c) (at6 c) (λ i. c.if-end-b.false (i ∙ length_records b))
+    let rs = records_of b in
+    let e1 = span_next 0 rs (start_is rs) c.span-blocks.ensures in
+    let e2 = span_next 1 rs (e1) c.span-bodies.ensures in
+    let e3 = span_next 2 rs (e2) c.span-code.ensures in
+    let e4 = span_next 3 rs (e3) c.span-operands.ensures in
+    let e5 = span_next 4 rs (e4) c.span-arms.ensures in
+    let e6 = span_next 5 rs (e5) c.span-end.ensures in
+    not_laid rs e1 e2 e3 e4 e5 e6 (λ i. c.if-end-b.false (i ∙ length_records b))

@@ -22,7 +22,7 @@ returns-then-x c =
     let s = search_of c.loop-k.seen c.loop-k.stack c.loop-k.at in
     let e = c.arm_of-x.ensures ∙ ap arm_of c.record_at.ensures in
     let d = default-arm a.nb a.n rs (rw n h) e s c.if-x-n.true c.if-x.true in
-    (p.ensures.0 c.loop-k.invariant.2, p.ensures.1 c.loop-k.invariant.2 ∙ d ∙ c.loop-k.invariant.3)
+    record { sized = p.ensures.0 c.loop-k.invariant.2; result_after = p.ensures.1 c.loop-k.invariant.2 ∙ d ∙ c.loop-k.invariant.3; }
 
 pub loop-k-smaller : goal.loop-k-smaller
 loop-k-smaller c = let h = c.loop-k-test.true in omega arith
@@ -50,4 +50,4 @@ returns c =
     let rs = records_of a.arms.now in
     let n = length_records a.arms.now in
     let s = search_of c.loop-k.seen c.loop-k.stack c.loop-k.at in
-    (c.loop-k.invariant.2, no_arm a.nb a.n rs c.loop-k.k (let i = c.loop-k-test.false in omega arith) s ∙ c.loop-k.invariant.3)
+    record { sized = c.loop-k.invariant.2; result_after = no_arm a.nb a.n rs c.loop-k.k (let i = c.loop-k-test.false in omega arith) s ∙ c.loop-k.invariant.3; }

@@ -5,21 +5,18 @@ use Rattle.reach.proofs.push_targets.Goals as goal
 pub returns-in-Br : goal.returns-in-Br
 unfolding pushed_all
 returns-in-Br c =
-    (c.push.ensures.0 c.requires, rw c.in-Br.is (c.push.ensures.1 c.requires))
+    record { sized = c.push.ensures.0 c.requires; result_after = rw c.in-Br.is (c.push.ensures.1 c.requires); }
 
 pub returns-in-CondBr : goal.returns-in-CondBr
 unfolding pushed_all
 returns-in-CondBr c =
     let p = c.push-at in
     let f = c.e-in-CondBr-1.given in
-    let z = p.ensures.0 c.requires in (
-      c.push-in-CondBr.ensures.0 z,
-      rw f.1 (c.push-in-CondBr.ensures.1 z ∙ ap (λ (t : Search). pushed c.args.nb t f.0.1.1.0.0) (p.ensures.1 c.requires)),
-    )
+    let z = p.ensures.0 c.requires in record { sized = c.push-in-CondBr.ensures.0 z; result_after = rw f.1 (c.push-in-CondBr.ensures.1 z ∙ ap (λ (t : Search). pushed c.args.nb t f.0.1.1.0.0) (p.ensures.1 c.requires)); }
 
 pub returns-in-Case : goal.returns-in-Case
-returns-in-Case c = (c.push_arms.ensures.0, rw c.in-Case.is c.push_arms.ensures.1)
+returns-in-Case c = record { sized = c.push_arms.ensures.0; result_after = rw c.in-Case.is c.push_arms.ensures.1; }
 
 pub returns-in-Other : goal.returns-in-Other
 unfolding pushed_all
-returns-in-Other c = (c.requires, rw c.in-Other.is)
+returns-in-Other c = record { sized = c.requires; result_after = rw c.in-Other.is; }

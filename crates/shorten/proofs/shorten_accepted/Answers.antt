@@ -27,7 +27,7 @@ returns-then-code-part c =
     let bytes : Bytes b = λ (i : ℕ). omega (arith, c.shared_slice_known-1.given i) in
     c.refused-then-code-part.ensures o
     ∙ much-code m n b o bytes c.requires.0
-    (by_part (λ x. x.registers) b c.starts-l.ensures c.part.ensures (λ c. c / 32 ≤ m) c.if-registers-part.left)
+    (by_part (λ x. x.registers) b c.starts-l.ensures c.part.ensures (λ c. c / 32 ≤ m) c.if-registers-part.false)
     (by_part (λ x. x.code) b c.starts-l.ensures c.part-2.ensures (λ c. n < c / 32) c.if-code-part.true)
 
 pub returns : goal.returns
@@ -38,6 +38,6 @@ returns c =
     let n = c.args.code in
     let bytes : Bytes b = λ (i : ℕ). omega (arith, c.shared_slice_known-1.given i) in
     shortened-is m n b o bytes c.requires.0 c.requires.1 c.requires.2
-    (by_part (λ x. x.registers) b c.starts-l.ensures c.part.ensures (λ c. c / 32 ≤ m) c.if-registers-part.left)
-    (by_part (λ x. x.code) b c.starts-l.ensures c.part-2.ensures (λ c. c / 32 ≤ n) c.if-code-part.left)
+    (by_part (λ x. x.registers) b c.starts-l.ensures c.part.ensures (λ c. c / 32 ≤ m) c.if-registers-part.false)
+    (by_part (λ x. x.code) b c.starts-l.ensures c.part-2.ensures (λ c. c / 32 ≤ n) c.if-code-part.false)
     (subst (λ c. Done (parts_of b c) c.shorten_read.result o c.shorten_read.last.1.1.0) c.starts-l.ensures c.shorten_read.ensures)

@@ -15,7 +15,7 @@ returns-then-r-ne0 c =
 
 pub shorten_accepted-requires : goal.shorten_accepted-requires
 shorten_accepted-requires c =
-    (read_number c.args.bytes.now c.read-r.ensures c.if-r-ne0.left, c.requires.0, c.requires.1)
+    (read_number c.args.bytes.now c.read-r.ensures c.if-r-ne0.false, c.requires.0, c.requires.1)
 
 pub returns : goal.returns
 returns c =

@@ -10,7 +10,7 @@ pub returns-then-no_step : goal.returns-then-no_step
 returns-then-no_step c p o =
     let a = c.args in
     c.put_sent.ensures p o.parted
-    ∙ sym (ap (λ (z : Shortened). shortened z a.out.now) (sent-run p (parts_of a.b.now a.l) o (c.no_step.ensures c.if-no_step.taken)))
+    ∙ sym (ap (λ (z : Shortened). shortened z a.out.now) (sent-run p (parts_of a.b.now a.l) o (c.no_step.ensures c.if-no_step.true)))
 
 pub returns : goal.returns
 returns c =

@@ -11,11 +11,11 @@ returns-then-t-ne0 c =
     let b = c.args.bytes.now in
     let o = c.args.out.now in
     provisioned b o (λ (c : ℕ). omega (arith, c.shared_slice_known-1.given c)) c.tidy-t.result c.tidy-t.ensures c.refused-s.result o
-    (c.refused-s.ensures o ∙ refused-by-tidy b o c.tidy-t.ensures c.if-t-ne0.taken)
+    (c.refused-s.ensures o ∙ refused-by-tidy b o c.tidy-t.ensures c.if-t-ne0.true)
 
 pub shorten_accepted-s-requires : goal.shorten_accepted-s-requires
 shorten_accepted-s-requires c =
-    (read_too c.args.bytes.now (ap (λ (x : Tidiness). x.number) (sym c.tidy-t.ensures) ∙ c.if-t-ne0.left), omega arith, omega arith)
+    (read_too c.args.bytes.now (ap (λ (x : Tidiness). x.number) (sym c.tidy-t.ensures) ∙ c.if-t-ne0.false), omega arith, omega arith)
 
 pub returns : goal.returns
 returns c =

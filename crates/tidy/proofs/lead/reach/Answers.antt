@@ -45,12 +45,12 @@ bounds-targets-b-in-loop-top c = let b = low c in omega arith
 
 pub loop-top-smaller : goal.loop-top-smaller
 loop-top-smaller c =
-    both_less c.args.targets.now c.requires.1 _ c.loop-top.inv c.loop-top-test.taken c.push-top-in-loop-top.ensures.0 c.push-top-in-loop-top.ensures.1
+    both_less c.args.targets.now c.requires.1 _ c.loop-top.inv c.loop-top-test.true c.push-top-in-loop-top.ensures.0 c.push-top-in-loop-top.ensures.1
     c.push-top-in-loop-top-2.ensures.0 c.push-top-in-loop-top-2.ensures.1
 
 pub loop-top-preserved : goal.loop-top-preserved
 loop-top-preserved c =
-    both_pushed c.args.targets.now c.requires.1 _ c.loop-top.inv c.loop-top-test.taken c.push-top-in-loop-top.ensures.0 c.push-top-in-loop-top.ensures.1
+    both_pushed c.args.targets.now c.requires.1 _ c.loop-top.inv c.loop-top-test.true c.push-top-in-loop-top.ensures.0 c.push-top-in-loop-top.ensures.1
     c.push-top-in-loop-top-2.ensures.0 c.push-top-in-loop-top-2.ensures.1
 
 pub returns : goal.returns

@@ -9,7 +9,7 @@ pub returns-then-registers-k : goal.returns-then-registers-k
 returns-then-registers-k c =
     let a = c.args in
     let es = edges_in a.targets.now in
-    (c.requires.1, step_past es a.registers a.ws.now a.block.0 a.place a.s a.r.0 c.if-registers-k.true)
+    record { kept = c.requires.1; value = step_past es a.registers a.ws.now a.block.0 a.place a.s a.r.0 c.if-registers-k.true; }
 
 pub wrong-requires : goal.wrong-requires
 wrong-requires c = c.requires.1
@@ -19,7 +19,7 @@ returns-then-not-wrong c =
     let a = c.args in
     let es = edges_in a.targets.now in
     let w = c.wrong.ensures in
-    (w.0, step_right es a.registers a.ws.now a.block.0 a.place a.s a.r.0 (omega arith) (sym w.1 ∙ not-true _ c.if-not-wrong.true-raw))
+    record { kept = w.0; value = step_right es a.registers a.ws.now a.block.0 a.place a.s a.r.0 (omega arith) (sym w.1 ∙ not-true _ c.if-not-wrong.true-raw); }
 
 pub returns : goal.returns
 returns c =
@@ -27,4 +27,4 @@ returns c =
     let es = edges_in a.targets.now in
     let w = c.wrong.ensures in
     let is = sym w.1 ∙ not-false _ c.if-not-wrong.false-raw in
-    (w.0, c.lower.ensures ∙ step-wrong es a.registers a.ws.now a.block.0 a.place a.s a.r.0 (omega arith) is)
+    record { kept = w.0; value = c.lower.ensures ∙ step-wrong es a.registers a.ws.now a.block.0 a.place a.s a.r.0 (omega arith) is; }

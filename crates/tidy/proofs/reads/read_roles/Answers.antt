@@ -56,4 +56,4 @@ returns c =
     let rs = all_reads ops a.roles in
     let n = reads-length ops a.roles p.1 (operands-length p.0) in
     let i : length rs ≤ l.j = rw (n, ← c.read_count-count.ensures) c.loop-j-test.false in
-    (l.invariant.1, stepped-end es a.l.blocks a.ws.now a.block.0 a.place l.t rs l.j i ∙ l.invariant.2)
+    record { kept = l.invariant.1; value = stepped-end es a.l.blocks a.ws.now a.block.0 a.place l.t rs l.j i ∙ l.invariant.2; }
