@@ -18,6 +18,9 @@ overflow_add-b c = omega arith
 pub bounds-b-from : goal.bounds-b-from
 bounds-b-from c = omega arith
 
+pub overflow_add-b-in-loop-i : goal.overflow_add-b-in-loop-i
+overflow_add-b-in-loop-i c = omega arith
+
 pub bounds-b-to : goal.bounds-b-to
 bounds-b-to c = omega arith
 

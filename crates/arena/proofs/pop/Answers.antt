@@ -12,6 +12,12 @@ returns-then-not-can_pop c =
     let a = c.args in
     by_popped a.k.0 (topped a.table.now a.top) c.record_at-r.ensures (sym (not-true _ c.if-not-can_pop.true-raw) ∙ c.can_pop.ensures)
 
+pub overflow_sub-r : goal.overflow_sub-r
+overflow_sub-r c =
+    let test = not-false _ c.if-not-can_pop.false-raw in
+    let p = popping c.record_at-r.result c.args.top (sym c.can_pop.ensures ∙ test) in
+    omega (arith, p.holds, p.last)
+
 pub overflow_sub-result : goal.overflow_sub-result
 overflow_sub-result c =
     let test = not-false _ c.if-not-can_pop.false-raw in

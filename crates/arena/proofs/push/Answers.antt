@@ -15,6 +15,20 @@ returns-then-not-grows c =
     let test = not-true _ c.if-not-grows.true-raw in
     by_grows a.k.0 a.c (arena a.work.now a.table.now a.top) c.record_at-r.ensures (sym test ∙ c.grows.ensures)
 
+pub overflow_add-top : goal.overflow_add-top
+overflow_add-top c =
+    let a = c.args in
+    let test = not-false _ c.if-not-grows.false-raw in
+    let g = growing a.work.now c.record_at-r.result a.top (sym c.grows.ensures ∙ test) in
+    omega (arith, g.fits, g.word)
+
+pub overflow_cast-top : goal.overflow_cast-top
+overflow_cast-top c =
+    let a = c.args in
+    let test = not-false _ c.if-not-grows.false-raw in
+    let g = growing a.work.now c.record_at-r.result a.top (sym c.grows.ensures ∙ test) in
+    omega (arith, g.fits, g.word)
+
 pub overflow_add-result : goal.overflow_add-result
 overflow_add-result c =
     let a = c.args in

@@ -15,6 +15,14 @@ returns-then-not-moves c =
     let test = not-true _ c.if-not-moves.true-raw in
     by_moves a.k.0 (arena a.work.now a.table.now a.top) c.record_at-r.ensures (sym test ∙ c.moves.ensures)
 
+pub overflow_mul-top : goal.overflow_mul-top
+overflow_mul-top c =
+    let a = c.args in
+    let test = not-false _ c.if-not-moves.false-raw in
+    let m = moving a.work.now c.record_at-r.result a.top (sym c.moves.ensures ∙ test) in
+    let e = c.size_of-n.ensures in
+    omega (arith, m.below, m.fits, m.word, e)
+
 pub copy-requires : goal.copy-requires
 copy-requires c =
     let a = c.args in
@@ -22,6 +30,30 @@ copy-requires c =
     let m = moving a.work.now c.record_at-r.result a.top (sym c.moves.ensures ∙ test) in
     let e = c.size_of-n.ensures in
     (omega (arith, m.below, e), omega (arith, m.fits, e))
+
+pub overflow_cast-top : goal.overflow_cast-top
+overflow_cast-top c =
+    let a = c.args in
+    let test = not-false _ c.if-not-moves.false-raw in
+    let m = moving a.work.now c.record_at-r.result a.top (sym c.moves.ensures ∙ test) in
+    let e = c.size_of-n.ensures in
+    omega (arith, m.below, m.fits, m.word, e)
+
+pub overflow_add-top : goal.overflow_add-top
+overflow_add-top c =
+    let a = c.args in
+    let test = not-false _ c.if-not-moves.false-raw in
+    let m = moving a.work.now c.record_at-r.result a.top (sym c.moves.ensures ∙ test) in
+    let e = c.size_of-n.ensures in
+    omega (arith, m.below, m.fits, m.word, e)
+
+pub overflow_cast-top-2 : goal.overflow_cast-top-2
+overflow_cast-top-2 c =
+    let a = c.args in
+    let test = not-false _ c.if-not-moves.false-raw in
+    let m = moving a.work.now c.record_at-r.result a.top (sym c.moves.ensures ∙ test) in
+    let e = c.size_of-n.ensures in
+    omega (arith, m.below, m.fits, m.word, e)
 
 pub overflow_add-result : goal.overflow_add-result
 overflow_add-result c =

@@ -1,4 +1,4 @@
 use Rattle.bench_c.proofs.halivomue_emit.Goals as goal
 
 pub returns : goal.returns
-returns c = c.emit-e.ensures.1
+returns c = c.emit-e.ensures.emitted

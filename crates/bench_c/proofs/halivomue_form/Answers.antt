@@ -13,7 +13,7 @@ pub returns-then-which-eq1 : goal.returns-then-which-eq1
 returns-then-which-eq1 c =
     let b = c.args.bytes.now in
     let o = c.args.out.now in
-    ap (λ (a : Answer). outcome a c.shorten.last.1.0) c.told-then-which-eq1.ensures ∙ c.shorten.ensures.0 ∙ threaded-is b o
+    ap (λ (a : Answer). outcome a c.shorten.last.1.0) c.told-then-which-eq1.ensures ∙ c.shorten.ensures.is ∙ threaded-is b o
     ∙ form-threaded b o c.if-which-eq0.false c.if-which-eq1.true
 
 pub returns : goal.returns

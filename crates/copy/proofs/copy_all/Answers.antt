@@ -22,6 +22,12 @@ loop-k-init c =
       e.2,
     )
 
+pub overflow_cast-s : goal.overflow_cast-s
+overflow_cast-s c = omega arith
+
+pub overflow_add-m : goal.overflow_add-m
+overflow_add-m c = omega arith
+
 pub placed-s-requires : goal.placed-s-requires
 placed-s-requires c = (omega arith, omega arith, c.loop-k.invariant.5)
 

@@ -20,5 +20,5 @@ returns c =
     let n-is : c.least-n.result ≡ min c.put_blocks-top.result room = c.least-n.ensures in record { size = omega arith; emitted = λ p w body budget ready.
           emitted a.work.now a.table.now a.arms.now a.facts.now a.code.now a.heads.now p w body budget ready
           (take_all 160 r.reached.result (omega (arith, slice-aggregate-put-keep k.before)) ∙ r.reached.ensures) k.put-keep.ensures
-          l.least.ensures c.put_blocks-top.ensures.1 k.put-keep.kept.0 c.put_blocks-top.ensures.0 n-is
+          l.least.ensures c.put_blocks-top.ensures.heads k.put-keep.kept.0 c.put_blocks-top.ensures.code n-is
           (λ (i : ℕ). omega (arith, c.slice_known-4-1.given i)) (λ (i : ℕ). omega (arith, c.slice_known-5-1.given i)); }

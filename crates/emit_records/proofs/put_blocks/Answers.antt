@@ -33,7 +33,7 @@ loop-b-preserved c =
       c.put_new-top.kept.0 ∙ c.loop-b.inv.2,
       c.put_record.kept.0 ∙ c.loop-b.inv.3,
       ap (puts rest) c.put_new-top.ensures
-          ∙ sym (ap (λ (c : List Record). puts c (place c.loop-b.code c.loop-b.top)) (empty_one m R b (omega arith)) ∙ puts-append (new_at m R b) rest _)
+          ∙ sym (ap (λ (z : List Record). puts z (place c.loop-b.code c.loop-b.top)) (empty_one m R b (omega arith)) ∙ puts-append (new_at m R b) rest _)
           ∙ c.loop-b.inv.4,
       λ i j. heading_one m R (omega arith) c.put_new-top.ensures c.put_new-top.kept.0 c.least-end.ensures
           (c.put_record.ensures ∙ ap (put_of c.loop-b.heads b) c.record_of_block.ensures) (omega arith) (c.loop-b.inv.5 i j),

@@ -1,15 +1,17 @@
 use Prim.Native.Nat.{ℕ, suc, ◌+◌}
 use native.Mathlib.Numerals.{add-one}
+use native.Mathlib.Omega.{arith}
 use mathlib.Core.Path.{sym, ap, ◌∙◌}
 use mathlib.Core.List.{List, [], ◌∷◌, map}
-use lib.ListN.{get_or}
+use lib.ListN.{get_or, length-take}
 use Rattle.records.specs.declared.Record.{Record}
 use Rattle.records.specs.Record.{records_of}
 use Rattle.codec.specs.Codec.{code_of, block_of}
-use Rattle.blocks.specs.Blocks.{block_records_in}
+use Rattle.blocks.specs.Blocks.{block_records_in, blocks_of}
 use Rattle.blocks.proofs.Parts.{block_records_lem}
-use Rattle.emit_records.specs.Emitted.{branch_record, place, puts}
+use Rattle.emit_records.specs.Emitted.{marks_in, branch_record, place, puts}
 use Rattle.emit_records.proofs.Laws.{chosen, other}
+use Rattle.emit_records.proofs.Passes.{has_mark}
 use Rattle.emit_records.proofs.put_new.Goals as goal
 
 pub returns-then-keeps : goal.returns-then-keeps
@@ -21,6 +23,20 @@ returns-then-keeps c =
     c.put_block.ensures
     ∙ ap (λ (l : List Record). puts l (place a.out.now a.at))
     (e ∙ chosen (get_or R a.b []) (branch_record (block_of (suc a.b)) (map code_of (get_or R a.b [])) ∷ []) t)
+
+pub overflow_add-b : goal.overflow_add-b
+overflow_add-b c =
+    let a = c.args in
+    let n = length-take 160 a.seen.now in
+    let h = has_mark (marks_in a.seen.now) (blocks_of a.work.now a.table.now) a.b (sym c.keeps.ensures ∙ c.if-keeps.false) in
+    omega (arith, h, n)
+
+pub overflow_cast-b : goal.overflow_cast-b
+overflow_cast-b c =
+    let a = c.args in
+    let n = length-take 160 a.seen.now in
+    let h = has_mark (marks_in a.seen.now) (blocks_of a.work.now a.table.now) a.b (sym c.keeps.ensures ∙ c.if-keeps.false) in
+    omega (arith, h, n)
 
 pub returns : goal.returns
 unfolding puts

@@ -5,9 +5,9 @@ use Rattle.halivomue_c.proofs.halivomue_provision.Goals as goal
 
 pub returns : goal.returns
 returns c =
-    let t = c.tidy_and_shorten-p.ensures.0 in
-    let e = c.tidy_and_shorten-p.ensures.1.0 in
-    let clauses = c.tidy_and_shorten-p.ensures.1.1 in (
+    let t = c.tidy_and_shorten-p.ensures.tidiness in
+    let e = c.tidy_and_shorten-p.ensures.is.0 in
+    let clauses = c.tidy_and_shorten-p.ensures.is.1 in (
       ap (λ (o : Outcome). o.answer.number) e,
       (
         ap (λ (o : Outcome). o.answer.place) e,

@@ -4,8 +4,8 @@ use Rattle.halivomue_c.proofs.halivomue_shorten.Goals as goal
 
 pub returns : goal.returns
 returns c =
-    let e = c.shorten-s.ensures.0 in
-    let clauses = c.shorten-s.ensures.1 in (
+    let e = c.shorten-s.ensures.is in
+    let clauses = c.shorten-s.ensures.accepted in (
       ap (λ (o : Outcome). o.answer.number) e,
       (
         ap (λ (o : Outcome). o.answer.place) e,

@@ -1,8 +1,14 @@
-use Prim.Native.Nat.{◌-◌, ◌≤◌, min}
+use Prim.Native.Nat.{ℕ, ◌-◌, ◌≤◌, min}
 use mathlib.Core.Path.{◌≡◌}
-use lib.ListN.{length, drop}
+use mathlib.Core.List.{List, map}
+use lib.ListN.{length, take, drop}
+use Rattle.inst.specs.declared.Reg.{Reg}
+use Rattle.roles.specs.Roles.{numbers_of}
 use Rattle.hop_br.specs.Storage.{kinds_put}
 use Rattle.hop_br.proofs.put_kinds.Given as goal
+
+abbrev firstKinds : List ℕ → List Reg → ℕ → List ℕ
+firstKinds facts old n = map (kindIn facts) (take n (numbers_of old))
 
 abbrev pub invariant-loop-k : goal.invariant-loop-k
 invariant-loop-k l =

@@ -9,8 +9,14 @@ overflow_sub-count c = let z = sizes c.requires.0 in omega arith
 pub overflow_sub-n : goal.overflow_sub-n
 overflow_sub-n c = let z = sizes c.requires.0 in omega arith
 
+pub overflow_cast-n : goal.overflow_cast-n
+overflow_cast-n c = let z = sizes c.requires.0 in omega arith
+
 pub tiled_blocks-tiled-requires : goal.tiled_blocks-tiled-requires
 tiled_blocks-tiled-requires c = let z = sizes c.requires.0 in omega arith
+
+pub overflow_add-l : goal.overflow_add-l
+overflow_add-l c = let z = sizes c.requires.0 in omega arith
 
 pub refused-requires : goal.refused-requires
 refused-requires c = let z = sizes c.requires.0 in omega arith
@@ -26,6 +32,9 @@ pub ended_blocks-ended-requires : goal.ended_blocks-ended-requires
 ended_blocks-ended-requires c = let p = c.requires.0 in
     let z = sizes p in
     (omega arith, omega arith, tiled-in p c.tiled_blocks-tiled.ensures c.if-tiled-count.false)
+
+pub overflow_add-l-then-ended-count : goal.overflow_add-l-then-ended-count
+overflow_add-l-then-ended-count c = let z = sizes c.requires.0 in omega arith
 
 pub refused-requires-then-ended-count : goal.refused-requires-then-ended-count
 refused-requires-then-ended-count c = let z = sizes c.requires.0 in omega arith

@@ -40,4 +40,4 @@ returns c =
     shortened-is m n b o bytes c.requires.0 c.requires.1 c.requires.2
     (by_part (λ x. x.registers) b c.starts-l.ensures c.part.ensures (λ c. c / 32 ≤ m) c.if-registers-part.false)
     (by_part (λ x. x.code) b c.starts-l.ensures c.part-2.ensures (λ c. c / 32 ≤ n) c.if-code-part.false)
-    (subst (λ c. Done (parts_of b c) c.shorten_read.result o c.shorten_read.last.1.1.0) c.starts-l.ensures c.shorten_read.ensures)
+    (subst (λ z. Done (parts_of b z) c.shorten_read.result o c.shorten_read.last.1.1.0) c.starts-l.ensures c.shorten_read.ensures)

@@ -7,8 +7,8 @@ pub returns : goal.returns
 returns c =
     let b = c.args.bytes.now in
     let o = c.args.out.now in (
-      c.shorten_below.ensures.0
+      c.shorten_below.ensures.is
           ∙ ap (λ (k : ℕ). shorten_within k c.least-2.result b o) c.least.ensures
           ∙ ap (λ (k : ℕ). shorten_within (min c.args.registers 480) k b o) c.least-2.ensures,
-      c.shorten_below.ensures.1,
+      c.shorten_below.ensures.accepted,
     )

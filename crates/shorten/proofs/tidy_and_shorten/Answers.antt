@@ -10,7 +10,7 @@ pub returns-then-t-ne0 : goal.returns-then-t-ne0
 returns-then-t-ne0 c =
     let b = c.args.bytes.now in
     let o = c.args.out.now in
-    provisioned b o (λ (c : ℕ). omega (arith, c.shared_slice_known-1.given c)) c.tidy-t.result c.tidy-t.ensures c.refused-s.result o
+    provisioned b o (λ (k : ℕ). omega (arith, c.shared_slice_known-1.given k)) c.tidy-t.result c.tidy-t.ensures c.refused-s.result o
     (c.refused-s.ensures o ∙ refused-by-tidy b o c.tidy-t.ensures c.if-t-ne0.true)
 
 pub shorten_accepted-s-requires : goal.shorten_accepted-s-requires

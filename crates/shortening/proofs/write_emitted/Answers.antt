@@ -8,8 +8,15 @@ use Rattle.steps.specs.Run.{arms_joined, threaded_form}
 use Rattle.procedure_parts.specs.Opened.{parts_of}
 use Rattle.thread.specs.Storage.{store}
 use Rattle.thread.proofs.Refined.{work_of}
+use Rattle.output.proofs.Laws.{room}
 use Rattle.shortening.proofs.Left.{ready, emitted-held, emitted-tells}
 use Rattle.shortening.proofs.write_emitted.Goals as goal
+
+pub overflow_mul-n : goal.overflow_mul-n
+overflow_mul-n c =
+    let q = emitted-of c in
+    let s = start_of q in
+    record { fits = room (length s.args.code.now) _ q.emit.ensures.0 s.good.1.1.1.1.1.1.1.0.0 }
 
 pub slice_bounds-finish-end-2 : goal.slice_bounds-finish-end-2
 slice_bounds-finish-end-2 c =

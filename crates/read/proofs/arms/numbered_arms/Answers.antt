@@ -4,6 +4,7 @@ use native.Mathlib.Omega.{arith}
 use native.Mathlib.Nat.{zero-add}
 use borrow.Author.Tests.{not-true, not-false}
 use Rattle.records.specs.Record.{records_of}
+use Rattle.records.proofs.Laws.{length_records}
 use Rattle.layout.specs.Walk.{walk}
 use Rattle.read.specs.Structure.{State, numbers, next_arm, tables}
 use Rattle.read.specs.Work.{part}
@@ -18,6 +19,9 @@ loop-k-init c =
     let size = part_length rs a.first a.count c.requires.0 in
     let all : ℕ → ℕ = λ (n : ℕ). walk numbers next_arm (0, n) (part a.first a.count rs) in
     (omega arith, omega arith, refl, zero-add _ ∙ ap all (omega (arith, size)))
+
+pub overflow_add-first : goal.overflow_add-first
+overflow_add-first c = omega (arith, length_records c.args.b.now)
 
 pub returns-then-not-numbers : goal.returns-then-not-numbers
 returns-then-not-numbers c =
@@ -36,7 +40,7 @@ loop-k-preserved c =
     let rs = records_of a.b.now in
     let s : State = (c.loop-k.due, a.count - c.loop-k.k) in
     let pass = part_pass numbers next_arm rs a.first a.count c.requires.0 c.loop-k.k s c.loop-k-test.true c.record_at-r.ensures in
-    let due = ap (λ (c : ℕ). c.loop-k.due + c) c.ends_table-due.ensures.0 in (
+    let due = ap (λ (z : ℕ). c.loop-k.due + z) c.ends_table-due.ensures.0 in (
       omega arith,
       omega (arith, c.ends_table-due.ensures.1),
       tables-next rs a.first a.count c.loop-k.k c.requires.0 c.record_at-r.result c.loop-k-test.true

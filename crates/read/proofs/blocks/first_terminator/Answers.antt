@@ -5,6 +5,7 @@ use native.Mathlib.Nat.{zero-add}
 use mathlib.Core.Bool.{Bool, not}
 use Rattle.records.specs.declared.Record.{Record}
 use Rattle.records.specs.Record.{records_of}
+use Rattle.records.proofs.Laws.{length_records}
 use Rattle.read.specs.Structure.{terminator}
 use Rattle.read.proofs.Laws.{tests_pass, tests_stop, tests-end}
 use Rattle.read.proofs.blocks.first_terminator.Goals as goal
@@ -14,6 +15,9 @@ goesOn i = not (terminator i)
 
 pub loop-k-init : goal.loop-k-init
 loop-k-init c = (omega arith, zero-add _)
+
+pub overflow_add-first : goal.overflow_add-first
+overflow_add-first c = omega (arith, length_records c.args.b.now)
 
 pub returns-then-terminator : goal.returns-then-terminator
 returns-then-terminator c =

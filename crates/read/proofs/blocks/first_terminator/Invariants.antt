@@ -1,10 +1,16 @@
 use Prim.Native.Nat.{◌+◌, ◌-◌, ◌≤◌}
 use mathlib.Core.Path.{◌≡◌}
+use mathlib.Core.Bool.{Bool, not}
 use lib.ListN.{drop}
+use Rattle.records.specs.declared.Record.{Record}
 use Rattle.records.specs.Record.{records_of}
 use Rattle.layout.specs.Walk.{lead}
+use Rattle.read.specs.Structure.{terminator}
 use Rattle.read.specs.Work.{part}
 use Rattle.read.proofs.blocks.first_terminator.Given as goal
+
+abbrev goesOn : Record → Bool
+goesOn i = not (terminator i)
 
 abbrev pub invariant-loop-k : goal.invariant-loop-k
 invariant-loop-k l =

@@ -4,6 +4,7 @@ use native.Mathlib.Omega.{arith}
 use native.Mathlib.Nat.{zero-add}
 use borrow.Author.Tests.{not-true, not-false}
 use Rattle.records.specs.Record.{records_of}
+use Rattle.records.proofs.Laws.{length_records}
 use Rattle.layout.specs.Walk.{walk}
 use Rattle.read.specs.Structure.{State, tiles, next_block}
 use Rattle.read.specs.Work.{part}
@@ -16,6 +17,9 @@ loop-k-init c =
     let rs = records_of a.b.now in
     let size = part_length rs a.first a.count c.requires in
     (omega arith, zero-add _ ∙ ap (λ (n : ℕ). walk (tiles a.n) next_block (0, n) (part a.first a.count rs)) (omega (arith, size)))
+
+pub overflow_add-first : goal.overflow_add-first
+overflow_add-first c = omega (arith, length_records c.args.b.now)
 
 pub returns-then-not-tiles : goal.returns-then-not-tiles
 returns-then-not-tiles c =

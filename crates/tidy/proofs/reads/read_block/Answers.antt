@@ -2,6 +2,7 @@ use Prim.Native.Nat.{◌-◌}
 use mathlib.Core.Path.{refl, ◌∙◌}
 use native.Mathlib.Omega.{arith}
 use Rattle.records.specs.Record.{records_of}
+use Rattle.records.proofs.Laws.{length_records}
 use Rattle.read.specs.Work.{part}
 use Rattle.read.proofs.Laws.{part_length}
 use Rattle.tidy.specs.Work.Parts.{operands_in}
@@ -12,6 +13,19 @@ use Rattle.tidy.proofs.reads.read_block.Goals as goal
 
 pub loop-k-init : goal.loop-k-init
 loop-k-init c = (omega arith, none_kept c.args.targets.now c.requires.1.0 c.args.block.0 c.requires.0.1 refl, refl)
+
+pub overflow_add-first : goal.overflow_add-first
+overflow_add-first c =
+    let f = c.requires.0.0 in
+    let e = c.requires.1.1 in
+    let q = length_records c.args.b.now in
+    omega arith
+
+pub overflow_cast-k : goal.overflow_cast-k
+overflow_cast-k c =
+    let f = c.requires.0.0 in
+    let e = c.requires.1.1 in
+    omega arith
 
 pub read_inst-t-requires : goal.read_inst-t-requires
 read_inst-t-requires c = let p = c.requires in (p.0.0, p.0.2, c.loop-k.invariant.1)

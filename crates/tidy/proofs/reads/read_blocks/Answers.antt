@@ -21,12 +21,32 @@ overflow_sub-count c = let f = c.requires.0 in omega arith
 pub loop-k-init : goal.loop-k-init
 loop-k-init c = (omega arith, refl)
 
+pub overflow_add-l : goal.overflow_add-l
+overflow_add-l c =
+    let f = c.requires.0 in
+    let q = length_records c.args.b.now in
+    omega arith
+
 pub overflow_sub-len : goal.overflow_sub-len
 overflow_sub-len c =
     let f = c.requires.0 in
     let q = length_records c.args.b.now in
     let t = c.loop-k-test.true in
     let i = block_in f c.loop-k.k t c.record_at-r.ensures in
+    omega arith
+
+pub overflow_add-l-in-loop-k : goal.overflow_add-l-in-loop-k
+overflow_add-l-in-loop-k c =
+    let f = c.requires.0 in
+    let q = length_records c.args.b.now in
+    let t = c.loop-k-test.true in
+    let i = block_in f c.loop-k.k t c.record_at-r.ensures in
+    omega arith
+
+pub overflow_cast-k : goal.overflow_cast-k
+overflow_cast-k c =
+    let f = c.requires.0 in
+    let q = length_records c.args.b.now in
     omega arith
 
 pub read_block-t-requires : goal.read_block-t-requires

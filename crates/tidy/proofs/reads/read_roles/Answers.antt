@@ -10,6 +10,9 @@ use Rattle.tidy.specs.Work.Reads.{step, stepped, all_reads}
 use Rattle.tidy.proofs.Verdicts.{reads-length, operands-length, stepped-next, stepped-end}
 use Rattle.tidy.proofs.reads.read_roles.Goals as goal
 
+pub overflow_sub-l : goal.overflow_sub-l
+overflow_sub-l c = let f = c.requires.0 in omega arith
+
 pub read_count-count-requires : goal.read_count-count-requires
 read_count-count-requires c = let p = c.requires in let f = p.0 in (p.1, omega arith)
 

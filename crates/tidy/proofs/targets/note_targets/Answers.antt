@@ -9,6 +9,7 @@ use Rattle.ends.specs.declared.End.{End}
 use Rattle.ends.specs.Ends.{view_of, targets}
 use Rattle.ends.proofs.Laws.{code-at}
 use Rattle.tidy.specs.Work.Marks.{Pair}
+use Rattle.tidy.proofs.Tables.{block_in}
 use Rattle.tidy.proofs.Ending.{none-noted, more-noted, all_noted, block-end}
 use Rattle.tidy.proofs.targets.note_targets.Goals as goal
 
@@ -16,8 +17,34 @@ pub loop-k-init : goal.loop-k-init
 loop-k-init c =
     (omega arith, ap length c.requires.1 ∙ length-replicate {A = ℕ} 320 160, none-noted (records_of c.args.b.now) c.args.l c.requires.1)
 
+pub overflow_add-l : goal.overflow_add-l
+overflow_add-l c =
+    let f = c.requires.0 in
+    let q = length_records c.args.b.now in
+    omega arith
+
+pub overflow_add-l-in-loop-k : goal.overflow_add-l-in-loop-k
+overflow_add-l-in-loop-k c =
+    let f = c.requires.0 in
+    let q = length_records c.args.b.now in
+    let i = block_in f c.loop-k.k (omega arith) c.record_at-r.ensures in
+    omega arith
+
+pub overflow_sub-l : goal.overflow_sub-l
+overflow_sub-l c =
+    let f = c.requires.0 in
+    let q = length_records c.args.b.now in
+    let i = block_in f c.loop-k.k (omega arith) c.record_at-r.ensures in
+    omega arith
+
 pub overflow_mul-targets : goal.overflow_mul-targets
 overflow_mul-targets c =
+    let f = c.requires.0 in
+    let q = length_records c.args.b.now in
+    omega arith
+
+pub offset_bounds-targets-k : goal.offset_bounds-targets-k
+offset_bounds-targets-k c =
     let f = c.requires.0 in
     let q = length_records c.args.b.now in
     omega arith
@@ -28,8 +55,20 @@ bounds-targets-k c =
     let q = length_records c.args.b.now in
     omega arith
 
+pub overflow_mul-targets-in-loop-k : goal.overflow_mul-targets-in-loop-k
+overflow_mul-targets-in-loop-k c =
+    let f = c.requires.0 in
+    let q = length_records c.args.b.now in
+    omega arith
+
 pub overflow_add-targets : goal.overflow_add-targets
 overflow_add-targets c =
+    let f = c.requires.0 in
+    let q = length_records c.args.b.now in
+    omega arith
+
+pub offset_bounds-targets-k-in-loop-k : goal.offset_bounds-targets-k-in-loop-k
+offset_bounds-targets-k-in-loop-k c =
     let f = c.requires.0 in
     let q = length_records c.args.b.now in
     omega arith

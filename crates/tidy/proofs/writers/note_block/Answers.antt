@@ -3,6 +3,7 @@ use mathlib.Core.Path.{refl, ap, ◌∙◌}
 use native.Mathlib.Omega.{arith}
 use lib.ListN.{length}
 use Rattle.records.specs.Record.{records_of}
+use Rattle.records.proofs.Laws.{length_records}
 use Rattle.read.specs.Work.{part}
 use Rattle.read.proofs.Laws.{part_length}
 use Rattle.tidy.proofs.Tables.{noted-next, noted-none, length-noted}
@@ -10,6 +11,9 @@ use Rattle.tidy.proofs.writers.note_block.Goals as goal
 
 pub loop-k-init : goal.loop-k-init
 loop-k-init c = (omega arith, refl, refl)
+
+pub overflow_add-first : goal.overflow_add-first
+overflow_add-first c = omega (arith, length_records c.args.b.now)
 
 pub loop-k-preserved : goal.loop-k-preserved
 loop-k-preserved c =

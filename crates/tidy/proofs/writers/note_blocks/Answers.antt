@@ -15,6 +15,32 @@ use Rattle.tidy.proofs.writers.note_blocks.Goals as goal
 pub loop-k-init : goal.loop-k-init
 loop-k-init c = (omega arith, refl, refl)
 
+pub overflow_add-l : goal.overflow_add-l
+overflow_add-l c =
+    let f = c.requires in
+    let q = length_records c.args.b.now in
+    omega arith
+
+pub overflow_add-l-in-loop-k : goal.overflow_add-l-in-loop-k
+overflow_add-l-in-loop-k c =
+    let f = c.requires in
+    let q = length_records c.args.b.now in
+    let i = block_in f c.loop-k.k (omega arith) c.record_at-r.ensures in
+    omega arith
+
+pub overflow_sub-r : goal.overflow_sub-r
+overflow_sub-r c =
+    let f = c.requires in
+    let q = length_records c.args.b.now in
+    let i = block_in f c.loop-k.k (omega arith) c.record_at-r.ensures in
+    omega arith
+
+pub overflow_cast-k : goal.overflow_cast-k
+overflow_cast-k c =
+    let f = c.requires in
+    let q = length_records c.args.b.now in
+    omega arith
+
 pub note_block-requires : goal.note_block-requires
 note_block-requires c =
     let f = c.requires in
