@@ -1,0 +1,53 @@
+use Prim.Native.Nat.{◌+◌, ◌-◌}
+use mathlib.Core.Path.{refl, ap, ◌∙◌}
+use mathlib.Core.Logic.{⊎_elim}
+use native.Mathlib.Omega.{arith}
+use Rattle.records.specs.Record.{records_of}
+use Rattle.records.proofs.Laws.{length_records}
+use Rattle.items.specs.Items.{arm_of}
+use Rattle.search.specs.Search.{Search, search_of}
+use Rattle.reach.proofs.Arms.{all_from, other_arm, case_arm, default-arm, no_arm}
+use Rattle.reach.proofs.push_arms.Goals as goal
+
+pub loop-k-init : goal.loop-k-init
+loop-k-init c = (omega arith, refl, c.requires, refl)
+
+pub returns-then-x : goal.returns-then-x
+returns-then-x c =
+    let p = c.push-at in
+    let a = c.args in
+    let h = c.loop-k-test.true in
+    let rs = records_of a.arms.now in
+    let n = length_records a.arms.now in
+    let s = search_of c.loop-k.seen c.loop-k.stack c.loop-k.at in
+    let e = c.arm_of-x.ensures ∙ ap arm_of c.record_at.ensures in
+    let d = default-arm a.nb a.n rs (rw n h) e s c.if-x-n.true c.if-x.true in
+    record { sized = p.ensures.0 c.loop-k.invariant.2; result_after = p.ensures.1 c.loop-k.invariant.2 ∙ d ∙ c.loop-k.invariant.3; }
+
+pub loop-k-smaller : goal.loop-k-smaller
+loop-k-smaller c = let h = c.loop-k-test.true in omega arith
+
+pub loop-k-preserved : goal.loop-k-preserved
+loop-k-preserved c =
+    let a = c.args in
+    let h = c.loop-k-test.true in
+    let rs = records_of a.arms.now in
+    let n = length_records a.arms.now in
+    let s = search_of c.loop-k.seen c.loop-k.stack c.loop-k.at in
+    let e = c.arm_of-x.ensures ∙ ap arm_of c.record_at.ensures in
+    let i = c.loop-k.invariant in
+    let more : Search → Search = λ t. all_from a.nb a.n rs t (c.loop-k.k + 1) in (
+      omega arith,
+      i.1,
+      ⊎_elim (λ w. rw (w.6, w.7, w.8) (w.4.ensures.0 i.2)) (λ w. rw (w.1, w.2, w.3) i.2) c.if-x-n.branch,
+      ⊎_elim (λ w. rw (w.6, w.7, w.8) (ap more (w.4.ensures.1 i.2) ∙ case_arm a.nb a.n rs (rw n h) e s w.0.taken w.5.left ∙ i.3))
+          (λ w. rw (w.1, w.2, w.3) (other_arm a.nb a.n rs (rw n h) e s w.0.left ∙ i.3)) c.if-x-n.branch,
+    )
+
+pub returns : goal.returns
+returns c =
+    let a = c.args in
+    let rs = records_of a.arms.now in
+    let n = length_records a.arms.now in
+    let s = search_of c.loop-k.seen c.loop-k.stack c.loop-k.at in
+    record { sized = c.loop-k.invariant.2; result_after = no_arm a.nb a.n rs c.loop-k.k (let i = c.loop-k-test.false in omega arith) s ∙ c.loop-k.invariant.3; }
