@@ -43,7 +43,8 @@ def proved(*names, root=ROOT):
 def command(name, uses=(), sources=(), root=ROOT, file="src/lib.rt"):
     """The words that check a crate. uses: crates of the repository, taken as `rt lib` has proved them, and libraries of the
     toolchain. sources: crates of the repository that are checked along with it."""
-    listed, own = crates(root), below([n for n in uses if n not in sources], root)
+    listed = crates(root)
+    own = [n for n in below([*uses, *sources], root) if n not in sources]
     named = {n for crate in [*own, *sources] for n in listed[crate]} | {*uses}
     tools = sorted({"core", "std"} | {n for n in named if n not in listed})
     words = [f"{kit()}/bin/rattle", "check", "--crate-name", name, file]
