@@ -22,6 +22,12 @@ def crates(root=ROOT):
         return {name: uses.split() for name, _, uses in ROW.findall(text.read())}
 
 
+def statics(root=ROOT):
+    """The crates that crates.txt says to be static libraries."""
+    with open(os.path.join(root, "crates.txt")) as text:
+        return {name for name, marks, _ in ROW.findall(text.read()) if "staticlib" in marks.split()}
+
+
 def below(names, root=ROOT):
     """Those of the names that are the repository's, and all of its crates below them, each after those that it uses."""
     listed, found = crates(root), []

@@ -6,9 +6,10 @@
     tests/edits/try.py NAME | NAME/LABEL..  the edits of some crates, or some edits, in both folders
     tests/edits/try.py --write ..           if all are refused, also rewrites tried.txt for the crates tried
 
-The edits have the same form as those in must-fail/. Each is checked in a copy of its crate, and every module that it
-doesn't touch is taken from the proved crate in target/, which makes this quick. An edit that isn't refused that way is
-checked once more in full. The crates must be proved (`rt check`). RT_JOBS edits are tried at a time (default 2).
+The edits have the same form as those in must-fail/, and are read as `rt must-fail` reads those. The crates are proved first, by
+`rt lib` or `rt check`. Each edit is checked in a copy of its crate, and every module that it doesn't touch is taken from what
+that proof kept in out/, which makes this quick. An edit that isn't refused that way is checked once more in full. RT_JOBS edits
+are tried at a time (default 2).
 """
 
 import concurrent.futures
@@ -26,24 +27,18 @@ from verdict import fact
 
 ROOT = os.path.dirname(os.path.dirname(os.path.dirname(os.path.abspath(__file__))))
 os.chdir(ROOT)
+sys.path.insert(0, os.path.join(ROOT, "tests"))
+from checker import command, crates, said, statics  # noqa: E402
+
 TRIED = "tests/edits/tried.txt"
 PARTS = ("src", "specs", "proofs")
-KIT = os.environ.get("RATTLE_HOME") or os.path.dirname(os.path.dirname(os.path.realpath(shutil.which("rt") or "rt")))
-OWN = os.path.join(KIT, "on", os.uname().machine)
-
-
-def crates():
-    """Each crate of crates.txt with the crates that it is built on."""
-    with open("crates.txt") as lines:
-        rows = [line.split("#")[0].partition(":") for line in lines]
-    return {name.strip(): uses.split() for name, colon, uses in rows if colon}
 
 
 def digest(name):
     """A digest of everything that the trial of a crate's edits depends on: its sources and the edits."""
     whole = hashlib.sha256()
     for path in sorted(glob.glob(f"crates/{name}/**/*.*", recursive=True)):
-        if os.path.isfile(path):
+        if os.path.isfile(path) and not path.startswith(f"crates/{name}/out/"):
             with open(path, "rb") as file:
                 whole.update(f"{path}\n".encode() + hashlib.sha256(file.read()).digest())
     return whole.hexdigest()[:16]
@@ -81,47 +76,68 @@ def chosen(words):
 
 def changed(edit, folder):
     """Makes an edit's changes in a copy of its crate; what is wrong with it, if anything."""
-    file = old = None
+    file, old, pairs = None, None, 0
     for line in edit.split("\n"):
         if line.startswith("file: "):
-            file = os.path.join(folder, line[6:])
+            path = line[6:].strip()
+            if os.path.normpath(path) != path or not path.startswith(("src/", "specs/", "proofs/")):
+                return f"it names no file below src/, specs/ or proofs/: {path}"
+            file = os.path.join(folder, path)
         elif line.startswith("old: "):
             old = line[5:]
         elif line.startswith("new:"):
+            if not file or not old:
+                return "a 'new:' line stands before any 'file:' or 'old:' line"
+            if not os.path.isfile(file):
+                return f"there is no {os.path.relpath(file, folder)}"
             with open(file) as text:
                 before = text.read()
             if before.count(old) != 1:
                 return f"its text stands {before.count(old)} times in {os.path.relpath(file, folder)}: {old.strip()}"
             with open(file, "w") as text:
                 text.write(before.replace(old, line[5:]))
-    return None if old else "it changes nothing"
+            old, pairs = None, pairs + 1
+    return None if pairs else "it changes nothing"
 
 
-def command(name, folder):
-    """The words that check a crate's folder, over the proved crates that it is built on."""
-    own = crates()
-    words = [os.path.join(OWN, "bin", "rattle"), "check", "--crate-name", name]
-    main = os.path.join(folder, "src", "main.rt")
-    words += [main if os.path.exists(main) else os.path.join(folder, "src", "lib.rt"), "--extern", f"std={OWN}/rlib/std.rlib"]
-    for used in own[name]:
-        words += ["--extern", f"{used}={os.path.join(ROOT, 'target') if used in own else OWN}/rlib/{used}.rlib"]
-    words += ["-L", f"dependency={ROOT}/target/rlib", "-L", f"dependency={OWN}/rlib"]
-    return words + ["--antt-project", f"{KIT}/logic/antt-project.json", "--logic-built", f"{OWN}/logic-built"]
+def is_program(name):
+    return os.path.exists(f"crates/{name}/src/main.rt")
+
+
+def words_for(name):
+    """The words that check a copy of a crate, over the proved crates that it is built on."""
+    words = command(name, crates()[name], file="src/main.rt" if is_program(name) else "src/lib.rt")
+    return words + ["--crate-type", "staticlib"] * (name in statics()) + ["--jobs", "1"]
+
+
+def prove(name):
+    """What rt says if a crate isn't proved; it keeps what it proves in out/."""
+    told = subprocess.run(["rt", "check" if is_program(name) else "lib"], cwd=f"crates/{name}", capture_output=True, text=True)
+    return (told.stdout + told.stderr)[-2000:] if told.returncode else None
+
+
+def kept(one, other):
+    """A check replaces such a file and never writes into it."""
+    try:
+        if one.endswith(".oantt"):
+            return os.link(one, other)
+    except OSError:
+        pass
+    return shutil.copy2(one, other)
 
 
 def proved_modules(name, folder):
-    """A copy of the proved crate's modules, as the folder that --incremental takes."""
-    library = f"target/rlib/{name}.rlib"
-    with open(os.path.join(library, "format")) as text:
-        build = re.search(r"^rattle-build (\S+)$", text.read(), re.M).group(1)
-    shutil.copytree(os.path.join(library, "toolchain", "checked"), os.path.join(folder, build.replace("/", "_")))
+    """A copy of what the proved crate's modules are kept in, as the folder that --incremental takes."""
+    if not os.path.isdir(f"crates/{name}/out/incremental"):
+        return []
+    shutil.copytree(f"crates/{name}/out/incremental", folder, copy_function=kept)
     return ["--incremental", folder]
 
 
-def checked(words):
+def checked(folder, words):
     """Whether the check proved all, and its log."""
-    said = subprocess.run(words, cwd=ROOT, stdin=subprocess.DEVNULL, stdout=subprocess.PIPE, stderr=subprocess.STDOUT, text=True)
-    return said.returncode == 0, said.stdout
+    status, lines = said(folder, words)
+    return status == 0, "\n".join(lines)
 
 
 def attempt(path, scratch):
@@ -135,17 +151,16 @@ def attempt(path, scratch):
         wrong = changed(text.read(), folder)
     if wrong:
         return False, f"{name}/{label}: BAD EDIT: {wrong}"
-    began, words = time.time(), command(name, folder)
-    program = os.path.exists(f"crates/{name}/src/main.rt")
-    proved, log = checked(words + ([] if program else proved_modules(name, folder + ".modules")))
-    if proved or "logic=not-proved" not in log:
-        proved, log = checked(words)
+    began, words = time.time(), words_for(name)
+    proved, log = checked(folder, words + proved_modules(name, folder + ".modules"))
+    if proved or not log.endswith("logic=not-proved"):
+        proved, log = checked(folder, words)
     shutil.rmtree(folder, ignore_errors=True)
     shutil.rmtree(folder + ".modules", ignore_errors=True)
     if proved:
         return False, f"{name}/{label}: NOT REFUSED"
-    said, good = fact(log.replace(folder + "/", "")) or ("no error is told: " + log[:300], False)
-    return good, f"{name}/{label}: {'' if good else 'UNFIT: '}{said[:160]} ({time.time() - began:.0f} s)"
+    what, good = fact(log) or ("no error is told: " + log[:300], False)
+    return good, f"{name}/{label}: {'' if good else 'UNFIT: '}{what[:160]} ({time.time() - began:.0f} s)"
 
 
 def write_tried(names):
@@ -161,12 +176,12 @@ def main():
         print(__doc__.strip())
         return 0
     paths, whole = chosen(words)
-    for name in {path.split("/")[1] for path in paths}:
-        if not os.path.exists(f"target/stamp/{name}"):
-            sys.exit(f"edits: {name} is not proved: rt check {name}")
+    for name in dict.fromkeys(path.split("/")[1] for path in paths):
+        why = prove(name)
+        if why:
+            sys.exit(f"{why}\nedits: {name} is not proved")
     began, good = time.time(), 0
-    with tempfile.TemporaryDirectory(dir="/dev/shm" if os.access("/dev/shm", os.W_OK) else None) as scratch:
-        os.environ["TMPDIR"] = scratch
+    with tempfile.TemporaryDirectory() as scratch:
         with concurrent.futures.ThreadPoolExecutor(int(os.environ.get("RT_JOBS", "2"))) as pool:
             for refused, line in pool.map(lambda path: attempt(path, scratch), paths):
                 good += refused
