@@ -2,33 +2,22 @@
 
 import os
 import re
-import subprocess
 import sys
 
 ROOT = os.path.dirname(os.path.dirname(os.path.dirname(os.path.abspath(__file__))))
-
-
-def listed_crates():
-    with open(os.path.join(ROOT, "crates.txt")) as lines:
-        return [line for line in lines if not line.startswith("#")]
+sys.path.insert(0, os.path.join(ROOT, "tests"))
+from checker import below, command, said  # noqa: E402
+from checker import proved as unproved  # noqa: E402
 
 
 def crates_under(crate):
-    """The crate and all that it is built on, in the order of crates.txt."""
-    lines = [line.split(":") for line in listed_crates() if ":" in line]
-    on = {name: uses.split() for name, uses in lines}
-    found, asked = set(), [crate]
-    while asked:
-        name = asked.pop()
-        if name in on and name not in found:
-            found.add(name)
-            asked += on[name]
-    return [name for name, _ in lines if name in found]
+    """The crate and all that it is built on."""
+    return below([crate])
 
 
 def unfoldable(crates):
     """All definitions that computing may have to unfold: module and name."""
-    for name in "ofBits ofFields toBits eq".split():
+    for name in "of_bits of_fields to_bits eq".split():
         yield "lib.Ieee", name
     for crate in crates:
         specs = os.path.join(ROOT, "crates", crate, "specs")
@@ -38,7 +27,7 @@ def unfoldable(crates):
                 module = os.path.relpath(path, specs)[:-len(".antt")].replace(os.sep, ".")
                 with open(path) as text:
                     for found in re.findall(r"^ *unfoldable pub (\S+) :", text.read(), re.M):
-                        yield f"Rattle·{crate}.specs.{module}", found
+                        yield f"Rattle.{crate}.specs.{module}", found
 
 
 def unfolded(crates):
@@ -48,49 +37,37 @@ def unfolded(crates):
     return uses, " ".join(f"u{at}" for at, _ in names)
 
 
-def copy_of_kind(source, target, crates):
-    """What a folder of target/ has of those crates."""
-    os.makedirs(target)
-    for name in os.listdir(source):
-        if name.split(".")[0] in crates:
-            subprocess.run(["cp", "-r", os.path.join(source, name), target], check=True)
-
-
 def repository(scratch, crates):
-    """A repository with those crates, already proved, and one more, `tried`; its specs' folder."""
-    for kind in os.listdir(os.path.join(ROOT, "target")):
-        copy_of_kind(os.path.join(ROOT, "target", kind), os.path.join(scratch, "target", kind), crates)
-    os.makedirs(os.path.join(scratch, "crates", "tried", "src"))
-    os.makedirs(os.path.join(scratch, "crates", "tried", "specs"))
-    for crate in crates:
-        os.symlink(os.path.join(ROOT, "crates", crate), os.path.join(scratch, "crates", crate))
-    with open(os.path.join(scratch, "crates.txt"), "w") as out:
-        out.writelines(line for line in listed_crates() if line.split(":")[0] in crates)
-        out.write("tried: " + " ".join(crates) + "\n")
-    with open(os.path.join(scratch, "crates", "tried", "src", "lib.rt"), "w") as out:
+    """A folder for a crate `tried` over those crates; its specs' folder."""
+    folder = os.path.join(scratch, "tried")
+    os.makedirs(os.path.join(folder, "src"))
+    os.makedirs(os.path.join(folder, "specs"))
+    with open(os.path.join(folder, "src", "lib.rt"), "w") as out:
         out.write("// Claims, computed.\n")
-    return os.path.join(scratch, "crates", "tried", "specs")
+    with open(os.path.join(scratch, "on.txt"), "w") as out:
+        out.write(" ".join(crates))
+    return os.path.join(folder, "specs")
 
 
 def bytes_of(data):
-    """Bytes as a term in which bytesIn takes a number apart."""
-    return f"(bytesIn {len(data)} {int.from_bytes(data, 'little'):#x})"
+    """Bytes as a term in which bytes_in takes a number apart."""
+    return f"(bytes_in {len(data)} {int.from_bytes(data, 'little'):#x})"
 
 
 def proved(crate):
     """Has the crate proved, if it isn't yet."""
-    made = subprocess.run(["rt", "check", crate], cwd=ROOT, capture_output=True, text=True)
-    if made.returncode:
-        sys.exit(made.stdout + made.stderr)
+    why = unproved(crate)
+    if why:
+        sys.exit(why)
 
 
 def refused(scratch, label):
     """The claims of `tried` that are refused: each label with the checker's message."""
-    told = subprocess.run(
-        ["rt", "check", "tried"], cwd=scratch, capture_output=True, text=True, env=dict(os.environ, RT_CUT="0")
-    )
-    text = told.stdout + told.stderr
+    with open(os.path.join(scratch, "on.txt")) as text:
+        crates = text.read().split()
+    status, lines = said(os.path.join(scratch, "tried"), [*command("tried", crates), "--jobs", "2"])
+    text = "\n".join(lines)
     found = re.findall(rf"error: `({label})`: (.*)", text)
-    if told.returncode and not found:
+    if status and not found or not status and not lines[-1].startswith("logic=proved "):
         sys.exit(text[-3000:])
     return found

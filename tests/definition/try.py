@@ -21,7 +21,7 @@ from answers import answers, list_in  # noqa: E402
 
 # Everything that this script knows about the definition: where it is, and how to state an answer.
 CRATE = "steps"
-DEFINITION = "Rattle·steps.specs.Shorten.{Outcome, shorten}"
+DEFINITION = "Rattle.steps.specs.Shorten.{Outcome, shorten}"
 
 
 def claim(answer):
@@ -41,14 +41,14 @@ def buffers(answer):
 
 
 A_FILE = 20  # answers in one file of the scratch crate
-HEAD = """use Prim.Native.Nat.{ℕ, zero, suc, _%_, _/_}
-use mathlib.Core.Path.{_≡_, refl}
-use mathlib.Core.List.{List, [], _∷_}
+HEAD = """use Prim.Native.Nat.{ℕ, zero, suc, ◌%◌, ◌/◌}
+use mathlib.Core.Path.{◌≡◌, refl}
+use mathlib.Core.List.{List, [], ◌∷◌}
 USES
 
-abbrev bytesIn : ℕ → ℕ → List ℕ
-bytesIn zero v = []
-bytesIn (suc n) v = v % 256 ∷ bytesIn n (v / 256)
+abbrev bytes_in : ℕ → ℕ → List ℕ
+bytes_in zero v = []
+bytes_in (suc n) v = v % 256 ∷ bytes_in n (v / 256)
 """
 
 

@@ -25,12 +25,12 @@ RUNS = os.path.join(HERE, "runs.txt")
 RUST = os.path.join(ROOT, "build", "reference", "release", "run-stored")
 CRATE = "machine"
 A_FILE = 40  # runs in one file of the scratch crate
-HEAD = """use mathlib.Core.Path.{_≡_, refl}
-use mathlib.Core.List.{List, [], _∷_}
+HEAD = """use mathlib.Core.Path.{◌≡◌, refl}
+use mathlib.Core.List.{List, [], ◌∷◌}
 use mathlib.Core.Option.{none, some}
-use Rattle·machine.specs.Act.{Act}
-use Rattle·machine.specs.Machine.{returned, unreachable, stopped, ranOut}
-use Rattle·tried·specs.specs.Rules.{bytesIn, held, address, listed, drawn, told, act, going, over}"""
+use Rattle.machine.specs.Act.{Act}
+use Rattle.machine.specs.Machine.{returned, unreachable, stopped, ran_out}
+use Rattle.tried.specs.Rules.{bytes_in, held, address, listed, drawn, told, act, going, over}"""
 
 
 def listing(items):

@@ -32,10 +32,9 @@ def faults():
 
 def to_copies(text, suffix):
     """A module's text, with the copies used in place of what they are copies of."""
-    text = re.sub(r"^use Rattle·(\w+)·specs\.specs\.", r"use Rattle·\1.specs.", text, flags=re.M)
     for copied in [*COPIED, "tried/specs/Rules"]:
         crate, kind, module = copied.split("/")
-        text = text.replace(f"use Rattle·{crate}.{kind}.{module}.", f"use Rattle·tried·specs.specs.{module}{suffix}.")
+        text = text.replace(f"use Rattle.{crate}.{kind}.{module}.", f"use Rattle.tried.specs.{module}{suffix}.")
     return text
 
 
