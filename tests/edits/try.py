@@ -1,15 +1,16 @@
 #!/usr/bin/env python3
-"""Tries the wrong edits in crates/NAME/edits: the prover must refuse each, and because some fact isn't true any more.
+"""Tries the wrong edits in crates/NAME/edits and must-fail: the prover must refuse each, and because some fact isn't true any more.
 
     tests/edits/try.py                      the lists of the crates that changed since tests/edits/tried.txt was written
-    tests/edits/try.py --all                every edit, also those of must-fail/, which the gate tries by `rt ci`
+    tests/edits/try.py --all                every edit
     tests/edits/try.py NAME | NAME/LABEL..  the edits of some crates, or some edits, in both folders
     tests/edits/try.py --write ..           if all are refused, also rewrites tried.txt for the crates tried
 
 The edits have the same form as those in must-fail/, and are read as `rt must-fail` reads those. The crates are proved first, by
 `rt lib` or `rt check`. Each edit is checked in a copy of its crate, and every module that it doesn't touch is taken from what
 that proof kept in out/, which makes this quick. An edit that isn't refused that way is checked once more in full. RT_JOBS edits
-are tried at a time (default 2).
+are tried at a time (default 2). Goals are named after the code: if only their names are gone, the proofs in the copy follow
+them, and it is checked again (verdict.py).
 """
 
 import concurrent.futures
@@ -23,7 +24,7 @@ import sys
 import tempfile
 import time
 
-from verdict import fact
+from verdict import fact, refitted
 
 ROOT = os.path.dirname(os.path.dirname(os.path.dirname(os.path.abspath(__file__))))
 os.chdir(ROOT)
@@ -32,6 +33,7 @@ from checker import command, crates, said, statics  # noqa: E402
 
 TRIED = "tests/edits/tried.txt"
 PARTS = ("src", "specs", "proofs")
+FOLLOWED = 4  # how often the proofs follow the names of an edit's goals
 
 
 def digest(name):
@@ -61,9 +63,8 @@ def chosen(words):
     both, before = ("must-fail", "edits"), tried()
     asked = [w for w in words if not w.startswith("--")]
     if "--all" in words or not asked:
-        folders = both if "--all" in words else ("edits",)
         names = [name for name in crates() if "--all" in words or before.get(name) != digest(name)]
-        return [p for name in names for p in labels(name, folders)], names
+        return [p for name in names for p in labels(name, both)], names
     paths = []
     for word in asked:
         name, _, label = word.partition("/")
@@ -151,22 +152,27 @@ def attempt(path, scratch):
         wrong = changed(text.read(), folder)
     if wrong:
         return False, f"{name}/{label}: BAD EDIT: {wrong}"
-    began, words = time.time(), words_for(name)
-    proved, log = checked(folder, words + proved_modules(name, folder + ".modules"))
-    if proved or not log.endswith("logic=not-proved"):
-        proved, log = checked(folder, words)
+    began, words, follows = time.time(), words_for(name), 0
+    modules = proved_modules(name, folder + ".modules")
+    while True:
+        proved, log = checked(folder, words + modules)
+        if proved or not log.endswith("logic=not-proved"):
+            proved, log = checked(folder, words)
+        what, good = fact(log) or ("no error is told: " + log[:300], False)
+        if proved or good or follows == FOLLOWED or not refitted(log, folder):
+            break
+        follows += 1
     shutil.rmtree(folder, ignore_errors=True)
     shutil.rmtree(folder + ".modules", ignore_errors=True)
     if proved:
-        return False, f"{name}/{label}: NOT REFUSED"
-    what, good = fact(log) or ("no error is told: " + log[:300], False)
+        return False, f"{name}/{label}: NOT REFUSED{' once the proofs follow the names of its goals' if follows else ''}"
     return good, f"{name}/{label}: {'' if good else 'UNFIT: '}{what[:160]} ({time.time() - began:.0f} s)"
 
 
 def write_tried(names):
     rows = {**tried(), **{name: digest(name) for name in names}}
     with open(TRIED, "w") as out:
-        out.write("# Written by tests/edits/try.py --write: the crates as they were when every edit of their lists was refused.\n")
+        out.write("# Written by tests/edits/try.py --write: the crates as they were when every edit of their must-fail/ and edits/ was refused at a fact.\n")
         out.writelines(f"{name} {rows[name]}\n" for name in crates() if name in rows)
 
 
