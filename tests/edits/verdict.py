@@ -11,7 +11,7 @@ import re
 ERROR = re.compile(r"(?:note: )?(?:\./)?((?:src|specs|proofs)/[^:\s]+):(\d+):\d+: (?:error(?:\[[^\]]*\])?: )(.*)")
 LOST = re.compile(r"^(fn \S+: no proof: (?!it calls)(?:.* in (?:\./)?(proofs/[^\s;]+))?.*)", re.M)
 # The toolchain has found values that break the goal.
-FALSE = re.compile(r"^note: ((?:\./)?src/\S+:\d+:\d+: it is not proved that .* allow values at which this goal is false.*)", re.M)
+FALSE = re.compile(r"^note: ((?:\./)?src/\S+:\d+:\d+: it is not proved that .*; the facts known there allow.*)", re.M)
 # An error that is only a consequence of another.
 FOLLOWS = re.compile(r"was not admitted|Mend `[^`]*` first")
 # Signs that the text of a proof, a definition or a contract no longer fits, whatever holds.
