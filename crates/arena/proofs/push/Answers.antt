@@ -41,6 +41,6 @@ returns c =
     let a = c.args in
     let put = c.put_record.ensures ∙ ap (put_of a.work.now a.top) c.record_of.ensures in
     let test = not-false _ c.if-not-grows.false-raw in
-    ap (λ (w : List ℕ). arena w c.point.new.0 (a.top + 1)) put
+    ap (λ (w : List ℕ). arena w c.point.new.table (a.top + 1)) put
     ∙ ap (λ (t : List ℕ). arena (put_of a.work.now a.top (record_of a.c)) t (a.top + 1)) c.point.ensures
     ∙ by_grows a.k.0 a.c (arena a.work.now a.table.now a.top) c.record_at-r.ensures (sym test ∙ c.grows.ensures)

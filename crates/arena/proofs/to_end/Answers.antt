@@ -71,7 +71,7 @@ returns c =
     let n = c.size_of-n in
     let at = 32 * a.top in
     let test = not-false _ c.if-not-moves.false-raw in
-    ap (λ (x : List ℕ). arena x c.point.new.0 (a.top + n.result)) c.copy.ensures
+    ap (λ (x : List ℕ). arena x c.point.new.table (a.top + n.result)) c.copy.ensures
     ∙ ap (λ (t : List ℕ). arena (paste w at (drop (32 * r.p1) w) (32 * n.result)) t (a.top + n.result)) c.point.ensures
     ∙ ap (λ (m : ℕ). arena (paste w at (drop (32 * r.p1) w) (32 * m)) (pointed a.table.now a.k.0 a.top (a.top + m)) (a.top + m)) n.ensures
     ∙ by_moves a.k.0 (arena w a.table.now a.top) c.record_at-r.ensures (sym test ∙ c.moves.ensures)

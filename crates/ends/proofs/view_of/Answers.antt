@@ -1,3 +1,4 @@
+use borrow.Enum.Refused.{opened}
 use mathlib.Core.Path.{sym, ap}
 use Rattle.ends.proofs.Laws.{other_view, branch_kind}
 use mathlib.Core.Bool.{false}
@@ -23,4 +24,4 @@ returns-in-Case c = sym (ap view_of c.in-Case.is)
 pub returns-in_default : goal.returns-in_default
 returns-in_default c =
     let others : List ℕ = 0 ∷ 1 ∷ 2 ∷ 3 ∷ 4 ∷ 5 ∷ 6 ∷ 7 ∷ 8 ∷ 9 ∷ 10 ∷ 11 ∷ 12 ∷ 13 ∷ 14 ∷ 15 ∷ 16 ∷ 17 ∷ 21 ∷ 22 ∷ 23 ∷ [] in
-    sym (other_view c.args.i (sym (by_kind branch_kind false others c.args.i tt c.in_default.in_default-own.keys4)))
+    sym (other_view c.args.i (sym (by_kind branch_kind false others c.args.i tt (opened c.in_default.in_default-own.keys4))))

@@ -1,3 +1,4 @@
+use borrow.Enum.Refused.{opened}
 use native.Mathlib.Omega.{arith}
 use Prim.Native.Nat.{ℕ}
 use mathlib.Core.Path.{sym, ap, ◌∙◌}
@@ -40,7 +41,7 @@ returns-in_default c =
     let k = held_in a.h a.known.now a.copy.now in
     let others : List ℕ =
     1 ∷ 3 ∷ 4 ∷ 5 ∷ 7 ∷ 8 ∷ 9 ∷ 10 ∷ 11 ∷ 12 ∷ 13 ∷ 14 ∷ 15 ∷ 16 ∷ 17 ∷ 18 ∷ 19 ∷ 20 ∷ 21 ∷ 22 ∷ 23 ∷ [] in
-    let other = sym (by_kind learning false others a.i tt c.in_default.in_default-own.keys4) in
+    let other = sym (by_kind learning false others a.i tt (opened c.in_default.in_default-own.keys4)) in
     let e = c.forget_written.ensures in (
       e.0 ∙ learns_nothing (facts_in a.facts.now none 0) (forget_all (defs_of a.i) k) a.i other,
       record { known_le = omega (arith, e.1.known-le); copy_le = omega (arith, e.1.copy-le) },

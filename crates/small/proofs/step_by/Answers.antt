@@ -1,3 +1,4 @@
+use borrow.Enum.Refused.{opened}
 use mathlib.Core.Path.{refl, sym, ap, ◌∙◌}
 use mathlib.Core.Bool.{false}
 use mathlib.Core.List.{List, [], ◌∷◌}
@@ -29,4 +30,4 @@ returns-in_default c =
     let a = c.args in
     let others : List ℕ =
     0 ∷ 1 ∷ 2 ∷ 3 ∷ 4 ∷ 5 ∷ 6 ∷ 9 ∷ 10 ∷ 11 ∷ 12 ∷ 13 ∷ 14 ∷ 15 ∷ 16 ∷ 17 ∷ 18 ∷ 19 ∷ 20 ∷ 21 ∷ 22 ∷ 23 ∷ [] in
-    sym (no_step a.wide a.i (sym (by_kind bin_kind false others a.i tt c.in_default.in_default-own.keys3)))
+    sym (no_step a.wide a.i (sym (by_kind bin_kind false others a.i tt (opened c.in_default.in_default-own.keys3))))
