@@ -43,9 +43,8 @@ returns-else-is_lone c z wide =
     let end = c.end_by-e.ensures ∙ by_record a.code.now a.table.now a.a c.record_at.ensures in
     let p = blocks_of a.code.now a.table.now in
     let h = may_hop wide p a.a in
-    let v = c.e-in-CondBr-1.given.0 in
-    let t = not_lone (get_or p v.1.0.0 []) (sym c.is_lone.ensures ∙ c.if-is_lone.false) in
-    let f = not_lone (get_or p v.1.1.0.0 []) (sym c.is_lone-in-CondBr.ensures ∙ z) in
+    let t = not_lone (get_or p c.in-CondBr.t.0 []) (sym c.is_lone.ensures ∙ c.if-is_lone.false) in
+    let f = not_lone (get_or p c.in-CondBr.f.0 []) (sym c.is_lone-in-CondBr.ensures ∙ z) in
     sym (ap h end) ∙ ap h c.in-CondBr.is ∙ rw (t, f)
 
 pub returns-in-Case : goal.returns-in-Case
