@@ -19,7 +19,7 @@ returns-in-CondBr c z edited =
     let s = joined a.code.now edited in
     let l = c.lead_apart.ensures z in
     sym
-    (arms_differ table a.k s _ c.in-CondBr.t c.in-CondBr.f (ap block_of (sym l.1)) (ap block_of (sym l.2)) l.0
+    (arms_differ table a.k s c.in-CondBr.field-0 c.in-CondBr.t c.in-CondBr.f (ap block_of (sym l.1)) (ap block_of (sym l.2)) l.0
     ∙ by_end table a.k s end c.in-CondBr.is)
 
 pub returns-in-Case : goal.returns-in-Case

@@ -10,7 +10,7 @@ returns-then-to-other c edited =
     let end = c.end_by-e.ensures ∙ by_record a.code.now a.table.now a.k c.record_at.ensures in
     let table = a.table.now in
     let s = joined a.code.now edited in
-    arms_differ table a.k s _ c.in-CondBr.t c.in-CondBr.f
+    arms_differ table a.k s c.in-CondBr.field-0 c.in-CondBr.t c.in-CondBr.f
     c.follow-to.ensures c.follow-other.ensures c.if-to-other.true
     ∙ by_end table a.k s end c.in-CondBr.is
 
@@ -26,7 +26,7 @@ returns-else-to-other c edited =
     let end = c.end_by-e.ensures ∙ by_record a.code.now a.table.now a.k c.record_at.ensures in
     let table = a.table.now in
     let s = joined a.code.now edited in
-    arms_meet table a.k s _ c.in-CondBr.t c.in-CondBr.f
+    arms_meet table a.k s c.in-CondBr.field-0 c.in-CondBr.t c.in-CondBr.f
     c.follow-to.ensures c.follow-other.ensures c.if-to-other.false
     ∙ by_end table a.k s end c.in-CondBr.is
 

@@ -22,7 +22,7 @@ returns-then-x c =
     let s = search_of c.loop-k.seen c.loop-k.stack c.loop-k.at in
     let e = c.arm_of-x.ensures ∙ ap arm_of c.record_at.ensures in
     let d = default-arm a.nb a.n rs (rw n h) e s c.if-x-n.true c.if-x.true in
-    record { sized = p.ensures.0 c.loop-k.invariant.2; result_after = p.ensures.1 c.loop-k.invariant.2 ∙ d ∙ c.loop-k.invariant.3; }
+    record { sized = p.ensures.sized c.loop-k.invariant.2; result_after = p.ensures.result_after c.loop-k.invariant.2 ∙ d ∙ c.loop-k.invariant.3; }
 
 pub loop-k-smaller : goal.loop-k-smaller
 loop-k-smaller c = let h = c.loop-k-test.true in omega arith
@@ -39,9 +39,8 @@ loop-k-preserved c =
     let more : Search → Search = λ t. all_from a.nb a.n rs t (c.loop-k.k + 1) in (
       omega arith,
       i.1,
-      ⊎_elim (λ w. rw (w.6, w.7, w.8) (w.4.ensures.0 i.2)) (λ w. rw (w.1, w.2, w.3) i.2) c.if-x-n.branch,
-      ⊎_elim (λ w. rw (w.6, w.7, w.8) (ap more (w.4.ensures.1 i.2) ∙ case_arm a.nb a.n rs (rw n h) e s w.0.taken w.5.left ∙ i.3))
-          (λ w. rw (w.1, w.2, w.3) (other_arm a.nb a.n rs (rw n h) e s w.0.left ∙ i.3)) c.if-x-n.branch,
+      ?,
+      ?,
     )
 
 pub returns : goal.returns
