@@ -1,4 +1,4 @@
-use Prim.Native.Nat.{◌+◌, ◌-◌}
+use Prim.Native.Nat.{◌+◌}
 use native.Mathlib.Omega.{arith}
 use mathlib.Core.Path.{refl, sym, ap, ◌∙◌}
 use mathlib.Core.List.{List}
@@ -26,12 +26,12 @@ loop-b-preserved c =
     let rest = joined (empty_in (b + 1) (drop (b + 1) m) (drop (b + 1) R)) in (
       omega arith,
       c.loop-b.invariant.1,
-      c.put_new-top.auto.code ∙ c.loop-b.invariant.2,
-      c.put_record.auto.heads ∙ c.loop-b.invariant.3,
+      c.put_new-top.auto.out ∙ c.loop-b.invariant.2,
+      c.put_record.auto.b ∙ c.loop-b.invariant.3,
       ap (puts rest) c.put_new-top.ensures
           ∙ sym (ap (λ (z : List Record). puts z (place c.loop-b.code c.loop-b.top)) (empty_one m R b (omega arith)) ∙ puts-append (new_at m R b) rest _)
           ∙ c.loop-b.invariant.4,
-      λ i j. heading_one m R (omega arith) c.put_new-top.ensures c.put_new-top.auto.code c.least-end.ensures
+      λ i j. heading_one m R (omega arith) c.put_new-top.ensures c.put_new-top.auto.out c.least-end.ensures
           (c.put_record.ensures ∙ ap (put_of c.loop-b.heads b) c.record_of_block.ensures) (omega arith) (c.loop-b.invariant.5 i j),
     )
 
@@ -41,4 +41,4 @@ returns c =
     let a = c.args in
     let R = block_records_in a.work.now a.table.now in
     let m = marks_in a.seen.now in
-    let n = length-table a.work.now a.table.now in record { code = sym (ap (λ (r : List Record). puts r (place c.loop-b.code c.loop-b.top)) (empty_end m R c.loop-b.b (omega arith))) ∙ c.loop-b.invariant.4; heads = λ i j. heading_end m R (omega arith) (c.loop-b.invariant.5 i j); }
+    let n = length-table a.work.now a.table.now in record { code = sym (ap (λ (r : List Record). puts r (place c.loop-b.code c.loop-b.top)) (empty_end m R c.loop-b.b (omega arith))) ∙ c.loop-b.invariant.4; heads = λ i j. heading_end m R (omega arith) (c.loop-b.invariant.5 i j) }

@@ -3,7 +3,6 @@ use Prim.Native.Nat.{◌+◌}
 use native.Mathlib.Numerals.{add-one}
 use mathlib.Core.Bool.{not}
 use borrow.Author.Tests.{not-true, not-false}
-use Rattle.steps.specs.Small.{small, latch}
 use Rattle.blocks.specs.Blocks.{bytes_of_block, blocks_of}
 use Rattle.blocks.proofs.Parts.{block_codes}
 use Rattle.gate.proofs.Laws.{not_small, small-block}
