@@ -14,11 +14,6 @@ returns-then-out-n c =
     let t = c.if-out-n.true in
     filed_refused rs (counts a.did.moved a.did.grown (short (length a.kinds.now)) a.did.rescued) a.out.now (omega arith) c.refused.ensures
 
-pub answered-requires : goal.answered-requires
-answered-requires c =
-    let s = start_of c in
-    room (length s.args.out.now) _ c.if-out-n.false s.good.0.0
-
 pub returns : goal.returns
 returns c =
     let a = c.args in
