@@ -3,7 +3,7 @@ use native.Mathlib.Omega.{arith}
 use mathlib.Core.Path.{ap, ◌∙◌}
 use lib.ListN.{length}
 use Rattle.output.specs.Filed.{counts, wrote, short, form_records}
-use Rattle.output.proofs.Laws.{room, filed_refused, filed-written}
+use Rattle.output.proofs.Laws.{filed_refused, filed-written}
 use Rattle.output.proofs.put_form.Goals as goal
 
 pub returns-then-out-n : goal.returns-then-out-n
