@@ -1,7 +1,6 @@
 use mathlib.Core.Path.{sym, ap, ◌∙◌}
 use mathlib.Core.Bool.{Bool, true≢false, not, ◌&&◌, and-false}
 use mathlib.Core.List.{[]}
-use borrow.Author.Tests.{not-true}
 use lib.Dec.{eqb}
 use lib.ListN.{get_or}
 use Rattle.procedure.specs.Procedure.{codes_of}
@@ -23,7 +22,7 @@ returns-then-not-small c z wide =
     let s = ap small (ap codes_of c.block.ensures ∙ block_codes a.code.now a.table.now l) in
     sym (ap h end)
     ∙ ap h c.in-Br.is
-    ∙ ap (λ (b : Bool). not (eqb l a.a) && b) (sym (not_small wide p l (sym s ∙ sym c.small.ensures ∙ not-true _ c.if-not-small.true-raw)))
+    ∙ ap (λ (b : Bool). not (eqb l a.a) && b) (sym (not_small wide p l (sym s ∙ sym c.small.ensures ∙ c.if-not-small.true)))
     ∙ and-false (not (eqb l a.a))
 
 pub returns-then-is_lone : goal.returns-then-is_lone
