@@ -1,4 +1,4 @@
-use Prim.Native.Nat.{◌-◌, ◌≤◌, ◌<◌}
+use Prim.Native.Nat.{◌≤◌, ◌<◌}
 use native.Mathlib.Omega.{arith}
 use mathlib.Core.Path.{sym}
 use borrow.Author.Rules.{rules}
@@ -18,7 +18,7 @@ loop-k-init c =
       omega arith,
       omega arith,
       omega arith,
-      left-start a.facts.now (take a.n a.t1) a.m.0 z.result e.0 e.1,
+      left-start a.facts.now (take a.n a.code) a.m.0 z.result e.0 e.1,
       e.2,
     )
 
@@ -37,19 +37,19 @@ loop-k-preserved c =
     let k = c.loop-k.k in
     let p = c.placed-s.ensures in
     let in-n : k < a.n = omega arith in
-    let in_code : k < length (take a.n a.t1) = simp length-take (omega arith) in (
+    let in_code : k < length (take a.n a.code) = simp length-take (omega arith) in (
       c.loop-k.invariant.0,
       omega arith,
-      omega (arith, p.n-le),
-      p.fresh-le c.loop-k.invariant.3,
-      left_step a.facts.now (take a.n a.t1) a.m.0 c.loop-k.s k c.loop-k.invariant.4 c.placed-s.result (how_in c.how_of-how.result)
-          (get_or a.t1 k zero_code) zero_code in_code (sym (get_or-take a.n a.t1 k zero_code in-n)) c.how_of-how.ensures p,
+      omega (arith, p.n_le),
+      p.fresh_le c.loop-k.invariant.3,
+      left_step a.facts.now (take a.n a.code) a.m.0 c.loop-k.s k c.loop-k.invariant.4 c.placed-s.result (how_in c.how_of-how.result)
+          (get_or a.code k zero_code) zero_code in_code (sym (get_or-take a.n a.code k zero_code in-n)) c.how_of-how.ensures p,
       p.four,
     )
 
 pub returns : goal.returns
 returns c =
     let a = c.args in
-    let t = take a.n a.t1 in
+    let t = take a.n a.code in
     let past : length t ≤ c.loop-k.k = simp length-take (omega arith) in
     left-done a.facts.now t a.m.0 c.loop-k.s c.loop-k.k c.loop-k.invariant.4 past (omega arith) c.loop-k.invariant.3 c.loop-k.invariant.5

@@ -1,4 +1,3 @@
-use Prim.Native.Nat.{◌-◌}
 use native.Mathlib.Omega.{arith}
 use borrow.Author.Rules.{rules}
 use Rattle.copy.proofs.Laws.{own_next, own_done}
@@ -13,11 +12,11 @@ overflow_add-z c = omega (arith, c.reads_of-z.ensures.1)
 pub loop-k-preserved : goal.loop-k-preserved
 loop-k-preserved c =
     let a = c.args in
-    let next = own_next a.r.0 c.loop-k.k a.n a.t1 (omega arith) (omega arith) in
+    let next = own_next a.r.0 c.loop-k.k a.n a.code (omega arith) (omega arith) in
     (c.loop-k.invariant.0, omega (arith, c.reads_of-z.ensures.1), omega (arith, c.reads_of-z.ensures.0))
 
 pub returns : goal.returns
 returns c =
     let a = c.args in
-    let done = own_done a.r.0 c.loop-k.k a.n a.t1 (omega arith) in
+    let done = own_done a.r.0 c.loop-k.k a.n a.code (omega arith) in
     omega arith

@@ -14,8 +14,8 @@ returns-in-Move c =
 pub returns-in-Cmp : goal.returns-in-Cmp
 returns-in-Cmp c =
     let r = c.args.r.0 in
-    let g = c.i-in-Cmp-1.given.0 in (
-      two_reads r g.1.1.0.0 g.1.1.1.0.0 c.read_once-in-Cmp.ensures.0 c.read_once-in-Cmp-2.ensures.0
+    let q = c.in-Cmp in (
+      two_reads r q.a.0 q.b.0 c.read_once-in-Cmp.ensures.0 c.read_once-in-Cmp-2.ensures.0
           ∙ sym (ap (λ (x : Inst). times r (uses_of x)) c.in-Cmp.is),
       omega (arith, c.read_once-in-Cmp.ensures.1, c.read_once-in-Cmp-2.ensures.1),
     )

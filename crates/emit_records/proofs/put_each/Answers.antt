@@ -1,4 +1,4 @@
-use Prim.Native.Nat.{◌+◌, ◌-◌}
+use Prim.Native.Nat.{◌+◌}
 use native.Mathlib.Omega.{arith}
 use mathlib.Core.Path.{refl, sym, ap, ◌∙◌}
 use lib.ListN.{drop}
@@ -21,7 +21,7 @@ loop-k-preserved c =
     let n = length_records c.args.code.now in (
       omega arith,
       c.loop-k.invariant.1,
-      p.auto.0 ∙ c.loop-k.invariant.2,
+      p.auto.out ∙ c.loop-k.invariant.2,
       ap (puts (drop (k + 1) rs)) (p.ensures ∙ ap (λ (r : Record). put r s) c.record_at.ensures)
           ∙ sym (puts_one rs k s (omega arith))
           ∙ c.loop-k.invariant.3,

@@ -1,4 +1,4 @@
-use Prim.Native.Nat.{◌+◌, ◌-◌}
+use Prim.Native.Nat.{◌+◌}
 use native.Mathlib.Omega.{arith}
 use mathlib.Core.Path.{refl, sym, ap, ◌∙◌}
 use mathlib.Core.List.{List}
@@ -26,7 +26,7 @@ loop-b-preserved c =
     let rest = rescues_in f (drop (b + 1) m) (drop (b + 1) R) in (
       omega arith,
       c.loop-b.invariant.1,
-      p.auto.0 ∙ c.loop-b.invariant.2,
+      p.auto.out ∙ c.loop-b.invariant.2,
       ap (puts rest) p.ensures
           ∙ sym (ap (λ (r : List Record). puts r s) (rescues-one m R b f (omega arith)) ∙ puts-append (lost_at f m R b) rest s)
           ∙ c.loop-b.invariant.3,

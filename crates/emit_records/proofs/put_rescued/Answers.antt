@@ -1,4 +1,4 @@
-use Prim.Native.Nat.{◌+◌, ◌-◌}
+use Prim.Native.Nat.{◌+◌}
 use native.Mathlib.Omega.{arith}
 use mathlib.Core.Path.{refl, sym, ap, ◌∙◌}
 use mathlib.Core.Bool.{Bool, cond}
@@ -25,7 +25,7 @@ loop-k-preserved c =
     let is = c.is_rescued-keep.ensures ∙ ap (λ (r : Record). rescued_by f (inst_of r)) c.record_at.ensures in (
       omega arith,
       c.loop-k.invariant.1,
-      c.put_if-top.auto.0 ∙ c.loop-k.invariant.2,
+      c.put_if-top.auto.out ∙ c.loop-k.invariant.2,
       ap (puts (rescued_in f (drop (k + 1) (records_of b))))
           (c.put_if-top.ensures
           ∙ ap (λ (t : Bool). cond t (put c.record_at-in-loop-k.result s) s) is

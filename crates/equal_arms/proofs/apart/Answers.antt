@@ -17,10 +17,9 @@ returns-in-CondBr c z edited =
     let end = c.end_by-e.ensures ∙ by_record a.code.now a.table.now a.k c.record_at.ensures in
     let table = a.table.now in
     let s = joined a.code.now edited in
-    let v = c.e-1.given.0 in
     let l = c.lead_apart.ensures z in
     sym
-    (arms_differ table a.k s v.0 v.1.0 v.1.1.0 (ap block_of (sym l.1)) (ap block_of (sym l.2)) l.0
+    (arms_differ table a.k s c.in-CondBr.field-0 c.in-CondBr.t c.in-CondBr.f (ap block_of (sym l.1)) (ap block_of (sym l.2)) l.0
     ∙ by_end table a.k s end c.in-CondBr.is)
 
 pub returns-in-Case : goal.returns-in-Case

@@ -24,7 +24,7 @@ loop-k-preserved c =
     let n = length table / 32 in
     let m : n - k ≡ suc (n - (k + 1)) = omega arith in (
       c.loop-k.invariant.0,
-      j.auto.0 ∙ c.loop-k.invariant.1,
+      j.auto.code ∙ c.loop-k.invariant.1,
       c.next_meeting-k-in-loop-k.ensures.1 j.result
           ∙ ap (λ (s : Joined). join_from table (n - (k + 1)) (k + 1) s) j.ensures
           ∙ sym (from_one table k (joined c.loop-k.code c.loop-k.edited) m)

@@ -6,12 +6,11 @@ use Rattle.equal_arms.proofs.meet.Goals as goal
 
 pub returns-then-to-other : goal.returns-then-to-other
 returns-then-to-other c edited =
-    let x = c.e-1.given.0 in
     let a = c.args in
     let end = c.end_by-e.ensures ∙ by_record a.code.now a.table.now a.k c.record_at.ensures in
     let table = a.table.now in
     let s = joined a.code.now edited in
-    arms_differ table a.k s x.0 x.1.0 x.1.1.0
+    arms_differ table a.k s c.in-CondBr.field-0 c.in-CondBr.t c.in-CondBr.f
     c.follow-to.ensures c.follow-other.ensures c.if-to-other.true
     ∙ by_end table a.k s end c.in-CondBr.is
 
@@ -23,12 +22,11 @@ returns-in-Br c edited =
 
 pub returns-else-to-other : goal.returns-else-to-other
 returns-else-to-other c edited =
-    let x = c.e-1.given.0 in
     let a = c.args in
     let end = c.end_by-e.ensures ∙ by_record a.code.now a.table.now a.k c.record_at.ensures in
     let table = a.table.now in
     let s = joined a.code.now edited in
-    arms_meet table a.k s x.0 x.1.0 x.1.1.0
+    arms_meet table a.k s c.in-CondBr.field-0 c.in-CondBr.t c.in-CondBr.f
     c.follow-to.ensures c.follow-other.ensures c.if-to-other.false
     ∙ by_end table a.k s end c.in-CondBr.is
 

@@ -1,7 +1,6 @@
 use Prim.Native.Nat.{suc, ◌+◌, ◌-◌, ◌/◌}
 use mathlib.Core.Path.{◌≡◌, refl, sym, ◌∙◌}
 use native.Mathlib.Omega.{arith}
-use borrow.Author.Tests.{not-false}
 use lib.ListN.{length}
 use Rattle.equal_arms.specs.Joined.{joined}
 use Rattle.equal_arms.proofs.Laws.{from_pass}
@@ -22,7 +21,7 @@ loop-k-preserved c =
       omega arith,
       c.loop-k.invariant.1,
       λ edited.
-          sym (from_pass table k (joined a.code.now edited) m (c.apart.ensures (not-false _ c.if-not-apart.false-raw) edited)) ∙ c.loop-k.invariant.2 edited,
+          sym (from_pass table k (joined a.code.now edited) m (c.apart.ensures (c.if-not-apart.false) edited)) ∙ c.loop-k.invariant.2 edited,
     )
 
 pub returns : goal.returns

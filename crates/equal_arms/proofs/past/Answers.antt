@@ -9,16 +9,14 @@ use Rattle.equal_arms.proofs.past.Goals as goal
 pub returns-then-to-b : goal.returns-then-to-b
 returns-then-to-b c =
     let b = c.args.b in
-    let e = c.e-1.given in
-    let t = eq-eqb e.0.0.0 b.0 c.if-to-b.true in
-    sym (ap (λ (x : End). block_of (past b.0 x)) e.1 ∙ ap (λ (z : Bool). block_of (cond z b.0 e.0.0.0)) t)
+    let t = eq-eqb c.in-Br.to.0 b.0 c.if-to-b.true in
+    sym (ap (λ (x : End). block_of (past b.0 x)) c.in-Br.is ∙ ap (λ (z : Bool). block_of (cond z b.0 c.in-Br.to.0)) t)
 
 pub returns-else-to-b : goal.returns-else-to-b
 returns-else-to-b c =
     let b = c.args.b in
-    let e = c.e-1.given in
-    let t = ne_eqb e.0.0.0 b.0 c.if-to-b.false in
-    sym (ap (λ (x : End). block_of (past b.0 x)) e.1 ∙ ap (λ (z : Bool). block_of (cond z b.0 e.0.0.0)) t)
+    let t = ne_eqb c.in-Br.to.0 b.0 c.if-to-b.false in
+    sym (ap (λ (x : End). block_of (past b.0 x)) c.in-Br.is ∙ ap (λ (z : Bool). block_of (cond z b.0 c.in-Br.to.0)) t)
 
 pub returns-in-CondBr : goal.returns-in-CondBr
 returns-in-CondBr c = sym (ap (λ (x : End). block_of (past c.args.b.0 x)) c.in-CondBr.is)

@@ -1,7 +1,6 @@
 use mathlib.Core.Path.{sym, ap, ◌∙◌}
 use mathlib.Core.Bool.{Bool, true≢false, not, ◌&&◌, and-false}
 use mathlib.Core.List.{[]}
-use borrow.Author.Tests.{not-true}
 use lib.Dec.{eqb}
 use lib.ListN.{get_or}
 use Rattle.procedure.specs.Procedure.{codes_of}
@@ -23,7 +22,7 @@ returns-then-not-small c z wide =
     let s = ap small (ap codes_of c.block.ensures ∙ block_codes a.code.now a.table.now l) in
     sym (ap h end)
     ∙ ap h c.in-Br.is
-    ∙ ap (λ (b : Bool). not (eqb l a.a) && b) (sym (not_small wide p l (sym s ∙ sym c.small.ensures ∙ not-true _ c.if-not-small.true-raw)))
+    ∙ ap (λ (b : Bool). not (eqb l a.a) && b) (sym (not_small wide p l (sym s ∙ sym c.small.ensures ∙ c.if-not-small.true)))
     ∙ and-false (not (eqb l a.a))
 
 pub returns-then-is_lone : goal.returns-then-is_lone
@@ -43,9 +42,8 @@ returns-else-is_lone c z wide =
     let end = c.end_by-e.ensures ∙ by_record a.code.now a.table.now a.a c.record_at.ensures in
     let p = blocks_of a.code.now a.table.now in
     let h = may_hop wide p a.a in
-    let v = c.e-in-CondBr-1.given.0 in
-    let t = not_lone (get_or p v.1.0.0 []) (sym c.is_lone.ensures ∙ c.if-is_lone.false) in
-    let f = not_lone (get_or p v.1.1.0.0 []) (sym c.is_lone-in-CondBr.ensures ∙ z) in
+    let t = not_lone (get_or p c.in-CondBr.t.0 []) (sym c.is_lone.ensures ∙ c.if-is_lone.false) in
+    let f = not_lone (get_or p c.in-CondBr.f.0 []) (sym c.is_lone-in-CondBr.ensures ∙ z) in
     sym (ap h end) ∙ ap h c.in-CondBr.is ∙ rw (t, f)
 
 pub returns-in-Case : goal.returns-in-Case

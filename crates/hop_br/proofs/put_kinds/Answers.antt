@@ -23,18 +23,18 @@ loop-k-init c = (omega arith, c.least-end.ensures, search rules, refl, refl)
 pub returns-then-kinds-at : goal.returns-then-kinds-at
 returns-then-kinds-at c =
     let a = c.args in
-    let ks = firstKinds a.facts.now a.t3 a.n in
+    let ks = firstKinds a.facts.now a.old a.n in
     sym (kinds-past c.loop-k.kinds c.loop-k.at (drop c.loop-k.k ks) c.if-kinds-at.true) ∙ c.loop-k.invariant.4
 
 pub loop-k-preserved : goal.loop-k-preserved
 loop-k-preserved c =
     let a = c.args in
     let g = kindIn a.facts.now in
-    let ks = firstKinds a.facts.now a.t3 a.n in
-    let count = kinds-count g a.t3 a.n in
+    let ks = firstKinds a.facts.now a.old a.n in
+    let count = kinds-count g a.old a.n in
     let at = c.loop-k.at in
     let k = c.loop-k.k in
-    let v = c.kind_at.ensures ∙ sym (kind_nth g a.t3 a.n k (omega arith)) in (
+    let v = c.kind_at.ensures ∙ sym (kind_nth g a.old a.n k (omega arith)) in (
       omega arith,
       c.loop-k.invariant.1,
       c.loop-k.invariant.2,
@@ -47,6 +47,6 @@ loop-k-preserved c =
 pub returns : goal.returns
 returns c =
     let a = c.args in
-    let ks = firstKinds a.facts.now a.t3 a.n in
-    let count = kinds-count (kindIn a.facts.now) a.t3 a.n in
+    let ks = firstKinds a.facts.now a.old a.n in
+    let count = kinds-count (kindIn a.facts.now) a.old a.n in
     sym (kinds-end c.loop-k.kinds c.loop-k.at ks c.loop-k.k (omega arith)) ∙ c.loop-k.invariant.4

@@ -11,7 +11,7 @@ returns-in-Some c =
     let code = a.code.now in
     c.fold.ensures
     ∙ turned-at table a.a.0 a.facts.now (body_in a.pause) code a.c.0 a.t.0 a.e.0 a.known.now a.copy.now
-    c.block.ensures c.front.ensures c.notes-n.new.1.0 c.notes-n.new.1.1.0 c.notes-n.ensures c.in-At.h c.in-At.is
+    c.block.ensures c.front.ensures c.notes-n.new.known c.notes-n.new.copy c.notes-n.ensures c.in-At.h c.in-At.is
     c.source_of-d.ensures (sym (ap word_in c.in-Some.is) ∙ c.value_of-v.ensures)
 
 pub returns-in-None : goal.returns-in-None
@@ -21,7 +21,7 @@ returns-in-None c =
     let code = a.code.now in
     c.rewrite.ensures
     ∙ turned-at table a.a.0 a.facts.now (body_in a.pause) code a.c.0 a.t.0 a.e.0 a.known.now a.copy.now
-    c.block.ensures c.front.ensures c.notes-n.new.1.0 c.notes-n.new.1.1.0 c.notes-n.ensures c.in-At.h c.in-At.is
+    c.block.ensures c.front.ensures c.notes-n.new.known c.notes-n.new.copy c.notes-n.ensures c.in-At.h c.in-At.is
     c.source_of-d.ensures (sym (ap word_in c.in-None.is) ∙ c.value_of-v.ensures)
 
 pub returns-in-Full : goal.returns-in-Full
@@ -30,4 +30,4 @@ returns-in-Full c =
     let table = a.table.now in
     let code = a.code.now in
     turned_full table a.a.0 a.facts.now (body_in a.pause) code a.c.0 a.t.0 a.e.0 a.known.now a.copy.now
-    c.block.ensures c.front.ensures c.notes-n.new.1.0 c.notes-n.new.1.1.0 c.notes-n.ensures c.in-Full.is
+    c.block.ensures c.front.ensures c.notes-n.new.known c.notes-n.new.copy c.notes-n.ensures c.in-Full.is

@@ -8,9 +8,9 @@ use Rattle.hop_cond_br.proofs.matching.Goals as goal
 pub returns-then-d-c : goal.returns-then-d-c
 returns-then-d-c c =
     let a = c.args in
-    let e = c.e-1.given in
-    let test = ne_eqb e.0.0.0 a.c.0 c.if-d-c.true in
-    sym (ap (λ (x : End). block_of (matching a.truth a.c.0 a.l.0 x)) e.1 ∙ rw (test))
+    let e = c.in-CondBr in
+    let test = ne_eqb e.d.0 a.c.0 c.if-d-c.true in
+    sym (ap (λ (x : End). block_of (matching a.truth a.c.0 a.l.0 x)) e.is ∙ rw (test))
 
 pub returns-in-Br : goal.returns-in-Br
 returns-in-Br c =
@@ -20,16 +20,16 @@ returns-in-Br c =
 pub returns-then-truth : goal.returns-then-truth
 returns-then-truth c =
     let a = c.args in
-    let e = c.e-1.given in
-    let test = eq-eqb e.0.0.0 a.c.0 c.if-d-c.false in
-    sym (ap (λ (x : End). block_of (matching a.truth a.c.0 a.l.0 x)) e.1 ∙ rw (test, c.if-truth.true))
+    let e = c.in-CondBr in
+    let test = eq-eqb e.d.0 a.c.0 c.if-d-c.false in
+    sym (ap (λ (x : End). block_of (matching a.truth a.c.0 a.l.0 x)) e.is ∙ rw (test, c.if-truth.true))
 
 pub returns-else-truth : goal.returns-else-truth
 returns-else-truth c =
     let a = c.args in
-    let e = c.e-1.given in
-    let test = eq-eqb e.0.0.0 a.c.0 c.if-d-c.false in
-    sym (ap (λ (x : End). block_of (matching a.truth a.c.0 a.l.0 x)) e.1 ∙ rw (test, c.if-truth.false))
+    let e = c.in-CondBr in
+    let test = eq-eqb e.d.0 a.c.0 c.if-d-c.false in
+    sym (ap (λ (x : End). block_of (matching a.truth a.c.0 a.l.0 x)) e.is ∙ rw (test, c.if-truth.false))
 
 pub returns-in-Case : goal.returns-in-Case
 returns-in-Case c =

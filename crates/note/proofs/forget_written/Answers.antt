@@ -39,5 +39,5 @@ returns c =
     let g = c.forget.ensures in
     let two = writes_two a.i q.ensures k c.if-defs-eq0.false c.if-defs-gt2.false c.if-defs-eq1.false in (
       g.0 ∙ ap (forget (get_or q.result.reg 1 (reg_of 0)).0) f.0 ∙ sym two,
-      record { known_le = le_trans g.1.known-le f.1.known-le; copy_le = le_trans g.1.copy-le f.1.copy-le },
+      record { known_le = le_trans g.1.known_le f.1.known_le; copy_le = le_trans g.1.copy_le f.1.copy_le },
     )

@@ -1,5 +1,5 @@
 use native.Mathlib.Omega.{arith}
-use Prim.Native.Nat.{◌-◌, ◌<◌}
+use Prim.Native.Nat.{◌<◌}
 use mathlib.Core.Path.{refl, ap, ◌∙◌}
 use mathlib.Core.Option.{none}
 use lib.ListN.{length}
@@ -21,13 +21,6 @@ loop-k-init c =
     let none_yet = held_eq (entries-zero a.known.now) (entries-zero a.copy.now) in
     (ap (λ k. notes (facts_in a.facts.now none 0) k (codes_of a.code.now)) none_yet, (omega arith, (omega arith, (refl, refl))))
 
-pub overflow_add-k : goal.overflow_add-k
-overflow_add-k c =
-    omega (arith, c.loop-k-test.true, UNRESOLVED.t.before.before.before.before.before.before.well-formed.0.0)
-
-pub loop-k-smaller : goal.loop-k-smaller
-loop-k-smaller c = omega (arith, c.loop-k-test.true)
-
 pub loop-k-preserved : goal.loop-k-preserved
 loop-k-preserved c =
     let a = c.args in
@@ -38,7 +31,7 @@ loop-k-preserved c =
     let at = c.inst_at.ensures in
     let more : c.loop-k.k < length (codes_of b) = rw (length_codes b) c.loop-k-test.true in (
       notes_again f (codes_of b) c.loop-k.k held (code_of blank) more (s.0 ∙ ap (note f held) at) c.loop-k.invariant.0,
-      (omega (arith, s.1.known-le), (omega (arith, s.1.copy-le), (search rules, search rules))),
+      (omega (arith, s.1.known_le), (omega (arith, s.1.copy_le), (search rules, search rules))),
     )
 
 pub returns : goal.returns

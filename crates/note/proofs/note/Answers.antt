@@ -44,5 +44,5 @@ returns-in_default c =
     let other = sym (by_kind learning false others a.i tt (opened c.in_default.in_default-own.keys4)) in
     let e = c.forget_written.ensures in (
       e.0 ∙ learns_nothing (facts_in a.facts.now none 0) (forget_all (defs_of a.i) k) a.i other,
-      record { known_le = omega (arith, e.1.known-le); copy_le = omega (arith, e.1.copy-le) },
+      record { known_le = omega (arith, e.1.known_le); copy_le = omega (arith, e.1.copy_le) },
     )

@@ -15,8 +15,8 @@ returns c =
     let f = c.forget-left in
     let l = c.learn_bool-n.ensures in
     let facts = facts_in a.facts.now none 0 in
-    let k = held_in f.result f.new.0 f.new.1.0 in
+    let k = held_in f.result f.new.known f.new.copy in
     let v = bool_of a.op (value_of facts k a.a.0) (value_of facts k a.b.0) in (
       held_eq l.0 refl ∙ sym (value_if a.d.0 v k) ∙ ap (booled facts a.op a.d.0 a.a.0 a.b.0) f.ensures.0,
-      record { known_le = omega (arith, l.1, f.ensures.1.known-le); copy_le = omega (arith, f.ensures.1.copy-le) },
+      record { known_le = omega (arith, l.1, f.ensures.1.known_le); copy_le = omega (arith, f.ensures.1.copy_le) },
     )

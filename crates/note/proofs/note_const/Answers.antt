@@ -10,5 +10,5 @@ returns c =
     let f = c.forget-left.ensures in
     let l = c.learn_value-n.ensures in (
       held_eq l.0 refl ∙ ap (with_value a.d.0 a.v) f.0,
-      record { known_le = omega (arith, l.1, f.1.known-le); copy_le = omega (arith, f.1.copy-le) },
+      record { known_le = omega (arith, l.1, f.1.known_le); copy_le = omega (arith, f.1.copy_le) },
     )

@@ -11,5 +11,5 @@ returns c =
     let f = c.forget-left.ensures in
     let l = c.learn_move.ensures in (
       l.0 ∙ ap (moved (facts_in a.facts.now none 0) a.d.0 a.s.0) f.0,
-      record { known_le = omega (arith, l.1.known-le, f.1.known-le); copy_le = omega (arith, l.1.copy-le, f.1.copy-le) },
+      record { known_le = omega (arith, l.1.known_le, f.1.known_le); copy_le = omega (arith, l.1.copy_le, f.1.copy_le) },
     )

@@ -3,7 +3,7 @@ use native.Mathlib.Omega.{arith}
 use mathlib.Core.Path.{ap, ◌∙◌}
 use lib.ListN.{length}
 use Rattle.output.specs.Filed.{counts, wrote, short, form_records}
-use Rattle.output.proofs.Laws.{room, filed_refused, filed-written}
+use Rattle.output.proofs.Laws.{filed_refused, filed-written}
 use Rattle.output.proofs.put_form.Goals as goal
 
 pub returns-then-out-n : goal.returns-then-out-n
@@ -13,11 +13,6 @@ returns-then-out-n c =
     let n = c.measure-n.ensures in
     let t = c.if-out-n.true in
     filed_refused rs (counts a.did.moved a.did.grown (short (length a.kinds.now)) a.did.rescued) a.out.now (omega arith) c.refused.ensures
-
-pub answered-requires : goal.answered-requires
-answered-requires c =
-    let s = start_of c in
-    room (length s.args.out.now) _ c.if-out-n.false s.good.0.0
 
 pub returns : goal.returns
 returns c =

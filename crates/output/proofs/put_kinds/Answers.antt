@@ -1,4 +1,4 @@
-use Prim.Native.Nat.{◌+◌, ◌-◌}
+use Prim.Native.Nat.{◌+◌}
 use native.Mathlib.Omega.{arith}
 use mathlib.Core.Path.{refl, sym, ap, ◌∙◌}
 use lib.ListN.{drop}
@@ -18,7 +18,7 @@ loop-k-preserved c =
     let k = c.loop-k.k in
     let s = place c.loop-k.out c.loop-k.top in (
       omega arith,
-      c.put-top.auto.0 ∙ c.loop-k.invariant.1,
+      c.put-top.auto.out ∙ c.loop-k.invariant.1,
       ap (puts (kind_records (drop (k + 1) kinds)))
           (c.put-top.ensures ∙ ap (λ (x : Record). put x s) (c.record_of_register-r.ensures ∙ ap register_record c.reg_ty_of.ensures))
           ∙ sym (kinds-one kinds k s (omega arith))

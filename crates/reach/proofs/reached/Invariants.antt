@@ -1,4 +1,4 @@
-use Prim.Native.Nat.{◌+◌, ◌-◌, ◌*◌}
+use Prim.Native.Nat.{◌+◌, ◌*◌}
 use Rattle.search.specs.Search.{unmarked}
 use Rattle.search.proofs.Search.{Held}
 use Rattle.reach.proofs.Edges.{first}

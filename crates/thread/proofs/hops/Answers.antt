@@ -1,6 +1,5 @@
 use Prim.Native.Nat.{◌-◌}
 use native.Mathlib.Omega.{arith}
-use mathlib.Core.Logic.{⊎_elim}
 use mathlib.Core.Path.{refl, ap, ◌∙◌}
 use borrow.Author.Tests.{not-true, not-false}
 use lib.ListN.{length}
@@ -8,6 +7,7 @@ use Rattle.pause.specs.Storage.{body_in}
 use Rattle.thread.specs.Storage.{store}
 use Rattle.thread.proofs.Laws.{hops-end, hops_stop, hops_go, hop_br_lem, hop_cond_br_lem, hop_case, hop-other}
 use Rattle.thread.proofs.hops.Goals as goal
+use Rattle.thread.proofs.hops.Goals.{in-CondBr+else-not-z, in-Br+else-not-z-2}
 
 pub hops-init : goal.hops-init
 hops-init c = (omega arith, refl, refl, refl, refl, refl, refl)
@@ -19,28 +19,35 @@ hops-preserved c =
     let q = length a.copy.now in
     let i = c.hops.invariant in
     let s = store c.hops.work c.hops.table c.hops.kinds c.hops.s in
-    let test = c.hops-test.true in (
-      omega arith,
-      ⊎_elim (λ w. ap length w.17 ∙ w.7.kept.0 ∙ i.1) (λ w. ap length w.16 ∙ w.6.kept.0 ∙ i.1) c.match-end_at.branch,
-      ⊎_elim (λ w. ap length w.18 ∙ i.2) (λ w. ap length w.17 ∙ w.6.kept.1.0 ∙ i.2) c.match-end_at.branch,
-      ⊎_elim (λ w. ap length w.19 ∙ i.3) (λ w. ap length w.18 ∙ w.6.kept.1.1.0 ∙ i.3) c.match-end_at.branch,
-      ⊎_elim (λ w. ap length w.20 ∙ w.7.kept.1.1.0 ∙ i.4) (λ w. ap length w.19 ∙ i.4) c.match-end_at.branch,
-      ⊎_elim (λ w. ap length w.21 ∙ w.7.kept.1.1.1.0 ∙ i.5) (λ w. ap length w.20 ∙ i.5) c.match-end_at.branch,
-      ⊎_elim
-          (λ w.
-          rw (w.17, w.18, w.19, w.22)
-          (hops_go a.facts.now (body_in a.pause) a.budget k q a.a.0 c.hops.h test s
-          (hop_cond_br_lem a.facts.now (body_in a.pause) a.budget k q c.hops.work c.hops.table c.hops.kinds c.hops.s a.a.0
-          c.end_at.result c.end_at.ensures i.4 i.5 w.1.given.1 (w.7.ensures a.budget c.hops.kinds)) (not-false _ w.16.left)
-          ∙ i.6))
-          (λ w.
-          rw (w.16, w.17, w.18, w.21)
-          (hops_go a.facts.now (body_in a.pause) a.budget k q a.a.0 c.hops.h test s
-          (hop_br_lem a.facts.now (body_in a.pause) a.budget k q c.hops.work c.hops.table c.hops.kinds c.hops.s a.a.0
-          c.end_at.result c.end_at.ensures w.1.given.1 (w.6.ensures k q)) (not-false _ w.15.left)
-          ∙ i.6))
-          c.match-end_at.branch,
-    )
+    let test = c.hops-test.true in
+    elim c.match-end_at.branch [
+      | in-CondBr+else-not-z w ↦ (
+        omega arith,
+        ap length w.work-is ∙ w.hop_cond_br-z.auto.work ∙ i.1,
+        ap length w.table-is ∙ i.2,
+        ap length w.kinds-is ∙ i.3,
+        ap length w.known-is ∙ w.hop_cond_br-z.auto.known ∙ i.4,
+        ap length w.copy-is ∙ w.hop_cond_br-z.auto.copy ∙ i.5,
+        rw (w.work-is, w.table-is, w.kinds-is, w.s-is)
+            (hops_go a.facts.now (body_in a.pause) a.budget k q a.a.0 c.hops.h test s
+            (hop_cond_br_lem a.facts.now (body_in a.pause) a.budget k q c.hops.work c.hops.table c.hops.kinds c.hops.s a.a.0
+            c.end_at.result c.end_at.ensures i.4 i.5 w.in-CondBr.is (w.hop_cond_br-z.ensures a.budget c.hops.kinds)) (not-false _ w.if-not-z.false)
+            ∙ i.6),
+      )
+      | in-Br+else-not-z-2 w ↦ (
+        omega arith,
+        ap length w.work-is ∙ w.hop_br-z.auto.work ∙ i.1,
+        ap length w.table-is ∙ w.hop_br-z.auto.table ∙ i.2,
+        ap length w.kinds-is ∙ w.hop_br-z.auto.kinds ∙ i.3,
+        ap length w.known-is ∙ i.4,
+        ap length w.copy-is ∙ i.5,
+        rw (w.work-is, w.table-is, w.kinds-is, w.s-is)
+            (hops_go a.facts.now (body_in a.pause) a.budget k q a.a.0 c.hops.h test s
+            (hop_br_lem a.facts.now (body_in a.pause) a.budget k q c.hops.work c.hops.table c.hops.kinds c.hops.s a.a.0
+            c.end_at.result c.end_at.ensures w.in-Br.is (w.hop_br-z.ensures k q)) (not-false _ w.if-not-z-2.false)
+            ∙ i.6),
+      )
+    ]
 
 pub returns-after-hops : goal.returns-after-hops
 returns-after-hops c =

@@ -24,11 +24,11 @@ loop-a-preserved c =
     let i = c.loop-a.invariant in (
       omega arith,
       i.1,
-      c.hops-s.auto.0 ∙ i.2,
-      c.hops-s.auto.1.0 ∙ i.3,
-      c.hops-s.auto.1.1.0 ∙ i.4,
-      c.hops-s.auto.1.1.1.0 ∙ i.5,
-      c.hops-s.auto.1.1.1.1.0 ∙ i.6,
+      c.hops-s.auto.work ∙ i.2,
+      c.hops-s.auto.table ∙ i.3,
+      c.hops-s.auto.kinds ∙ i.4,
+      c.hops-s.auto.known ∙ i.5,
+      c.hops-s.auto.copy ∙ i.6,
       thread_go a.facts.now (body_in a.pause) a.budget (length a.known.now) (length a.copy.now)
           _ c.loop-a.a (store c.loop-a.work c.loop-a.table c.loop-a.kinds c.loop-a.s)
           c.loop-a-test.true i.5 i.6 c.hops-s.ensures

@@ -1,4 +1,3 @@
-use Prim.Native.Nat.{◌-◌}
 use mathlib.Core.Path.{ap, ◌∙◌}
 use Rattle.count_facts.proofs.Begun.{kind-sent, kind-new, kind-past}
 use Rattle.count_facts.proofs.start.kind_of.Goals as goal

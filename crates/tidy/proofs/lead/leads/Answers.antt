@@ -9,11 +9,11 @@ use Rattle.tidy.proofs.lead.leads.Goals as goal
 pub returns-then-t-ge160 : goal.returns-then-t-ge160
 returns-then-t-ge160 c =
     let a = c.args in
-    record { kept = c.requires; value = sym (reached-past a.targets.now c.requires.size a.from.0 a.to.0 c.if-t-ge160.true); }
+    record { kept = c.requires; value = sym (reached-past a.targets.now c.requires.size a.from.0 a.to.0 c.if-t-ge160.true) }
 
 pub returns-then-marks-a : goal.returns-then-marks-a
 returns-then-marks-a c =
-    record { kept = c.requires; value = ap (λ (m : List Bool). get_or m c.args.to.0 false) (kept-asked c.requires c.if-marks-a.true); }
+    record { kept = c.requires; value = ap (λ (m : List Bool). get_or m c.args.to.0 false) (kept-asked c.requires c.if-marks-a.true) }
 
 pub reach-requires : goal.reach-requires
 reach-requires c = let k = c.requires in (k.low, k.size, kept-clear k c.if-marks-a.false)
@@ -21,4 +21,4 @@ reach-requires c = let k = c.requires in (k.low, k.size, kept-clear k c.if-marks
 pub returns : goal.returns
 returns c =
     let e = c.reach.ensures in
-    record { kept = record { low = c.requires.low; size = c.requires.size; asked = inr e }; value = ap (λ (m : List Bool). get_or m c.args.to.0 false) e; }
+    record { kept = record { low = c.requires.low; size = c.requires.size; asked = inr e }; value = ap (λ (m : List Bool). get_or m c.args.to.0 false) e }

@@ -1,4 +1,3 @@
-use Prim.Native.Nat.{◌-◌}
 use mathlib.Core.Path.{refl, ap, ◌∙◌}
 use native.Mathlib.Omega.{arith}
 use Rattle.paths.specs.Paths.{reached_from}
@@ -16,47 +15,20 @@ loop-top-init c =
     let n = edges_length 160 ts c.requires.1 in
     held_first (edges_in ts) c.args.from.0 n (omega arith) c.requires.2 refl c.push-top.ensures.sized c.push-top.ensures.result_after c.requires.0)) (held_start (edges_in ts) c.args.from.0 n (omega arith) c.requires.2 refl c.push-top.ensures.sized c.push-top.ensures.result_after)
 
-pub overflow_sub-b : goal.overflow_sub-b
-overflow_sub-b c = omega arith
-
-pub overflow_mul-b : goal.overflow_mul-b
-overflow_mul-b c = let z = c.loop-top.invariant.sized.room in omega arith
-
-pub bounds-stack-top : goal.bounds-stack-top
-bounds-stack-top c = let z = c.loop-top.invariant.sized.room in omega arith
-
-pub overflow_sub-top : goal.overflow_sub-top
-overflow_sub-top c = omega (arith, c.loop-top-test.true)
-
-pub overflow_mul-b : goal.overflow_mul-b
-overflow_mul-b c = let b = (one_of_160 c.args.targets.now c.requires.1 _ c.loop-top.invariant c.loop-top-test.true) in omega arith
-
-pub offset_bounds-targets-b : goal.offset_bounds-targets-b
-offset_bounds-targets-b c = let b = (one_of_160 c.args.targets.now c.requires.1 _ c.loop-top.invariant c.loop-top-test.true) in omega arith
-
 pub bounds-targets-b : goal.bounds-targets-b
 bounds-targets-b c = let b = (one_of_160 c.args.targets.now c.requires.1 _ c.loop-top.invariant c.loop-top-test.true) in omega arith
-
-pub overflow_mul-b-in-loop-top : goal.overflow_mul-b-in-loop-top
-overflow_mul-b-in-loop-top c = let b = (one_of_160 c.args.targets.now c.requires.1 _ c.loop-top.invariant c.loop-top-test.true) in omega arith
-
-pub overflow_add-b : goal.overflow_add-b
-overflow_add-b c = let b = (one_of_160 c.args.targets.now c.requires.1 _ c.loop-top.invariant c.loop-top-test.true) in omega arith
-
-pub offset_bounds-targets-b-in-loop-top : goal.offset_bounds-targets-b-in-loop-top
-offset_bounds-targets-b-in-loop-top c = let b = (one_of_160 c.args.targets.now c.requires.1 _ c.loop-top.invariant c.loop-top-test.true) in omega arith
 
 pub bounds-targets-b-in-loop-top : goal.bounds-targets-b-in-loop-top
 bounds-targets-b-in-loop-top c = let b = (one_of_160 c.args.targets.now c.requires.1 _ c.loop-top.invariant c.loop-top-test.true) in omega arith
 
 pub loop-top-smaller : goal.loop-top-smaller
 loop-top-smaller c =
-    both_less c.args.targets.now c.requires.1 _ c.loop-top.inv c.loop-top-test.true c.push-top-in-loop-top.ensures.sized c.push-top-in-loop-top.ensures.result_after
+    both_less c.args.targets.now c.requires.1 _ c.loop-top.invariant c.loop-top-test.true c.push-top-in-loop-top.ensures.sized c.push-top-in-loop-top.ensures.result_after
     c.push-top-in-loop-top-2.ensures.sized c.push-top-in-loop-top-2.ensures.result_after
 
 pub loop-top-preserved : goal.loop-top-preserved
 loop-top-preserved c =
-    both_pushed c.args.targets.now c.requires.1 _ c.loop-top.inv c.loop-top-test.true c.push-top-in-loop-top.ensures.sized c.push-top-in-loop-top.ensures.result_after
+    both_pushed c.args.targets.now c.requires.1 _ c.loop-top.invariant c.loop-top-test.true c.push-top-in-loop-top.ensures.sized c.push-top-in-loop-top.ensures.result_after
     c.push-top-in-loop-top-2.ensures.sized c.push-top-in-loop-top-2.ensures.result_after
 
 pub returns : goal.returns

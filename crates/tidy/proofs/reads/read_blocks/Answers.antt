@@ -1,4 +1,4 @@
-use Prim.Native.Nat.{◌+◌, ◌-◌}
+use Prim.Native.Nat.{◌+◌}
 use mathlib.Core.Path.{refl, ap, ◌∙◌}
 use mathlib.Core.List.{List}
 use native.Mathlib.Omega.{arith}
@@ -56,7 +56,7 @@ read_block-t-requires c =
     let t = c.loop-k-test.true in
     let i = block_in f c.loop-k.k t c.record_at-r.ensures in
     let p = c.requires in
-    ((f, omega arith, p.1), (p.2, omega arith))
+    record { fit = (f, omega arith, p.1); targets_len = (p.2, omega arith) }
 
 pub overflow_add-k : goal.overflow_add-k
 overflow_add-k c = omega arith

@@ -25,4 +25,4 @@ returns c =
     let is = c.inst_at-i.ensures ∙ ap (λ (y : Code). y.inst) (code-at b a.at) in
     let rs = inst-reads ops c.inst_at-i.result is c.roles_of.ensures in
     let all = stepped es a.l.blocks a.ws.now a.block.0 a.place a.s in
-    record { kept = e.0; value = e.1 ∙ ap all rs ∙ stepped-fields es a.l.blocks a.ws.now x a.s (reads_of ops x.inst); }
+    record { kept = e.kept; value = e.value ∙ ap all rs ∙ stepped-fields es a.l.blocks a.ws.now x a.s (reads_of ops x.inst) }

@@ -1,4 +1,4 @@
-use Prim.Native.Nat.{◌+◌, ◌-◌, ◌≤◌, ◌<◌}
+use Prim.Native.Nat.{◌+◌, ◌≤◌, ◌<◌}
 use mathlib.Core.Path.{refl, ap, ◌∙◌}
 use native.Mathlib.Omega.{arith}
 use lib.ListN.{length, drop}
@@ -45,9 +45,9 @@ loop-j-preserved c =
     let e = c.read_one-t.ensures in
     let one = step es a.l.blocks a.ws.now a.block.0 a.place in
     let all = stepped es a.l.blocks a.ws.now a.block.0 a.place in
-    let now-is = e.1 ∙ ap (one l.t) c.read_reg-r.ensures in
+    let now-is = e.value ∙ ap (one l.t) c.read_reg-r.ensures in
     let next = stepped-next es a.l.blocks a.ws.now a.block.0 a.place l.t rs l.j i in
-    (omega arith, e.0, ap (λ (t : Tidiness). all t (drop (l.j + 1) rs)) now-is ∙ next ∙ l.invariant.2)
+    (omega arith, e.kept, ap (λ (t : Tidiness). all t (drop (l.j + 1) rs)) now-is ∙ next ∙ l.invariant.2)
 
 pub returns : goal.returns
 returns c =
@@ -59,4 +59,4 @@ returns c =
     let rs = all_reads ops a.roles in
     let n = reads-length ops a.roles p.1 (operands-length p.0) in
     let i : length rs ≤ l.j = rw (n, ← c.read_count-count.ensures) c.loop-j-test.false in
-    record { kept = l.invariant.1; value = stepped-end es a.l.blocks a.ws.now a.block.0 a.place l.t rs l.j i ∙ l.invariant.2; }
+    record { kept = l.invariant.1; value = stepped-end es a.l.blocks a.ws.now a.block.0 a.place l.t rs l.j i ∙ l.invariant.2 }

@@ -2,7 +2,6 @@ use Prim.Native.Nat.{◌-◌, ◌≤◌}
 use mathlib.Core.Path.{◌≡◌}
 use lib.ListN.{length}
 use Rattle.records.specs.Record.{records_of}
-use Rattle.ends.specs.Ends.{targets}
 use Rattle.tidy.proofs.Ending.{Noted}
 use Rattle.tidy.proofs.targets.note_targets.Given as goal
 

@@ -1,4 +1,4 @@
-use Prim.Native.Nat.{ℕ, ◌+◌, ◌-◌}
+use Prim.Native.Nat.{ℕ, ◌+◌}
 use mathlib.Core.Path.{◌≡◌, refl, sym, ap, ◌∙◌}
 use mathlib.Core.List.{List}
 use native.Mathlib.Omega.{arith}
@@ -22,7 +22,7 @@ loop-j-preserved c =
     let t = take a.roles.defs regs in
     let n : length t ≡ a.roles.defs = length-take-le a.roles.defs regs (let z = numbers-length a.roles.reg in omega arith) in
     let g = get_or-take a.roles.defs regs l.j 0 (omega arith) ∙ number_at a.roles.reg l.j 0 in
-    let e : c.note_write.new.0 ≡ note l.ws (get_or t l.j 0) a.v =
+    let e : c.note_write.new.ws ≡ note l.ws (get_or t l.j 0) a.v =
     c.note_write.ensures ∙ ap (λ (x : ℕ). note l.ws x a.v) (sym g)
     in
     let next = ap (λ (w : List ℕ). notes w a.v (drop (l.j + 1) t)) e ∙ notes-step l.ws a.v t l.j (omega arith) in
