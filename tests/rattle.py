@@ -18,10 +18,11 @@ NOTE = re.compile(rf"({LITERAL})|//[^\n]*|/\*.*?\*/", re.S)
 INNER = re.compile(r"#!\[[^\]\n]*\]")
 ITEM = re.compile(
     r"(?:#\[[^\]\n]*\]\s*)*"
-    r"(?:(?P<ghost>ghost use)\b|(?:pub\s+)?(?:(?P<use>use)|(?P<mod>mod)|(?P<type>struct|enum)"
-    r"|(?P<const>const)|(?P<alias>type)|(?P<impl>impl)|(?:(?P<extern>extern \"C\")\s+)?(?P<fn>fn))\b)"
+    r"(?:(?P<ghost>ghost use)\b|(?:pub(?:\([a-z]+\))?\s+)?(?:(?P<use>use)|(?P<mod>mod)|(?P<type>struct|enum)"
+    r"|(?P<const>(?:const|static)(?!\s+fn\b))|(?P<alias>type)|(?P<impl>impl|trait)"
+    r"|(?:const\s+)?(?:(?P<extern>extern \"C\")\s+)?(?P<fn>fn))\b)"
 )
-RESULT = re.compile(r"\s*(?:->\s*(?P<type>[^{]+?)\s*(?=\{|\brequires\b|\bensures\b|\bghost\b))?", re.S)
+RESULT = re.compile(r"\s*(?:->\s*(?P<type>[^{]+?)\s*(?=\{|\bwhere\b|\brequires\b|\bensures\b|\bghost\b))?(?:where\b[^{]*?(?=\{|\brequires\b|\bensures\b|\bghost\b))?", re.S)
 BRACKET = re.compile(rf"{LITERAL}|[(\[{{}}\])]")
 BUILT_IN = set("u8 u16 u32 u64 usize i8 i16 i32 i64 isize f32 f64 bool mut static".split())
 PATH = re.compile(r"'\w+|\d\w*|[A-Za-z_]\w*(?:::[A-Za-z_]\w*)*")
@@ -60,6 +61,16 @@ def closing(text, at, where):
     raise Fault(f"{where}: a bracket that isn't closed")
 
 
+def semicolon(text, at, where):
+    """The place of the next semicolon outside of brackets."""
+    while text[at:at + 1] not in ("", ";"):
+        found = re.compile(LITERAL).match(text, at)
+        at = found.end() if found else closing(text, at, where) if text[at] in "([{" else at + 1
+    if at >= len(text):
+        raise Fault(f"{where}: an item that doesn't end")
+    return at
+
+
 def read_code(text, path):
     code, text, at = Code(path), blanked(text), 0
     while text[at:].strip():
@@ -90,7 +101,10 @@ def read_item(code, text, at, found, line):
         if "extern" in text[at:end]:
             raise Fault(f"{where}: an exported method: a shape that isn't known")
         return end
-    end = text.index(";", at)
+    tests = re.compile(r"\s+\w+\s*(?=\{)").match(text, found.end()) if kind == "mod" and "#[cfg(test)]" in found.group() else None
+    if tests:
+        return closing(text, tests.end(), where)
+    end = semicolon(text, found.end(), where)
     inner = text[found.end():end].strip()
     if kind == "ghost":
         code.ghost += uses_in(grouped(lex(inner, code.path, line), where), False, code.path)
@@ -106,13 +120,16 @@ def read_item(code, text, at, found, line):
 
 
 def read_use(code, inner, where):
-    """use a::b::C; use a::{B, c::D};"""
-    found = re.fullmatch(r"(\w+(?:::\w+)*)(?: as (\w+))?|((?:\w+::)+)\{([\w\s,:]+)\}", inner)
+    """use a::b::C; use a::{self, B as E, c::{D}};"""
+    found = re.fullmatch(r"(\w+(?:::\w+)*)(?: as (\w+))?|((?:\w+::)+)\{(.+)\}", inner, re.S)
     if not found:
         raise Fault(f"{where}: a `use` of a shape that isn't known: {inner}")
-    for name in [found.group(1)] if found.group(1) else [p.strip() for p in found.group(4).split(",") if p.strip()]:
-        path = ((found.group(3) or "") + name).split("::")
-        code.uses[found.group(2) or path[-1]] = tuple(path)
+    if found.group(3):
+        for part in parts_of(found.group(4), where):
+            read_use(code, found.group(3) + part, where)
+        return
+    path = tuple(part for part in found.group(1).split("::") if part != "self" or found.group(1) == "self")
+    code.uses[found.group(2) or path[-1]] = path
 
 
 def parts_of(text, where):
@@ -172,7 +189,7 @@ def read_type(code, text, found):
 
 def read_function(code, text, found, line):
     where = f"{code.path}:{line}"
-    head = re.compile(r"\s+(\w+)\s*(?:<[^>]*>)?\s*(?=\()").match(text, found.end())
+    head = re.compile(r"\s+(\w+)\s*(?:<(?:[^<>()]|->|<[^<>]*>|\([^()]*\))*>)?\s*(?=\()").match(text, found.end())
     if not head:
         raise Fault(f"{where}: a function of a shape that isn't known")
     end = closing(text, head.end(), where)
