@@ -61,6 +61,17 @@ def closing(text, at, where):
     raise Fault(f"{where}: a bracket that isn't closed")
 
 
+def past_angles(text, at):
+    """The place after the type parameters at a place, if there are any, and after blanks."""
+    depth, end = 0, at
+    for found in re.finditer(r"->|[<>]|[^<>-]+|-", text[at:] if text[at:at + 1] == "<" else ""):
+        depth += {"<": 1, ">": -1}.get(found.group(), 0)
+        end = at + found.end()
+        if not depth:
+            break
+    return end + len(text[end:]) - len(text[end:].lstrip())
+
+
 def semicolon(text, at, where):
     """The place of the next semicolon outside of brackets."""
     while text[at:at + 1] not in ("", ";"):
@@ -189,12 +200,13 @@ def read_type(code, text, found):
 
 def read_function(code, text, found, line):
     where = f"{code.path}:{line}"
-    head = re.compile(r"\s+(\w+)\s*(?:<(?:[^<>()]|->|<[^<>]*>|\([^()]*\))*>)?\s*(?=\()").match(text, found.end())
-    if not head:
+    head = re.compile(r"\s+(\w+)\s*").match(text, found.end())
+    start = past_angles(text, head.end()) if head else 0
+    if not head or text[start:start + 1] != "(":
         raise Fault(f"{where}: a function of a shape that isn't known")
-    end = closing(text, head.end(), where)
+    end = closing(text, start, where)
     parameters = {}
-    for part in parts_of(text[head.end() + 1:end - 1], where):
+    for part in parts_of(text[start + 1:end - 1], where):
         name, _, kind = part.partition(":")
         parameters[re.sub(r"^mut\s+", "", name.strip())] = kind.strip()
     word = RESULT.match(text, end)
