@@ -1,0 +1,7 @@
+use Rattle.line.proofs.Laws.{then}
+use Rattle.listing.specs.Listing.{fresh_text}
+use Rattle.listing.proofs.put_fresh.Goals as goal
+
+pub returns : goal.returns
+unfolding fresh_text
+returns c = then c.put_numbered-n.ensures.put c.put_numbered.ensures.put

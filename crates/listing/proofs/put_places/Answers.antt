@@ -1,0 +1,7 @@
+use Rattle.line.proofs.Laws.{then}
+use Rattle.listing.specs.Listing.{places_text}
+use Rattle.listing.proofs.put_places.Goals as goal
+
+pub returns : goal.returns
+unfolding places_text
+returns c = then (then c.put_pair-n.ensures c.put_pair-n-2.ensures) c.put_pair.ensures
