@@ -1,22 +1,20 @@
 -- What Emit writes over the storage are the records of what `emit` of the steps leaves.
-use Prim.Native.Nat.{ℕ, suc, ◌+◌, ◌/◌, ◌≤◌, min}
+use Prim.Native.Nat.{ℕ, suc, ◌/◌, ◌≤◌, min}
 use native.Mathlib.Omega.{arith}
 use mathlib.Core.Path.{◌≡◌, refl, sym, ap, ◌∙◌}
 use mathlib.Core.Bool.{Bool, true, false, cond}
 use mathlib.Core.List.{List, [], ◌∷◌, ◌++◌, map, map-append, append_assoc}
 use mathlib.Core.Option.{Option}
-use lib.ListN.{length, get_or, take, drop, length-map, length-append}
+use lib.ListN.{length, get_or, drop, length-map, length-append}
 use Rattle.records.specs.declared.Record.{Record}
 use Rattle.records.specs.Record.{records_of}
 use Rattle.inst.specs.declared.Code.{Code}
-use Rattle.ops.specs.Ops.{reg_ty_of}
-use Rattle.codec.specs.Codec.{inst_of, code_of, record_of, block_of, reg_of}
-use Rattle.items.specs.Items.{register_record, operand_record}
+use Rattle.codec.specs.Codec.{inst_of, code_of, record_of, block_of}
 use Rattle.procedure.specs.Procedure.{tables_from}
 use Rattle.procedure.specs.Lists.{joined}
 use Rattle.blocks.specs.Blocks.{blocks_of, block_records_in, Canonical}
 use Rattle.steps.specs.Emit.{reached, stays, rescues, rescued_of, empty_from, onto_front}
-use Rattle.steps.specs.Write.{block_records, body_records, table_records, records_for}
+use Rattle.steps.specs.Write.{block_records}
 use Rattle.facts.specs.Storage.{facts_in}
 use Rattle.reach.specs.Reached.{seen_in}
 use Rattle.reach.proofs.Laws.{seen-is, wanted_length}

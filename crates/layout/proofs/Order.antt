@@ -106,7 +106,7 @@ none-past (r ∷ rs) = ordered_stop 7 r rs (⊎_elim past before' (cases (leb 7 
         rw (← no_class r (λ e. omega arith) (λ e. omega arith) (λ e. omega arith) (λ e. omega arith) (λ e. omega arith) (λ e. omega arith))
 
     before' : leb 7 r.class ≡ false → in_order 7 r ≡ false
-    before' t = rw t (mathlib.Core.Bool.and_false (right r))
+    before' t = rw t (mathlib.Core.Bool.and-false (right r))
 
 -- where the right records of the classes up to c end, one class after another
 unfoldable pub end_of : ℕ → List Record → ℕ

@@ -1,6 +1,6 @@
 -- What wrong forms of the steps would make of small tidy files: demand 3 refuses each.
 use Prim.Native.Nat.{ℕ, ◌+◌, ◌*◌}
-use mathlib.Core.Path.{◌≡◌, refl}
+use mathlib.Core.Path.{refl}
 use mathlib.Core.List.{[], ◌∷◌}
 use Rattle.inst.specs.declared.Code.{Code}
 use Rattle.inst.specs.declared.CmpOp.TheVariants as c

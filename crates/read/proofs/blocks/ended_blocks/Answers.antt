@@ -1,0 +1,69 @@
+use Prim.Native.Nat.{◌-◌}
+use mathlib.Core.Path.{ap, ◌∙◌}
+use native.Mathlib.Omega.{arith}
+use native.Mathlib.Nat.{zero-add}
+use borrow.Author.Tests.{not-true, not-false}
+use Rattle.records.specs.Record.{records_of}
+use Rattle.records.proofs.Laws.{length_records}
+use Rattle.read.specs.Structure.{code_of, ends_well}
+use Rattle.read.specs.Work.{part}
+use Rattle.read.proofs.Laws.{tests_pass, tests_stop, tests-end, in_code, code-part}
+use Rattle.read.proofs.blocks.ended_blocks.Goals as goal
+
+-- the block read lies within the code
+pub loop-k-init : goal.loop-k-init
+loop-k-init c = (omega arith, zero-add _)
+
+pub overflow_add-first : goal.overflow_add-first
+overflow_add-first c = omega (arith, length_records c.args.b.now)
+
+pub overflow_add-code : goal.overflow_add-code
+overflow_add-code c =
+    let q = (let a = c.args in
+    let within = in_code (records_of a.b.now) a.first a.count a.n c.loop-k.k c.requires.0 c.record_at-r.result c.requires.2 in
+    within c.loop-k-test.true c.record_at-r.ensures) in
+    omega (arith, length_records c.args.b.now)
+
+pub overflow_sub-r : goal.overflow_sub-r
+overflow_sub-r c =
+    let q = (let a = c.args in
+    let within = in_code (records_of a.b.now) a.first a.count a.n c.loop-k.k c.requires.0 c.record_at-r.result c.requires.2 in
+    within c.loop-k-test.true c.record_at-r.ensures) in
+    omega arith
+
+pub ends_well-requires : goal.ends_well-requires
+ends_well-requires c =
+    let q = (let a = c.args in
+    let within = in_code (records_of a.b.now) a.first a.count a.n c.loop-k.k c.requires.0 c.record_at-r.result c.requires.2 in
+    within c.loop-k-test.true c.record_at-r.ensures) in
+    omega arith
+
+pub returns-then-not-ends_well : goal.returns-then-not-ends_well
+returns-then-not-ends_well c =
+    let a = c.args in
+    let rs = records_of a.b.now in
+    let q = (let a = c.args in
+    let within = in_code (records_of a.b.now) a.first a.count a.n c.loop-k.k c.requires.0 c.record_at-r.result c.requires.2 in
+    within c.loop-k-test.true c.record_at-r.ensures) in
+    let well = ap ends_well (code-part rs a.code a.n c.record_at-r.result q.0 q.1) in
+    let stop = tests_stop (λ r. ends_well (code_of (part a.code a.n rs) r)) rs a.first a.count c.requires.0 c.loop-k.k in
+    stop c.loop-k-test.true c.record_at-r.ensures (c.ends_well.ensures ∙ well) (not-true _ c.if-not-ends_well.true-raw) ∙ c.loop-k.invariant.1
+
+pub loop-k-preserved : goal.loop-k-preserved
+loop-k-preserved c =
+    let a = c.args in
+    let rs = records_of a.b.now in
+    let q = (let a = c.args in
+    let within = in_code (records_of a.b.now) a.first a.count a.n c.loop-k.k c.requires.0 c.record_at-r.result c.requires.2 in
+    within c.loop-k-test.true c.record_at-r.ensures) in
+    let well = ap ends_well (code-part rs a.code a.n c.record_at-r.result q.0 q.1) in
+    let pass = tests_pass (λ r. ends_well (code_of (part a.code a.n rs) r)) rs a.first a.count c.requires.0 c.loop-k.k in
+    let on = pass c.loop-k-test.true c.record_at-r.ensures (c.ends_well.ensures ∙ well) (not-false _ c.if-not-ends_well.false-raw) in
+    (omega arith, on ∙ c.loop-k.invariant.1)
+
+pub returns : goal.returns
+returns c =
+    let a = c.args in
+    let rs = records_of a.b.now in
+    let end = tests-end (λ r. ends_well (code_of (part a.code a.n rs) r)) rs a.first a.count c.requires.0 c.loop-k.k in
+    end c.loop-k-test.false ∙ c.loop-k.invariant.1

@@ -1,0 +1,66 @@
+use Prim.Native.Nat.{◌-◌, ◌≤◌}
+use mathlib.Core.Path.{sym, ◌∙◌}
+use native.Mathlib.Omega.{arith}
+use Rattle.records.specs.Record.{records_of}
+use Rattle.records.proofs.Laws.{length_records}
+use Rattle.read.specs.Reading.{read_records}
+use Rattle.read.proofs.Laid.{sizes, laid_of, end_is, beyond-is, few-arms, refuse_at, pass_on}
+use native.Mathlib.Nat.{zero-add}
+use Rattle.read.proofs.read_records.Goals as goal
+
+pub refused-requires : goal.refused-requires
+refused-requires c = omega (arith, length_records c.args.b.now)
+
+pub returns-then-l-b : goal.returns-then-l-b
+unfolding read_records
+returns-then-l-b c =
+    let b = c.args.b.now in
+    let e = end_is (records_of b) c.layout_of-l.ensures in
+    refuse_at 2 0 _ _ _ c.refused.ensures (e ∙ sym (zero-add _)) (rw (← e, length_records b) c.if-l-b.true)
+
+-- the layout, once all records are right and in order
+pub overflow_sub-arms : goal.overflow_sub-arms
+overflow_sub-arms c = let z = sizes ((let b = c.args.b.now in
+    laid_of (records_of b) c.layout_of-l.ensures (rw (length_records b) c.if-l-b.false))) in omega arith
+
+pub overflow_sub-l : goal.overflow_sub-l
+overflow_sub-l c = let z = sizes ((let b = c.args.b.now in
+    laid_of (records_of b) c.layout_of-l.ensures (rw (length_records b) c.if-l-b.false))) in omega arith
+
+pub overflow_sub-l-2 : goal.overflow_sub-l-2
+overflow_sub-l-2 c = let z = sizes ((let b = c.args.b.now in
+    laid_of (records_of b) c.layout_of-l.ensures (rw (length_records b) c.if-l-b.false))) in omega arith
+
+pub overflow_sub-l-3 : goal.overflow_sub-l-3
+overflow_sub-l-3 c = let z = sizes ((let b = c.args.b.now in
+    laid_of (records_of b) c.layout_of-l.ensures (rw (length_records b) c.if-l-b.false))) in omega arith
+
+pub overflow_sub-l-4 : goal.overflow_sub-l-4
+overflow_sub-l-4 c = let z = sizes ((let b = c.args.b.now in
+    laid_of (records_of b) c.layout_of-l.ensures (rw (length_records b) c.if-l-b.false))) in omega arith
+
+pub returns-then-beyond : goal.returns-then-beyond
+unfolding read_records
+returns-then-beyond c =
+    let p = (let b = c.args.b.now in
+    laid_of (records_of b) c.layout_of-l.ensures (rw (length_records b) c.if-l-b.false)) in
+    let y = sym (beyond-is p) ∙ sym c.beyond.ensures ∙ c.if-beyond.true in
+    pass_on 2 0 _ _ (rw p.sorted (omega arith)) (c.refused-then-beyond.ensures ∙ sym (rw y))
+
+pub read_blocks-requires : goal.read_blocks-requires
+read_blocks-requires c =
+    let p = (let b = c.args.b.now in
+    laid_of (records_of b) c.layout_of-l.ensures (rw (length_records b) c.if-l-b.false)) in
+    let z = sizes p in
+    let l = c.layout_of-l.result in
+    let few = few-arms l.blocks (l.bodies - l.blocks) (l.code - l.bodies) (l.operands - l.code) (l.arms - l.operands) (l.end - l.arms) in
+    let f : l.end - l.arms ≤ 128 = few (sym c.beyond.ensures ∙ c.if-beyond.false) in
+    (p, c.requires, omega arith)
+
+pub returns : goal.returns
+unfolding read_records
+returns c =
+    let p = (let b = c.args.b.now in
+    laid_of (records_of b) c.layout_of-l.ensures (rw (length_records b) c.if-l-b.false)) in
+    let y = sym (beyond-is p) ∙ sym c.beyond.ensures ∙ c.if-beyond.false in
+    pass_on 2 0 _ _ (rw p.sorted (omega arith)) (c.read_blocks.ensures ∙ sym (rw y))

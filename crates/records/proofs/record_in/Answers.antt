@@ -1,0 +1,4 @@
+use Rattle.records.proofs.record_in.Goals as goal
+
+pub returns : goal.returns
+returns c = cc

@@ -1,0 +1,4 @@
+use Rattle.roles.proofs.row.Goals as goal
+
+pub returns : goal.returns
+returns c = cc

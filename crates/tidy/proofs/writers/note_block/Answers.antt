@@ -1,0 +1,32 @@
+use mathlib.Core.Path.{refl, ap, ◌∙◌}
+use native.Mathlib.Omega.{arith}
+use lib.ListN.{length}
+use Rattle.records.specs.Record.{records_of}
+use Rattle.records.proofs.Laws.{length_records}
+use Rattle.read.specs.Work.{part}
+use Rattle.read.proofs.Laws.{part_length}
+use Rattle.tidy.proofs.Tables.{noted-next, noted-none, length-noted}
+use Rattle.tidy.proofs.writers.note_block.Goals as goal
+
+pub loop-k-init : goal.loop-k-init
+loop-k-init c = (omega arith, refl, refl)
+
+pub overflow_add-first : goal.overflow_add-first
+overflow_add-first c = omega (arith, length_records c.args.b.now)
+
+pub loop-k-preserved : goal.loop-k-preserved
+loop-k-preserved c =
+    let l = c.loop-k in
+    let a = c.args in
+    let rs = records_of a.b.now in
+    let e = c.note_inst.ensures in
+    let n = ap length e ∙ length-noted _ l.ws ∙ l.invariant.1 in
+    (omega arith, n, noted-next l.ws rs a.first a.count (omega arith) a.block.0 l.k (omega arith) e ∙ l.invariant.2)
+
+pub returns : goal.returns
+returns c =
+    let l = c.loop-k in
+    let a = c.args in
+    let rs = records_of a.b.now in
+    noted-none l.ws (part a.first a.count rs) a.block.0 l.k (rw (part_length rs a.first a.count (omega arith)) c.loop-k-test.false)
+    ∙ l.invariant.2
