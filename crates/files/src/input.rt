@@ -1,3 +1,5 @@
+ghost use Rattle.std.specs.Prelude.{◌≡◌, ◌<◌, None, length, take};
+ghost use Rattle.std.specs.Io.KnownBytes.{Consumes, IsAtEnd};
 ghost use Rattle.io.specs.Counts.{IsPrefixLen};
 
 use crate::name;
@@ -18,8 +20,10 @@ pub fn open<R: Files>(rt: &R, path: &[u8]) -> Result<R::File, Error> {
 }
 
 // Reads until the buffer is full or the input ends.
-pub fn read_whole(reader: &mut impl Read, buf: &mut [u8]) -> Input
-    ensures { IsPrefixLen result.length buf.new }
+pub fn read_whole<R: Read>(reader: &mut R, buf: &mut [u8]) -> Input
+    ensures in_bounds { IsPrefixLen result.length buf.new }
+    ensures bytes { Consumes (R.remaining reader.old) (R.remaining reader.new) (take result.length buf.new) }
+    ensures whole { result.failed ≡ None → result.length < length buf.new → IsAtEnd (R.remaining reader.new) }
 {
     let mut n = 0;
     while n < buf.len() {
