@@ -9,7 +9,7 @@ use lib.ListN.{get_or}
 use borrow.Author.Tests.{ltb-true, eqb-true}
 use Rattle.general.proofs.Booleans.{and_first, and_second}
 use Rattle.general.proofs.Numbers.{Below, below}
-use Rattle.records.specs.Kinds.{right, instruction_places, instruction_ops, all_fit, zeros}
+use Rattle.records.specs.Kinds.{instruction_places, instruction_ops, all_fit, zeros}
 use Rattle.real.proofs.Laws.{bits_real}
 use Rattle.inst.specs.declared.Inst.TheVariants as i
 use Rattle.ops.specs.Ops.{space_of, space_num, space_arg, opt_of, opt_num, opt_arg}

@@ -20,7 +20,6 @@ use Rattle.steps.specs.Facts.{Facts, const_in, const_of, facts_of}
 use Rattle.steps.specs.Thread.{unthreaded}
 use Rattle.steps.specs.Run.{counted_in, with_blocks}
 use Rattle.machine.specs.Machine.{Address, Outside}
-use Rattle.machine.specs.Single.{single}
 use Rattle.demand.specs.Setting.{Each, Setting, reads_at, Written, Read, Exposed, Fine}
 use Rattle.demand.specs.Whole.{Whole, Inside}
 use Rattle.demand.proofs.Basics.{clash, clash_some, and_both}
@@ -35,7 +34,7 @@ use Rattle.demand.proofs.Rewrites.{Edited}
 use Rattle.demand.proofs.Threads.{arms-edited, Kept}
 use Rattle.demand.proofs.Sums.{each-joined, writes-count, uses-count, sum_one, sum_two, sum_only}
 use Rattle.demand.proofs.Arms.{arms-writes, EndFew, arms-few}
-use Rattle.demand.proofs.Original.{one, setting, good, singly-one, const-fine, lt_yes}
+use Rattle.demand.proofs.Original.{setting, good, singly-one, const-fine, lt_yes}
 
 -- some block's code before its end reads a register, or none does
 find_read : (ops : List ℕ) (d : ℕ) (P : List (List Code)) → ((b : ℕ) × Read ops (front (get_or P b [])) d) ⊎ ((b : ℕ) → ¬ (Read ops (front (get_or P b [])) d))

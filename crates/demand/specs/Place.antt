@@ -1,5 +1,5 @@
 -- Where a run is: the block of its next instruction, and the place in the block.
-use Rattle.std.specs.Prelude.{ℕ, zero, suc, ◌≡◌, List, [], ◌∷◌, get_or, drop}
+use Rattle.std.specs.Prelude.{ℕ, zero, suc, ◌≡◌, [], ◌∷◌, get_or, drop}
 use Rattle.procedure.specs.Procedure.{Procedure}
 use Rattle.machine.specs.Machine.{Address, Outside, Effect, writes, goes, ends, asks, State, at, done, effect_of, step}
 

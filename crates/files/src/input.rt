@@ -1,36 +1,50 @@
+ghost use Rattle.std.specs.Prelude.{◌≡◌, ◌<◌, None, length, take};
+ghost use Rattle.std.specs.Io.KnownBytes.{Consumes, IsAtEnd};
 ghost use Rattle.io.specs.Counts.{IsPrefixLen};
 
-// Whether every read went well, and how many bytes came.
+use crate::name;
+use std::fs;
+use std::io::{Error, Read};
+use std::rt::Files;
+
+// Why the reading ended early, if it did, and how many bytes came.
 #[derive(Clone, Copy)]
 pub struct Input {
-    pub ok: bool,
+    pub failed: Option<Error>,
     pub length: usize,
 }
 
+// Opens a file for reading.
+pub fn open<R: Files>(rt: &R, path: &[u8]) -> Result<R::File, Error> {
+    fs::open(rt, name::text_of(path)?)
+}
+
 // Reads until the buffer is full or the input ends.
-pub fn read_whole(fd: i32, buf: &mut [u8]) -> Input
-    ensures { IsPrefixLen result.length buf.new }
+pub fn read_whole<R: Read>(reader: &mut R, buf: &mut [u8]) -> Input
+    ensures in_bounds { IsPrefixLen result.length buf.new }
+    ensures bytes { Consumes (R.remaining reader.old) (R.remaining reader.new) (take result.length buf.new) }
+    ensures whole { result.failed ≡ None → result.length < length buf.new → IsAtEnd (R.remaining reader.new) }
 {
     let mut n = 0;
     while n < buf.len() {
-        let got = libc::read(fd, &mut buf[n..]);
-        if got < 0 {
-            return Input {
-                ok: false,
-                length: n,
-            };
+        match reader.read(&mut buf[n..]) {
+            Err(error) => {
+                return Input {
+                    failed: Some(error),
+                    length: n,
+                };
+            }
+            Ok(0) => {
+                return Input {
+                    failed: None,
+                    length: n,
+                };
+            }
+            Ok(more) => n += more,
         }
-        let more = io::count(got, &buf[n..]);
-        if more == 0 {
-            return Input {
-                ok: true,
-                length: n,
-            };
-        }
-        n += more;
     }
     Input {
-        ok: true,
+        failed: None,
         length: n,
     }
 }

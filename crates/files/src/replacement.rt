@@ -2,13 +2,18 @@
 // flushed and then renamed. If that fails, the new file is removed.
 ghost use Rattle.io.specs.Counts.{IsPrefixLen};
 
-use libc::STDERR_FILENO;
+use crate::{name, reason};
+use std::fs;
+use std::fs::{OpenFile, OpenOptions};
+use std::io::{Error, ErrorKind, Write};
+use std::random::RandomSource;
+use std::rt::Files;
 
 // How much of the file's name the new file's name starts with: the rest still fits in 255 bytes.
 const KEPT: usize = 200;
 
-// The last place of a path's buffer: C needs a zero byte there.
-const LAST: usize = 4095;
+// Room for the new file's name, which is at most 21 bytes longer than a path.
+const NAME_ROOM: usize = 4128;
 
 // Where the name after the last slash starts.
 fn name_start(path: &[u8]) -> usize
@@ -24,6 +29,20 @@ fn name_start(path: &[u8]) -> usize
     i
 }
 
+// The start of the character that place n is in.
+fn char_start(path: &[u8], n: usize) -> usize
+    ensures { IsPrefixLen result path.now }
+{
+    let mut i = line::front(path, n);
+    while i > 0 {
+        if i == path.len() || path[i] / 64 != 2 {
+            return i;
+        }
+        i -= 1;
+    }
+    i
+}
+
 fn name_kept(path: &[u8]) -> usize
     ensures { IsPrefixLen result path.now }
 {
@@ -31,7 +50,7 @@ fn name_kept(path: &[u8]) -> usize
     if path.len() - start < KEPT {
         path.len()
     } else {
-        start + KEPT
+        char_start(path, start + KEPT)
     }
 }
 
@@ -47,13 +66,13 @@ fn put_digits(line: &mut [u8], at: usize, bytes: &[u8]) -> usize
     n
 }
 
-// A name in the file's folder that no other file is likely to have. A path that is too long fills
-// the buffer, and then names nothing.
-fn put_new_name(name: &mut [u8], path: &[u8]) -> usize
+// A name in the file's folder that no other file is likely to have. Where chance fails it is still
+// one that a new file gets only if no other file has it.
+fn put_new_name(rt: &impl RandomSource, name: &mut [u8], path: &[u8]) -> usize
     ensures { IsPrefixLen result name.new }
 {
     let mut chance = [0u8; 8];
-    libc::getentropy(&mut chance);
+    let _ = rt.fill_bytes(&mut chance);
     let kept = name_kept(path);
     let n = line::put(name, 0, &path[..kept]);
     let n = line::put_byte(name, n, b'.');
@@ -61,131 +80,115 @@ fn put_new_name(name: &mut [u8], path: &[u8]) -> usize
     line::put(name, n, b".new")
 }
 
-// Says why, while errno still has the reason.
-fn fail(path: &[u8]) {
+fn fail(path: &[u8], why: Error) {
     let mut text = [0u8; quote::ROOM];
     let n = quote::put_name(&mut text, 0, path);
     let n = line::put(&mut text, n, b": cannot be written");
-    os::fail(&text[..n]);
+    reason::fail(&text[..n], why);
 }
 
-fn fail_for(path: &[u8], why: &[u8]) {
-    let mut text = [0u8; quote::ROOM];
-    let n = quote::put_name(&mut text, 0, path);
-    let n = line::put(&mut text, n, b": cannot be written: ");
-    let n = line::put(&mut text, n, why);
-    io::write_all(STDERR_FILENO, &text[..n]);
+fn is_link(rt: &impl Files, path: &str) -> bool {
+    match fs::symlink_metadata(rt, path) {
+        Ok(found) => found.is_symlink(),
+        Err(_) => false,
+    }
 }
 
-fn is_link(path: &[u8]) -> bool {
-    let mut name = io::buffer();
-    let mut target = [0u8; 1];
-    line::put(&mut name, 0, path);
-    name[LAST] = 0;
-    libc::readlink(&name, &mut target) >= 0
-}
-
-// A device, a pipe or a terminal has nothing to flush.
-fn is_plain(fd: i32) -> bool {
-    let flushed = libc::fsync(fd);
-    libc::close(fd);
-    flushed == 0
+// Whether it is no device, pipe or terminal.
+fn is_plain(file: impl OpenFile + Drop) -> bool {
+    match file.metadata() {
+        Ok(found) => found.is_file(),
+        Err(_) => false,
+    }
 }
 
 // Whether a file may be put at the path: there is none, or a plain one that the user may write.
-fn may_replace(path: &[u8]) -> bool {
-    if is_link(path) {
-        fail_for(path, b"a symbolic link\n");
-        return false;
+fn may_replace(rt: &impl Files, path: &str) -> Result<(), Error> {
+    if is_link(rt, path) {
+        return Err(Error::other("a symbolic link"));
     }
-    let fd = os::open_update(path);
-    if fd >= 0 {
-        if is_plain(fd) {
-            return true;
+    match OpenOptions::new().read(true).write(true).open(rt, path) {
+        Ok(file) => {
+            if is_plain(file) {
+                Ok(())
+            } else {
+                Err(Error::other("not a plain file"))
+            }
         }
-        fail_for(path, b"not a plain file\n");
-        return false;
+        Err(why) => match why.kind() {
+            ErrorKind::NotFound => Ok(()),
+            _ => Err(why),
+        },
     }
-    if os::errno() == libc::ENOENT {
-        return true;
-    }
-    fail(path);
-    false
 }
 
-fn written(fd: i32, bytes: &[u8]) -> bool {
-    if !io::write_all(fd, bytes) {
-        return false;
-    }
-    libc::fsync(fd) == 0
+// Writes and flushes a new file, and closes it.
+fn fill(mut file: impl Write + OpenFile + Drop, bytes: &[u8]) -> Result<(), Error> {
+    file.write_all(bytes)?;
+    file.sync_all()
 }
 
-fn fill(fd: i32, bytes: &[u8], path: &[u8]) -> bool {
-    if !written(fd, bytes) {
-        fail(path);
-        libc::close(fd);
-        return false;
-    }
-    if libc::close(fd) != 0 {
-        fail(path);
-        return false;
-    }
-    true
-}
-
-fn take_name(name: &[u8], path: &[u8]) -> bool {
-    if os::rename(name, path) != 0 {
-        fail(path);
-        return false;
-    }
-    true
-}
-
-fn open_folder(path: &[u8]) -> i32 {
-    let start = name_start(path);
+fn open_folder<R: Files>(rt: &R, path: &str) -> Result<R::File, Error> {
+    let bytes = path.as_bytes();
+    let start = name_start(bytes);
     if start == 0 {
-        return os::open_read(b".");
+        return fs::open(rt, ".");
     }
-    os::open_read(&path[..start])
+    fs::open(rt, name::text_of(&bytes[..start])?)
 }
 
 // Flushes the new name to the disk too, if the folder can be read and its file system can do it.
-fn flush_folder(path: &[u8]) {
-    let fd = open_folder(path);
-    if fd >= 0 {
-        libc::fsync(fd);
-        libc::close(fd);
+fn flush_folder(rt: &impl Files, path: &str) {
+    if let Ok(folder) = open_folder(rt, path) {
+        let _ = folder.sync_all();
     }
 }
 
-fn filled(fd: i32, name: &[u8], path: &[u8], bytes: &[u8]) -> bool {
-    if !fill(fd, bytes, path) {
-        return false;
+// Fills the new file and gives it the path, or removes it.
+fn put_in_place<R: Files>(
+    rt: &R,
+    file: R::File,
+    name: &str,
+    path: &str,
+    bytes: &[u8],
+) -> Result<(), Error> {
+    let placed = match fill(file, bytes) {
+        Ok(()) => fs::rename(rt, name, path),
+        Err(error) => Err(error),
+    };
+    if placed.is_err() {
+        let _ = fs::remove_file(rt, name);
     }
-    take_name(name, path)
+    placed
 }
 
-fn fill_new(path: &[u8], bytes: &[u8]) -> bool {
-    let mut name = io::buffer();
-    let n = put_new_name(&mut name, path);
-    let fd = os::create(&name[..n]);
-    if fd < 0 {
-        fail(path);
-        return false;
-    }
-    if !filled(fd, &name[..n], path, bytes) {
-        os::unlink(&name[..n]);
-        return false;
-    }
-    flush_folder(path);
-    true
+fn fill_new(rt: &(impl Files + RandomSource), path: &str, bytes: &[u8]) -> Result<(), Error> {
+    let mut room = [0u8; NAME_ROOM];
+    let n = put_new_name(rt, &mut room, path.as_bytes());
+    let name = name::text_of(&room[..n])?;
+    let file = OpenOptions::new()
+        .write(true)
+        .create_new(true)
+        .open(rt, name)?;
+    put_in_place(rt, file, name, path, bytes)?;
+    flush_folder(rt, path);
+    Ok(())
+}
+
+fn replace_named(rt: &(impl Files + RandomSource), path: &[u8], bytes: &[u8]) -> Result<(), Error> {
+    let path = name::text_of(path)?;
+    may_replace(rt, path)?;
+    fill_new(rt, path, bytes)
 }
 
 // Whether the file at path now has these bytes. If not, it is as it was and the reason is on
 // standard error.
-pub fn replace(path: &[u8], bytes: &[u8]) -> bool {
-    if !may_replace(path) {
-        return false;
+pub fn replace(rt: &(impl Files + RandomSource), path: &[u8], bytes: &[u8]) -> bool {
+    match replace_named(rt, path, bytes) {
+        Ok(()) => true,
+        Err(why) => {
+            fail(path, why);
+            false
+        }
     }
-    fill_new(path, bytes)
 }

@@ -1,5 +1,8 @@
 // The arguments: options, the command and the names.
+ghost use Rattle.io.specs.Counts.{IsPrefixLen};
+
 use options::{Before, Role, Word};
+use std::env::{Env, FillError};
 
 // The argument that holds a value, and the byte where the value starts; 0 if there is none.
 #[derive(Clone, Copy)]
@@ -27,10 +30,31 @@ pub struct Options {
     pub wants: bool,
 }
 
+// Puts argument i at the start of the buffer and returns its length, or 0 if it is longer than the
+// buffer.
+pub fn put_word(rt: &impl Env, i: usize, buf: &mut [u8]) -> usize
+    ensures { IsPrefixLen result buf.new }
+{
+    match rt.arg(i, buf) {
+        Ok(n) => line::front(buf, n),
+        Err(_) => 0,
+    }
+}
+
+// How many arguments there are, with the program's name.
+pub fn count(rt: &impl Env) -> usize {
+    for i in 0..usize::MAX {
+        if let Err(FillError::NotPresent) = rt.arg(i, &mut []) {
+            return i;
+        }
+    }
+    usize::MAX
+}
+
 // A word that is too long for an option is a name or a value.
-pub fn word_at(before: Before, i: usize) -> Word {
+pub fn word_at(rt: &impl Env, before: Before, i: usize) -> Word {
     let mut word = io::buffer();
-    let n = os::arg(i, &mut word);
+    let n = put_word(rt, i, &mut word);
     options::word_of(before, &word[..n])
 }
 
@@ -91,13 +115,13 @@ fn none() -> Options {
     }
 }
 
-pub fn scan() -> Options {
-    let count = os::arg_count();
+pub fn scan(rt: &impl Env) -> Options {
+    let count = count(rt);
     let mut before = options::start();
     let mut o = none();
     let mut i = 1;
     while i < count {
-        let word = word_at(before, i);
+        let word = word_at(rt, before, i);
         o = with(o, word, i);
         before = options::after(before, word);
         i += 1;
@@ -136,12 +160,12 @@ fn less(a: usize, b: usize) -> usize {
 }
 
 // The number of argument i as the user counts: without the words that the script adds.
-pub fn typed(i: usize) -> usize {
+pub fn typed(rt: &impl Env, i: usize) -> usize {
     let mut before = options::start();
     let mut number = i;
     let mut k = 1;
     while k < i {
-        let word = word_at(before, k);
+        let word = word_at(rt, before, k);
         number = less(number, added(word));
         before = options::after(before, word);
         k += 1;

@@ -2,8 +2,10 @@
 use crate::arguments::Options;
 use crate::status::Status;
 use crate::{arguments, status};
-use libc::STDIN_FILENO;
 use replies::{Ask, Question, Told};
+use std::env::Env;
+use std::io::{Input, Read};
+use std::rt::Files;
 
 // Where the answer starts in the line, after the name of n bytes.
 fn begin(text: &mut [u8], n: usize, bare: bool) -> usize {
@@ -13,51 +15,68 @@ fn begin(text: &mut [u8], n: usize, bare: bool) -> usize {
     line::put(text, n, b": ")
 }
 
-// The line of a file that can't be opened or read. The caller has already said why, while errno had
-// the reason.
-fn say_failed(text: &mut [u8], n: usize, bare: bool, what: &[u8]) -> Told {
+// The line of a file that can't be opened or read. The caller has already said why.
+fn say_failed(rt: &impl Print, text: &mut [u8], n: usize, bare: bool, what: &[u8]) -> Told {
     let at = begin(text, n, bare);
     let end = line::put(text, at, what);
     Told {
         good: false,
-        written: files::say(&text[..end]),
+        written: files::say(rt, &text[..end]),
     }
 }
 
-fn answer_open(fd: i32, text: &mut [u8], n: usize, ask: Ask, bare: bool) -> Told {
+fn answer_open(
+    rt: &impl Print,
+    file: &mut impl Read,
+    text: &mut [u8],
+    n: usize,
+    ask: Ask,
+    bare: bool,
+) -> Told {
     let mut bytes = [0u8; 65537];
     let name = line::front(text, n);
-    let got = files::read_whole(fd, &mut bytes);
-    if !got.ok {
-        os::fail(&text[..name]);
-        return say_failed(text, n, bare, b"cannot be read\n");
+    let got = files::read_whole(file, &mut bytes);
+    if let Some(why) = got.failed {
+        files::fail(&text[..name], why);
+        return say_failed(rt, text, n, bare, b"cannot be read\n");
     }
     let m = got.length;
     let at = begin(text, n, bare);
-    replies::say(text, at, ask, &bytes[..m])
+    replies::say(rt, text, at, ask, &bytes[..m])
 }
 
-fn answer_named(path: &[u8], ask: Ask, bare: bool) -> Told {
+fn answer_input(
+    rt: &(impl Input + Print),
+    text: &mut [u8],
+    n: usize,
+    ask: Ask,
+    bare: bool,
+) -> Told {
+    let mut input = rt.reader();
+    answer_open(rt, &mut input, text, n, ask, bare)
+}
+
+fn answer_named(rt: &(impl Files + Input + Print), path: &[u8], ask: Ask, bare: bool) -> Told {
     let mut text = [0u8; quote::ROOM];
     let n = quote::put_name(&mut text, 0, path);
     if check::same(path, b"-") {
-        return answer_open(STDIN_FILENO, &mut text, n, ask, bare);
+        return answer_input(rt, &mut text, n, ask, bare);
     }
-    let fd = os::open_read(path);
-    if fd < 0 {
-        os::fail(&text[..n]);
-        return say_failed(&mut text, n, bare, b"cannot be opened\n");
+    match files::open(rt, path) {
+        Ok(mut file) => answer_open(rt, &mut file, &mut text, n, ask, bare),
+        Err(why) => {
+            files::fail(&text[..n], why);
+            say_failed(rt, &mut text, n, bare, b"cannot be opened\n")
+        }
     }
-    let told = answer_open(fd, &mut text, n, ask, bare);
-    libc::close(fd);
-    told
 }
 
 // The line of an argument that is longer than any path.
-fn too_long(i: usize) -> Told {
+fn too_long(rt: &(impl Env + Print), i: usize) -> Told {
     let mut text = [0u8; 80];
-    let n = line::put_numbered(&mut text, 0, b"argument ", arguments::typed(i));
+    let n = line::put_numbered(&mut text, 0, b"argument ", arguments::typed(rt, i));
     say_failed(
+        rt,
         &mut text,
         n,
         false,
@@ -65,24 +84,28 @@ fn too_long(i: usize) -> Told {
     )
 }
 
-fn answer_argument(i: usize, ask: Ask, bare: bool) -> Told {
+fn answer_argument(
+    rt: &(impl Env + Files + Input + Print),
+    i: usize,
+    ask: Ask,
+    bare: bool,
+) -> Told {
     let mut path = io::buffer();
-    let n = os::arg(i, &mut path);
-    if os::errno() != 0 {
-        return too_long(i);
+    match rt.arg(i, &mut path) {
+        Ok(n) => answer_named(rt, &path[..n], ask, bare),
+        Err(_) => too_long(rt, i),
     }
-    answer_named(&path[..n], ask, bare)
 }
 
-fn answer_files(ask: Ask, bare: bool) -> Status {
-    let count = os::arg_count();
+fn answer_files(rt: &(impl Env + Files + Input + Print), ask: Ask, bare: bool) -> Status {
+    let count = arguments::count(rt);
     let mut before = options::start();
     let mut good = true;
     let mut i = 1;
     while i < count {
-        let word = arguments::word_at(before, i);
+        let word = arguments::word_at(rt, before, i);
         if arguments::is_name(word) {
-            let told = answer_argument(i, ask, bare);
+            let told = answer_argument(rt, i, ask, bare);
             if !told.written {
                 return Status::Failed;
             }
@@ -96,10 +119,10 @@ fn answer_files(ask: Ask, bare: bool) -> Status {
     status::of(good)
 }
 
-fn answer_input(ask: Ask) -> Status {
+fn answer_unnamed(rt: &(impl Input + Print), ask: Ask) -> Status {
     let mut text = [0u8; quote::ROOM];
     let n = line::put(&mut text, 0, b"standard input");
-    let told = answer_open(STDIN_FILENO, &mut text, n, ask, true);
+    let told = answer_input(rt, &mut text, n, ask, true);
     if !told.written {
         return Status::Failed;
     }
@@ -115,10 +138,10 @@ fn is_bare(names: usize, question: Question) -> bool {
     }
 }
 
-pub fn answer_all(o: Options, ask: Ask) -> Status {
+pub fn answer_all(rt: &(impl Env + Files + Input + Print), o: Options, ask: Ask) -> Status {
     let question = ask.question;
     if o.names == 0 {
-        return answer_input(ask);
+        return answer_unnamed(rt, ask);
     }
-    answer_files(ask, is_bare(o.names, question))
+    answer_files(rt, ask, is_bare(o.names, question))
 }

@@ -1,34 +1,39 @@
 // What the program says about itself: on standard output if asked to, else on standard error.
-use crate::status;
 use crate::status::Status;
-use libc::{STDERR_FILENO, STDOUT_FILENO};
+use crate::{arguments, status};
+use std::env::Env;
 
-fn say_usage(fd: i32) -> bool {
-    io::write_all(
-        fd,
-        b"usage: halivomue read|tidy [--words] [--] [FILE..]
+// The descriptor of standard error.
+pub const STDERR: i32 = 2;
+
+fn say_usage(rt: &impl Print, asked: bool) -> bool {
+    let text = b"usage: halivomue read|tidy [--words] [--] [FILE..]
        halivomue list [--words] [--only PART] [--] [FILE..]
        halivomue shorten [--words] [--] IN OUT
        halivomue --help|--version
-",
-    )
+";
+    if asked {
+        files::say(rt, text)
+    } else {
+        io::write_all(STDERR, text)
+    }
 }
 
-pub fn usage() -> Status {
-    say_usage(STDERR_FILENO);
+pub fn usage(rt: &impl Print) -> Status {
+    say_usage(rt, false);
     Status::Usage
 }
 
-pub fn version() -> Status {
-    status::of(files::say(b"halivomue 0.4\n"))
+pub fn version(rt: &impl Print) -> Status {
+    status::of(files::say(rt, b"halivomue 0.4\n"))
 }
 
-pub fn help() -> Status {
-    if !say_usage(STDOUT_FILENO) {
-        os::fail(b"standard output");
+pub fn help(rt: &impl Print) -> Status {
+    if !say_usage(rt, true) {
         return Status::Failed;
     }
     status::of(files::say(
+        rt,
         b"  read      of each file: accepted, or refused, number and record
   tidy      of each file: yes, or no and the lowest offending register, or refused
   list      of each file: counts, registers, blocks and code of its shortened form, or refused
@@ -43,19 +48,19 @@ Without a name the bare answer of standard input; the name - is standard input. 
 }
 
 // `shorten` with anything but two names.
-pub fn wrong_names() -> Status {
+pub fn wrong_names(rt: &impl Print) -> Status {
     io::write_all(
-        STDERR_FILENO,
+        STDERR,
         b"halivomue: shorten takes two names, and the second is a file's
 ",
     );
-    usage()
+    usage(rt)
 }
 
 // `--only` without a value, with an unknown one, or with a command other than `list`.
 pub fn no_part() -> Status {
     io::write_all(
-        STDERR_FILENO,
+        STDERR,
         b"halivomue: --only wants counts, registers, blocks or code\n",
     );
     Status::Usage
@@ -70,29 +75,29 @@ pub fn wrong_part(word: &[u8]) -> Status {
     );
     let n = quote::put_name(&mut text, n, word);
     let n = line::put(&mut text, n, b"'\n");
-    io::write_all(STDERR_FILENO, &text[..n]);
+    io::write_all(STDERR, &text[..n]);
     Status::Usage
 }
 
 pub fn only_for_list() -> Status {
-    io::write_all(STDERR_FILENO, b"halivomue: --only is for list\n");
+    io::write_all(STDERR, b"halivomue: --only is for list\n");
     Status::Usage
 }
 
 // A word that isn't a command, or isn't an option.
-pub fn unknown(what: &[u8], word: &[u8]) -> Status {
+pub fn unknown(rt: &impl Print, what: &[u8], word: &[u8]) -> Status {
     let mut text = [0u8; 1024];
     let n = quote::put_name(&mut text, 0, word);
-    io::write_all(STDERR_FILENO, b"halivomue: unknown ");
-    io::write_all(STDERR_FILENO, what);
-    io::write_all(STDERR_FILENO, b" ");
-    io::write_all(STDERR_FILENO, &text[..n]);
-    io::write_all(STDERR_FILENO, b"\n");
-    usage()
+    io::write_all(STDERR, b"halivomue: unknown ");
+    io::write_all(STDERR, what);
+    io::write_all(STDERR, b" ");
+    io::write_all(STDERR, &text[..n]);
+    io::write_all(STDERR, b"\n");
+    usage(rt)
 }
 
-pub fn unknown_option(i: usize) -> Status {
+pub fn unknown_option(rt: &(impl Env + Print), i: usize) -> Status {
     let mut word = io::buffer();
-    let n = os::arg(i, &mut word);
-    unknown(b"option", &word[..n])
+    let n = arguments::put_word(rt, i, &mut word);
+    unknown(rt, b"option", &word[..n])
 }

@@ -1,5 +1,5 @@
-// The exit status that the program would have: in Rattle it is always 0. With --status the program
-// writes the digit to descriptor 3, and the script `halivomue` exits with it.
+// The exit status of the script `halivomue`. The program itself ends with 0: with --status it writes
+// the digit to descriptor 3, and the script exits with that.
 
 #[derive(Clone, Copy)]
 pub enum Status {

@@ -1,5 +1,5 @@
 -- Laws of the records of the classes 1, 2, 3, 5 and 6: each is written as it was read, and read as it was written.
-use Prim.Native.Nat.{ℕ, zero, ◌<◌, ◌^◌}
+use Prim.Native.Nat.{ℕ, ◌<◌, ◌^◌}
 use native.Mathlib.Omega.{arith}
 use mathlib.Core.Path.{◌≡◌, refl, ap, ◌∙◌}
 use mathlib.Core.Bool.{Bool, true, false, ◌&&◌}

@@ -1,5 +1,5 @@
 -- Document 01, "File" and "Read", 2 and 3: the records of each class.
-use Rattle.std.specs.Prelude.{ℕ, zero, suc, List, [], ◌∷◌, Bool, ◌&&◌, ◌||◌, cond, eqb, ltb, leb, length}
+use Rattle.std.specs.Prelude.{ℕ, suc, List, [], ◌∷◌, Bool, ◌&&◌, cond, eqb, ltb, leb, length}
 use Rattle.records.specs.declared.Record.{Record}
 use Rattle.records.specs.Kinds.{right}
 use Rattle.layout.specs.Walk.{walk}

@@ -1,5 +1,5 @@
 -- The two pairs of Holds are what the steps give, so demand 3 is proved of them as Shorten has them.
-use mathlib.Core.Path.{◌≡◌, refl, sym}
+use mathlib.Core.Path.{◌≡◌, refl}
 use mathlib.Core.Bool.{true}
 use Rattle.procedure.specs.Procedure.{Procedure}
 use Rattle.procedure.specs.Lists.{any_of, times, found}

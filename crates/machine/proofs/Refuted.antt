@@ -13,7 +13,7 @@ use Rattle.codec.specs.Codec.{reg_of}
 use Rattle.procedure.specs.Procedure.{Procedure}
 use Rattle.procedure.specs.Lists.{any_of, times}
 use Rattle.procedure.specs.Counts.{writes_in}
-use Rattle.ends.specs.Forms.{form_of, fixed_of}
+use Rattle.ends.specs.Forms.{fixed_of}
 use Rattle.machine.specs.Act.{op_of}
 use Rattle.machine.specs.Machine.{Regs, End, Shown, shown, effect}
 use Rattle.machine.specs.Single.{single_in, constant_in, constant_of, load}

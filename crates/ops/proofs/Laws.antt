@@ -1,10 +1,7 @@
 -- Laws of the ops: each number that an enum has comes back, and so does each of its cases.
-use Prim.Native.Nat.{ℕ, zero, suc, ◌≤◌, ◌<◌}
-use native.Mathlib.Omega.{arith}
-use mathlib.Core.Path.{◌≡◌, refl, sym, subst}
-use mathlib.Core.Bool.{Bool, true, false}
-use lib.Dec.{eqb, lit<}
-use borrow.Author.Tests.{eqb-true, eqb-false}
+use Prim.Native.Nat.{ℕ, ◌<◌}
+use mathlib.Core.Path.{◌≡◌, refl}
+use lib.Dec.{lit<}
 use Rattle.general.proofs.Numbers.{below}
 use Rattle.inst.specs.declared.CmpOp.{CmpOp}
 use Rattle.inst.specs.declared.CmpOp.TheVariants as c

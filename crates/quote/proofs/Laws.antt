@@ -6,12 +6,12 @@ use mathlib.Core.Path.{◌≡◌, refl, sym, ap, ◌∙◌}
 use mathlib.Core.Bool.{true}
 use mathlib.Core.Logic.{⊎_elim}
 use mathlib.Core.List.{List, [], ◌∷◌, ◌++◌, append_assoc}
-use borrow.Author.Tests.{lt-ltb, le-ltb, eq-eqb, ne_eqb}
+use borrow.Author.Tests.{lt-ltb, le-ltb, ne_eqb}
 use lib.ListN.{length, get_or, take}
 use lib.Seq.{take-suc, take_all}
 use Rattle.io.specs.Digits.{hex_digit_ascii}
 use Rattle.general.proofs.Numbers.{order}
-use Rattle.line.specs.Line.{Put, is_plain, plain, Added}
+use Rattle.line.specs.Line.{Put, is_plain, Added}
 use Rattle.line.proofs.Laws.{then, put-none, plain_byte, plain_both}
 use Rattle.quote.specs.Quote.{hex_of, nothing, value_of, told, Quoted}
 

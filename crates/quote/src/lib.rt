@@ -7,7 +7,7 @@ mod unseen;
 
 ghost use Rattle.std.specs.Prelude.{◌<◌, ◌≡◌, [], ◌∷◌};
 ghost use Rattle.line.specs.Line.{Put};
-ghost use Rattle.io.specs.Digits.{hex_digit_ascii as Digits·glyph};
+ghost use Rattle.io.specs.Digits.{hex_digit_ascii};
 ghost use Rattle.quote.specs.Quote.{Quoted, hex_of};
 
 use unseen::Part;
@@ -17,7 +17,7 @@ pub const ROOM: usize = 16768;
 
 fn glyph(d: u8) -> u8
     requires { d < 16 }
-    ensures { result ≡ Digits·glyph d }
+    ensures { result ≡ hex_digit_ascii d }
 {
     if d < 10 { 48 + d } else { 87 + d }
 }

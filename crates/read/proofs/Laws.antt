@@ -1,15 +1,14 @@
 -- Laws of parts of a file, and of the tests of blocks and arms.
-use Prim.Native.Nat.{ℕ, zero, suc, ◌+◌, ◌-◌, ◌≤◌, ◌<◌, min}
+use Prim.Native.Nat.{ℕ, ◌+◌, ◌-◌, ◌≤◌, ◌<◌}
 use native.Mathlib.Numerals.{add-one}
 use native.Mathlib.Omega.{arith}
 use mathlib.Core.Path.{◌≡◌, refl, sym, ap, ◌∙◌}
-use mathlib.Core.Bool.{Bool, true, false, ◌&&◌, ◌||◌, not, cond}
+use mathlib.Core.Bool.{Bool, true, false, ◌||◌, not, cond}
 use mathlib.Core.List.{List, [], ◌∷◌, ◌++◌}
-use mathlib.Core.Logic.{◌⊎◌, inl, inr, ⊎_elim}
-use borrow.Author.Tests.{ltb-true, ltb-false, leb-true, leb-false, eqb-true, eqb-false, lt-ltb, le-ltb, le-leb, lt-leb, eq-eqb, ne_eqb}
-use lib.Dec.{eqb, ltb, leb}
+use borrow.Author.Tests.{lt-ltb, le-ltb, le-leb, lt-leb, eq-eqb, ne_eqb}
+use lib.Dec.{eqb}
 use lib.ListN.{length, get_or, take, drop, length-drop}
-use lib.Seq.{get_or-take, get_or-drop, length-take-le, take-suc, take-take, drop-drop, take-nil}
+use lib.Seq.{get_or-take, get_or-drop, length-take-le, take-suc, take-take, drop-drop}
 use Rattle.general.proofs.Lists.{drop-take}
 pub use Rattle.general.proofs.Booleans.{either, otherwise}
 use Rattle.general.proofs.Booleans.{both, neither, told}
@@ -17,7 +16,7 @@ use Rattle.records.specs.declared.Record.{Record}
 use Rattle.records.specs.Record.{blank}
 use Rattle.layout.specs.Walk.{walk, lead}
 use Rattle.layout.proofs.Walks.{pass_at, stop_at, end-at}
-use Rattle.read.specs.Structure.{State, code_of, tiles, terminator, numbers, is_default, tables}
+use Rattle.read.specs.Structure.{State, code_of, tiles, numbers, is_default, tables}
 use Rattle.read.specs.Work.{part, InCode}
 
 module _ (rs : List Record) (first count : ℕ) (h : first + count ≤ length rs) where

@@ -1,5 +1,5 @@
 -- Document 01, "File": what the blocks, their code and the tables of a file must be.
-use Rattle.std.specs.Prelude.{ℕ, suc, ◌+◌, ◌-◌, List, [], ◌∷◌, Bool, true, false, ◌&&◌, ◌||◌, not, cond, eqb, ltb, leb, length, take, drop}
+use Rattle.std.specs.Prelude.{ℕ, ◌+◌, ◌-◌, List, [], ◌∷◌, Bool, ◌&&◌, ◌||◌, not, cond, eqb, ltb, leb, length, take, drop}
 use Rattle.records.specs.declared.Record.{Record}
 use Rattle.layout.specs.Walk.{walk, lead}
 

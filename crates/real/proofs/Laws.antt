@@ -1,8 +1,8 @@
 -- Laws of the f64 kept bit for bit: every pattern comes back, and every value that a pattern gives.
 use Prim.Native.Nat.{ℕ, ◌^◌, ◌<◌}
-use mathlib.Core.Bool.{Bool, true, false, not, ◌&&◌}
+use mathlib.Core.Bool.{true, false, not}
 use mathlib.Core.Logic.{◌⊎◌, inl, inr}
-use mathlib.Core.Path.{◌≡◌, refl, sym, ap, subst, ◌∙◌}
+use mathlib.Core.Path.{◌≡◌, sym, ap, subst, ◌∙◌}
 use lib.Dec.{T, ltb, ltb→lt, T_not}
 use lib.Ieee.{Float, nan, inf, fin, binary64, of_bits, to_bits, is_nan, eq, ne, fits}
 use lib.Ieee.Bits.{to_bits-of_bits, of_bits-to_bits, of_bits-fits, to_bits-lt, nan_bits_is, nan_bits_above, is_true, is_false}

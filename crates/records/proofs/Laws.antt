@@ -1,11 +1,10 @@
 -- Laws of a file's records: how many there are, and where each stands in the bytes.
 use Prim.Native.Nat.{ℕ, zero, suc, ◌+◌, ◌*◌, ◌/◌, ◌≤◌, ◌<◌}
 use native.Mathlib.Omega.{arith}
-use mathlib.Core.Path.{◌≡◌, refl, sym, ap, ◌∙◌}
+use mathlib.Core.Path.{◌≡◌, refl, ap, ◌∙◌}
 use mathlib.Core.List.{List}
 use lib.ListN.{length, get_or, drop, get_or-eq_default}
-use lib.Seq.{get_or-drop, drop-drop}
-use Rattle.records.specs.declared.Record.{Record}
+use lib.Seq.{get_or-drop}
 use Rattle.records.specs.Record.{record_in, record_at, first_records, records_of, blank}
 
 pub record_drop : (b : List ℕ) (m at : ℕ) → record_in (drop m b) at ≡ record_in b (m + at)

@@ -1,5 +1,5 @@
 -- Document 01, "File": which places the records of each class and kind list, and when a record is valid by itself.
-use Rattle.std.specs.Prelude.{ℕ, suc, List, [], ◌∷◌, Bool, true, false, ◌&&◌, ◌||◌, ltb, eqb, get_or}
+use Rattle.std.specs.Prelude.{ℕ, List, [], ◌∷◌, Bool, true, ◌&&◌, ◌||◌, ltb, eqb, get_or}
 use Rattle.records.specs.declared.Record.{Record}
 
 -- what one of the places p1..p6 holds

@@ -29,29 +29,29 @@ pub struct Told {
     pub written: bool,
 }
 
-fn say_line(text: &[u8], a: Answer) -> Told {
+fn say_line(rt: &impl Print, text: &[u8], a: Answer) -> Told {
     let end = line::front(text, a.at);
     Told {
         good: a.good,
-        written: files::say(&text[..end]),
+        written: files::say(rt, &text[..end]),
     }
 }
 
 // Writes the answer; the text up to `at` already has the start of its first line.
-pub fn say(text: &mut [u8], at: usize, ask: Ask, bytes: &[u8]) -> Told {
+pub fn say(rt: &impl Print, text: &mut [u8], at: usize, ask: Ask, bytes: &[u8]) -> Told {
     let question = ask.question;
     match question {
         Question::Read => {
             let a = answers::put_reading(text, at, ask.words, bytes);
-            say_line(text, a)
+            say_line(rt, text, a)
         }
         Question::Tidy => {
             let a = answers::put_tidiness(text, at, ask.words, bytes);
-            say_line(text, a)
+            say_line(rt, text, a)
         }
         Question::List => {
             let part = ask.part;
-            list::say(text, at, part, ask.words, bytes)
+            list::say(rt, text, at, part, ask.words, bytes)
         }
     }
 }

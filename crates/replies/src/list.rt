@@ -47,7 +47,7 @@ struct Page {
 }
 
 // Writes the text up to `at` where it is full.
-fn turned(text: &[u8], at: usize) -> Page {
+fn turned(rt: &impl Print, text: &[u8], at: usize) -> Page {
     if at < FULL {
         return Page {
             at: at,
@@ -57,7 +57,7 @@ fn turned(text: &[u8], at: usize) -> Page {
     let end = line::front(text, at);
     Page {
         at: 0,
-        written: files::say(&text[..end]),
+        written: files::say(rt, &text[..end]),
     }
 }
 
@@ -93,15 +93,15 @@ fn is_listed(class: u32, r: Record) -> bool {
     r.class == class
 }
 
-fn say_record(text: &mut [u8], at: usize, i: usize, r: Record) -> Page {
+fn say_record(rt: &impl Print, text: &mut [u8], at: usize, i: usize, r: Record) -> Page {
     let n = put_record(text, at, i, r);
-    turned(text, n)
+    turned(rt, text, n)
 }
 
 // A record's line where it is listed, else nothing.
-fn next(text: &mut [u8], at: usize, class: u32, i: usize, r: Record) -> Page {
+fn next(rt: &impl Print, text: &mut [u8], at: usize, class: u32, i: usize, r: Record) -> Page {
     if is_listed(class, r) {
-        return say_record(text, at, i, r);
+        return say_record(rt, text, at, i, r);
     }
     Page {
         at: at,
@@ -120,9 +120,9 @@ fn first_in(class: u32, before: u32, first: usize, k: usize) -> usize
 }
 
 // Writes what the text has up to `at`, and a line for each record of a class.
-fn say_records(text: &mut [u8], at: usize, class: u32, res: &[u8]) -> bool {
+fn say_records(rt: &impl Print, text: &mut [u8], at: usize, class: u32, res: &[u8]) -> bool {
     let count = res.len() / 32;
-    let mut page = turned(text, at);
+    let mut page = turned(rt, text, at);
     let mut before = 0;
     let mut first = 0;
     let mut k = 0;
@@ -130,14 +130,14 @@ fn say_records(text: &mut [u8], at: usize, class: u32, res: &[u8]) -> bool {
         let r = records::record_at(res, k);
         first = first_in(r.class, before, first, k);
         before = r.class;
-        page = next(text, page.at, class, k - first, r);
+        page = next(rt, text, page.at, class, k - first, r);
         if !page.written {
             return false;
         }
         k += 1;
     }
     let end = line::front(text, page.at);
-    files::say(&text[..end])
+    files::say(rt, &text[..end])
 }
 
 // A name that no register follows is followed by `none`.
@@ -167,24 +167,31 @@ fn put_head(text: &mut [u8], at: usize, part: Part, a: Answer, first: Record) ->
     }
 }
 
-fn say_refusal(text: &mut [u8], at: usize, words: bool, a: Answer) -> Told {
+fn say_refusal(rt: &impl Print, text: &mut [u8], at: usize, words: bool, a: Answer) -> Told {
     let end = reasons::put_refusal(text, at, words, a.number, a.place);
     Told {
         good: false,
-        written: files::say(&text[..end]),
+        written: files::say(rt, &text[..end]),
     }
 }
 
-pub fn say(text: &mut [u8], at: usize, part: Part, words: bool, bytes: &[u8]) -> Told {
+pub fn say(
+    rt: &impl Print,
+    text: &mut [u8],
+    at: usize,
+    part: Part,
+    words: bool,
+    bytes: &[u8],
+) -> Told {
     let mut result = [0u8; ROOM];
     let a = shorten::shorten(bytes, &mut result);
     if a.number != 0 {
-        return say_refusal(text, at, words, a);
+        return say_refusal(rt, text, at, words, a);
     }
     let n = line::front(&result, a.length);
     let at = put_head(text, at, part, a, records::record_at(&result, 0));
     Told {
         good: true,
-        written: say_records(text, at, class_of(part), &result[..n]),
+        written: say_records(rt, text, at, class_of(part), &result[..n]),
     }
 }

@@ -14,7 +14,7 @@ use Rattle.record_rules.specs.declared.exist.Counts.{Counts}
 use Rattle.record_rules.specs.Exist.{names_exist}
 use Rattle.layout.specs.Classes.{of_class}
 use Rattle.layout.specs.Work.{right_of}
-use Rattle.read.specs.Structure.{ends_well, tables, code_of as recordsOfBlock}
+use Rattle.read.specs.Structure.{ends_well, code_of as recordsOfBlock}
 use Rattle.read.specs.Reading.{counts_of}
 use Rattle.put_record.specs.Store.{Fits}
 use Rattle.ops.specs.Ops.{reg_ty_of}

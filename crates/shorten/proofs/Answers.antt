@@ -1,8 +1,8 @@
 -- Shorten's answer within limits, by the way that the code came to it, and what follows of every answer.
-use Prim.Native.Nat.{ℕ, ◌+◌, ◌*◌, ◌/◌, ◌≤◌, ◌<◌}
+use Prim.Native.Nat.{ℕ, ◌+◌, ◌/◌, ◌≤◌, ◌<◌}
 use native.Mathlib.Omega.{arith}
 use mathlib.Core.Path.{◌≡◌, refl, sym, ap, subst, ◌∙◌}
-use mathlib.Core.Bool.{Bool, true, false, ◌||◌}
+use mathlib.Core.Bool.{Bool, true, false}
 use mathlib.Core.List.{List, ◌++◌}
 use mathlib.Core.Logic.{◌⊎◌, inl, inr}
 use borrow.Author.Tests.{lt-ltb, le-ltb, eq-eqb, ne_eqb, ltb-false}
@@ -22,8 +22,7 @@ use Rattle.round_trips.proofs.Accepted.{or_first, or_second}
 use Rattle.tidy.specs.declared.Tidiness.{Tidiness}
 use Rattle.tidy.specs.Tidy.{Tidy, tidiness}
 use Rattle.steps.specs.declared.Answer.{Answer}
-use Rattle.steps.specs.Run.{run}
-use Rattle.steps.specs.Shorten.{Outcome, refusal, shortened, above, run_unless, accept_if, shorten_within, shorten, instructions}
+use Rattle.steps.specs.Shorten.{Outcome, refusal, above, run_unless, accept_if, shorten_within, shorten, instructions}
 use Rattle.machine.specs.Demand.{Demand3}
 use Rattle.step_laws.proofs.Shorten.{Within, shortened_accepted, room-enough, unmoved_same, few-instructions}
 use Rattle.promise.specs.Promise.{held}
@@ -113,14 +112,16 @@ module _ (registers code : ℕ) (b out : List ℕ) where
       by true = by-limits (above registers code rs) refl
       by false = inl refl
 
--- what the contract says of an answer and a buffer beside the equation, in its order
-abbrev Clauses : List ℕ → List ℕ → Answer → List ℕ → Type 0
-Clauses b out a out' =
-    (a.number ≡ 0 → reading (take a.length out') ≡ answer 0 0)
-    × ((61728 ≤ length out → a.number ≡ 9 → ⊥)
-    × ((a.number ≡ 0 → a.moved ≡ 0 → out' ≡ b ++ drop (length b) out)
-    × ((a.number ≡ 0 → instructions (take a.length out') ≤ instructions b + instructions b / 2 + 36)
-    × (a.number ≡ 0 → Tidy (held b) → Demand3 (held b) (held (take a.length out')) a.rescued))))
+-- what the contract says of an answer and a buffer, with the clause that gives the answer
+abbrev Clauses : Type 0 → List ℕ → List ℕ → Answer → List ℕ → Type 0
+Clauses E b out a out' = record {
+  is : E;
+  accepted : a.number ≡ 0 → reading (take a.length out') ≡ answer 0 0;
+  room : 61728 ≤ length out → a.number ≡ 9 → ⊥;
+  unmoved : a.number ≡ 0 → a.moved ≡ 0 → out' ≡ b ++ drop (length b) out;
+  bound : a.number ≡ 0 → instructions (take a.length out') ≤ instructions b + instructions b / 2 + 36;
+  demand3 : a.number ≡ 0 → Tidy (held b) → Demand3 (held b) (held (take a.length out')) a.rescued;
+}
 
 -- an answer and a buffer that are Shorten's
 module _ (b out : List ℕ) (h : Bytes b) (a : Answer) (out' : List ℕ) (e : outcome a out' ≡ shorten b out) where
@@ -149,24 +150,32 @@ module _ (b out : List ℕ) (h : Bytes b) (a : Answer) (out' : List ℕ) (e : ou
       subst (λ (o : Outcome). Demand3 (held b) (held (take o.answer.length o.output)) o.answer.rescued) (sym e)
       (promise b out h (sym number ∙ z) t)
 
-  -- all of them, in the order of the contract
-  all : Clauses b out a out'
-  all = (result-accepted, (never-nine, (result-unmoved, (result-few, result-promised))))
+  -- all of them
+  all : {E : Type 0} → E → Clauses E b out a out'
+  all f = record { is = f; accepted = result-accepted; room = never-nine; unmoved = result-unmoved; bound = result-few; demand3 = result-promised }
 
 -- the clauses behind the equation hold of a refusal
-refused-clauses : (b out : List ℕ) (a : Answer) (out' : List ℕ) → outcome a out' ≡ refusal 8 0 out → Clauses b out a out'
-refused-clauses b out a out' e =
+refused-clauses : (b out : List ℕ) (a : Answer) (out' : List ℕ) → outcome a out' ≡ refusal 8 0 out → {E : Type 0} → E → Clauses E b out a out'
+refused-clauses b out a out' e f =
     let n : a.number ≡ 8 = ap (λ (o : Outcome). o.answer.number) e in
-    (λ z. absurd (omega arith), (λ i z. omega arith, (λ z m. absurd (omega arith), (λ z. absurd (omega arith), λ z t. absurd (omega arith)))))
+    record {
+      is = f;
+      accepted = λ z. absurd (omega arith);
+      room = λ i z. omega arith;
+      unmoved = λ z m. absurd (omega arith);
+      bound = λ z. absurd (omega arith);
+      demand3 = λ z t. absurd (omega arith);
+    }
 
 -- and so of every answer within limits of at most 480
 pub clauses : (registers code : ℕ) (b out : List ℕ) → Bytes b → registers ≤ 480 → code ≤ 480 → (a : Answer) (out' : List ℕ)
-    → outcome a out' ≡ shorten_within registers code b out → (outcome a out' ≡ shorten_within registers code b out) × Clauses b out a out'
-clauses registers code b out h few less a out' e = (e, by (within registers code b out few less))
+    → outcome a out' ≡ shorten_within registers code b out → Clauses (outcome a out' ≡ shorten_within registers code b out) b out a out'
+clauses registers code b out h few less a out' e = by (within registers code b out few less)
   where
-    by : (shorten_within registers code b out ≡ shorten b out) ⊎ (shorten_within registers code b out ≡ refusal 8 0 out) → Clauses b out a out'
-    by (inl s) = all b out h a out' (e ∙ s)
-    by (inr s) = refused-clauses b out a out' (e ∙ s)
+    by : (shorten_within registers code b out ≡ shorten b out) ⊎ (shorten_within registers code b out ≡ refusal 8 0 out)
+        → Clauses (outcome a out' ≡ shorten_within registers code b out) b out a out'
+    by (inl s) = all b out h a out' (e ∙ s) e
+    by (inr s) = refused-clauses b out a out' (e ∙ s) e
 
 -- a file that Tidy refuses
 pub refused-by-tidy : (b out : List ℕ) {t : Tidiness} → t ≡ tidiness b → (t.number ≡ 0 → ⊥) → refusal t.number t.place out ≡ shorten b out
@@ -174,16 +183,28 @@ refused-by-tidy b out e n =
     let m : (tidiness b).number ≡ 0 → ⊥ = λ z. n (ap (λ (x : Tidiness). x.number) e ∙ z) in
     ap (λ (x : Tidiness). refusal x.number x.place out) e ∙ refused_is 480 480 b out (refused_too b m) m
 
--- the answers of Tidy and Shorten together, in the order of the contract
-pub provisioned : (b out : List ℕ) → Bytes b → (t : Tidiness) → t ≡ tidiness b → (a : Answer) (out' : List ℕ) (e : outcome a out' ≡ shorten b out)
-    → (t ≡ tidiness b) × ((outcome a out' ≡ shorten b out)
-    × ((a.number ≡ 0 → reading (take a.length out') ≡ answer 0 0)
-    × ((61728 ≤ length out → a.number ≡ 9 → ⊥)
-    × ((a.number ≡ 0 → a.moved ≡ 0 → out' ≡ b ++ drop (length b) out)
-    × ((a.number ≡ 0 → instructions (take a.length out') ≤ instructions b + instructions b / 2 + 36)
-    × ((a.number ≡ 0 → Tidy (held b) → Demand3 (held b) (held (take a.length out')) a.rescued)
-    × (a.number ≡ 0 → t.tidy ≡ 1 → Demand3 (held b) (held (take a.length out')) a.rescued)))))))
+-- the answers of Tidy and Shorten together
+pub provisioned : (b out : List ℕ) → Bytes b → (t : Tidiness) → t ≡ tidiness b → (a : Answer) (out' : List ℕ) → outcome a out' ≡ shorten b out
+    → record {
+      tidiness : t ≡ tidiness b;
+      is : outcome a out' ≡ shorten b out;
+      accepted : a.number ≡ 0 → reading (take a.length out') ≡ answer 0 0;
+      room : 61728 ≤ length out → a.number ≡ 9 → ⊥;
+      unmoved : a.number ≡ 0 → a.moved ≡ 0 → out' ≡ b ++ drop (length b) out;
+      bound : a.number ≡ 0 → instructions (take a.length out') ≤ instructions b + instructions b / 2 + 36;
+      demand3 : a.number ≡ 0 → Tidy (held b) → Demand3 (held b) (held (take a.length out')) a.rescued;
+      promised : a.number ≡ 0 → t.tidy ≡ 1 → Demand3 (held b) (held (take a.length out')) a.rescued;
+    }
 provisioned b out h t f a out' e =
-    let c = all b out h a out' e in
+    let c = all b out h a out' e e in
     let yes : t.tidy ≡ 1 → Tidy (held b) = λ y. yes_tidy b (ap (λ (x : Tidiness). x.tidy) (sym f) ∙ y) in
-    (f, (e, (c.0, (c.1.0, (c.1.1.0, (c.1.1.1.0, (c.1.1.1.1, λ z y. c.1.1.1.1 z (yes y))))))))
+    record {
+      tidiness = f;
+      is = e;
+      accepted = c.accepted;
+      room = c.room;
+      unmoved = c.unmoved;
+      bound = c.bound;
+      demand3 = c.demand3;
+      promised = λ z y. c.demand3 z (yes y);
+    }

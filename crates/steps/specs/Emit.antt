@@ -1,5 +1,5 @@
 -- Document 01, "Emit".
-use Rattle.std.specs.Prelude.{ℕ, suc, List, [], ◌∷◌, ◌++◌, map, Bool, true, false, ◌&&◌, ◌||◌, not, cond, eqb, leb, length, get_or}
+use Rattle.std.specs.Prelude.{ℕ, suc, List, [], ◌∷◌, ◌++◌, map, Bool, true, false, ◌&&◌, ◌||◌, not, cond, leb, length}
 use Rattle.inst.specs.declared.Code.{Code}
 use Rattle.inst.specs.declared.StmtId.{StmtId}
 use Rattle.inst.specs.declared.Inst.TheVariants as i

@@ -1,5 +1,5 @@
 -- Document 01, "Thread": "`note` gathers known values and copies".
-use Rattle.std.specs.Prelude.{ℕ, List, [], ◌∷◌, ◌++◌, Bool, true, false, ◌&&◌, ◌||◌, cond, eqb, get_or}
+use Rattle.std.specs.Prelude.{ℕ, List, [], ◌∷◌, ◌++◌, Bool, ◌&&◌, ◌||◌, cond, eqb, get_or}
 use Rattle.std.proofs.Math.Option.{Option, none, some}
 use Rattle.inst.specs.declared.Code.{Code}
 use Rattle.inst.specs.declared.BoolOp.{BoolOp}

@@ -1,5 +1,5 @@
 -- Cmp is signed: -1 is below 0, and 2^63 is below 2^63 - 1.
-use Rattle.std.proofs.Common.{◌≡◌, ℕ, ◌-◌, ◌^◌, List, [], ◌∷◌, refl}
+use Rattle.std.proofs.Common.{◌≡◌, ◌-◌, ◌^◌, [], ◌∷◌, refl}
 use Rattle.inst.specs.declared.CmpOp.TheVariants as c
 use Rattle.word.specs.Word.{compares}
 

@@ -14,5 +14,5 @@ returns-then-r-ne0 c =
 pub returns : goal.returns
 returns c =
     let b = c.args.bytes.now in
-    let bytes : Bytes b = λ (k : ℕ). omega (arith, c.shared_slice_known-1.given k) in
+    let bytes : Bytes b = λ (k : ℕ). omega (arith, c.type_inv.bytes k) in
     sent-put b c.args.out.now bytes c.read-r.ensures c.if-r-ne0.false c.starts.ensures c.put_sent.ensures

@@ -1,8 +1,7 @@
-use Rattle.std.proofs.Common.{rules, refl, ◌≡◌, ◌<◌, ◌≢◌, length, arith, get_or-set_other, get_or-set_same, below_more}
+use Rattle.std.proofs.Common.{◌<◌, ◌≢◌, length, arith, get_or-set_other, get_or-set_same, below_more}
 use mathlib.Core.Path.{ap, ◌∙◌}
 use Rattle.std.proofs.Math.ListN.{length-set}
 use Rattle.items.specs.Items.{block_of}
-use Rattle.block_slice.specs.Lent.{none}
 use Rattle.block_slice.proofs.table_of.Goals as goal
 
 pub loop-k-preserved : goal.loop-k-preserved

@@ -1,4 +1,4 @@
-use Rattle.std.proofs.Common.{◌-◌, ◌≡◌, ℕ, ◌<◌, get_or, ◌≤◌, length}
+use Rattle.std.proofs.Common.{◌-◌, ◌≡◌, ℕ, ◌<◌, get_or, length}
 use Rattle.records.specs.Record.{record_at}
 use Rattle.items.specs.Items.{block_of}
 use Rattle.block_slice.specs.Lent.{none}

@@ -4,26 +4,20 @@ use Rattle.halivomue_c.proofs.halivomue_shorten.Goals as goal
 
 pub returns : goal.returns
 returns c =
-    let e = c.shorten-s.ensures.is in
-    let clauses = c.shorten-s.ensures.accepted in (
-      ap (λ (o : Outcome). o.answer.number) e,
-      (
-        ap (λ (o : Outcome). o.answer.place) e,
-        (
-          ap (λ (o : Outcome). o.answer.length) e,
-          (
-            ap (λ (o : Outcome). o.answer.moved) e,
-            (
-              ap (λ (o : Outcome). o.answer.grown) e,
-              (
-                ap (λ (o : Outcome). o.answer.fresh) e,
-                (
-                  ap (λ (o : Outcome). o.answer.rescued) e,
-                  (ap (λ (o : Outcome). o.output) e, clauses),
-                ),
-              ),
-            ),
-          ),
-        ),
-      ),
-    )
+    let s = c.shorten-s.ensures in
+    let e = s.is in
+    record {
+      number = ap (λ (o : Outcome). o.answer.number) e;
+      place = ap (λ (o : Outcome). o.answer.place) e;
+      length = ap (λ (o : Outcome). o.answer.length) e;
+      moved = ap (λ (o : Outcome). o.answer.moved) e;
+      grown = ap (λ (o : Outcome). o.answer.grown) e;
+      fresh = ap (λ (o : Outcome). o.answer.fresh) e;
+      rescued = ap (λ (o : Outcome). o.answer.rescued) e;
+      output = ap (λ (o : Outcome). o.output) e;
+      accepted = s.accepted;
+      room = s.room;
+      unmoved = s.unmoved;
+      bound = s.bound;
+      demand3 = s.demand3;
+    }

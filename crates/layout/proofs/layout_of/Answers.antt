@@ -12,20 +12,20 @@ unfolding end_of
 start_is rs = refl
 
 pub span-bodies-requires : goal.span-bodies-requires
-span-bodies-requires c = 
+span-bodies-requires c =
     let rs = records_of c.args.b.now in
     let e1 = span_next 0 rs (start_is rs) c.span-blocks.ensures in
     rw e1 (end_of_le 1 rs)
 
 pub span-code-requires : goal.span-code-requires
-span-code-requires c = 
+span-code-requires c =
     let rs = records_of c.args.b.now in
     let e1 = span_next 0 rs (start_is rs) c.span-blocks.ensures in
     let e2 = span_next 1 rs (e1) c.span-bodies.ensures in
     rw e2 (end_of_le 2 rs)
 
 pub span-operands-requires : goal.span-operands-requires
-span-operands-requires c = 
+span-operands-requires c =
     let rs = records_of c.args.b.now in
     let e1 = span_next 0 rs (start_is rs) c.span-blocks.ensures in
     let e2 = span_next 1 rs (e1) c.span-bodies.ensures in
@@ -33,7 +33,7 @@ span-operands-requires c =
     rw e3 (end_of_le 3 rs)
 
 pub span-arms-requires : goal.span-arms-requires
-span-arms-requires c = 
+span-arms-requires c =
     let rs = records_of c.args.b.now in
     let e1 = span_next 0 rs (start_is rs) c.span-blocks.ensures in
     let e2 = span_next 1 rs (e1) c.span-bodies.ensures in
@@ -42,7 +42,7 @@ span-arms-requires c =
     rw e4 (end_of_le 4 rs)
 
 pub span-end-requires : goal.span-end-requires
-span-end-requires c = 
+span-end-requires c =
     let rs = records_of c.args.b.now in
     let e1 = span_next 0 rs (start_is rs) c.span-blocks.ensures in
     let e2 = span_next 1 rs (e1) c.span-bodies.ensures in

@@ -1,11 +1,9 @@
-use mathlib.Core.Path.{refl}
+use Rattle.std.proofs.Common.{refl}
 use Rattle.line.proofs.Laws.{ended, last}
 use Rattle.reasons.proofs.put_refusal.Goals as goal
 
 pub returns-then-words : goal.returns-then-words
-returns-then-words c =
-    last c.put_numbers-n.ensures c.put_words.ensures
+returns-then-words c = last c.put_numbers-n.ensures c.put_words.ensures
 
 pub returns : goal.returns
-returns c =
-    last c.put_numbers-n.ensures (ended c.put_byte.ensures refl)
+returns c = last c.put_numbers-n.ensures (ended c.put_byte.ensures refl)

@@ -10,7 +10,7 @@ returns-then-r-ne0 c =
     let o = c.args.out.now in
     let m = c.args.registers in
     let n = c.args.code in
-    clauses m n b o (λ (i : ℕ). omega (arith, c.shared_slice_known-1.given i)) c.requires.0 c.requires.1 c.refused.result o
+    clauses m n b o (λ (i : ℕ). omega (arith, c.type_inv.bytes i)) c.requires.0 c.requires.1 c.refused.result o
     (c.refused.ensures o ∙ refused_is m n b o c.read-r.ensures c.if-r-ne0.true)
 
 pub shorten_accepted-requires : goal.shorten_accepted-requires
@@ -23,5 +23,5 @@ returns c =
     let o = c.args.out.now in
     let m = c.args.registers in
     let n = c.args.code in
-    clauses m n b o (λ (i : ℕ). omega (arith, c.shared_slice_known-1.given i)) c.requires.0 c.requires.1
-    c.shorten_accepted.result c.shorten_accepted.last.1.0 c.shorten_accepted.ensures
+    clauses m n b o (λ (i : ℕ). omega (arith, c.type_inv.bytes i)) c.requires.0 c.requires.1
+    c.shorten_accepted.result c.shorten_accepted.new.out c.shorten_accepted.ensures

@@ -23,15 +23,13 @@ slice_bounds-shorten_in-end-6 c =
 
 pub returns : goal.returns
 returns c fits p o =
-    let m = lengths-of c in
-    let y = part_of m in
-    let s = start_of y in
-    let a = s.args in
-    let heads = y.part.ensures in
-    let nb = m.before.before.least.ensures in
-    let registers = m.before.part2.ensures in
+    let a = c.args in
+    let heads = c.part.ensures in
+    let nb = c.least-nb.ensures in
+    let registers = c.part-2.ensures in
+    let nr = c.least-nr.ensures in
     c.shorten_in.ensures p o
     (enough a.b.now a.l a.most a.blocks a.work.now a.table.now a.kinds.now a.facts.now a.heads.now
-    (length a.known.now) (length a.copy.now) (length a.staged.now) s.pre heads nb registers m.least2.ensures fits p o)
+    (length a.known.now) (length a.copy.now) (length a.staged.now) c.requires heads nb registers nr fits p o)
     (staging a.b.now a.l a.most a.blocks a.work.now a.table.now a.kinds.now a.facts.now a.heads.now
-    (length a.known.now) (length a.copy.now) (length a.staged.now) s.pre heads nb registers m.least2.ensures fits p o)
+    (length a.known.now) (length a.copy.now) (length a.staged.now) c.requires heads nb registers nr fits p o)

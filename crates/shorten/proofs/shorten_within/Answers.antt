@@ -6,9 +6,15 @@ use Rattle.shorten.proofs.shorten_within.Goals as goal
 pub returns : goal.returns
 returns c =
     let b = c.args.bytes.now in
-    let o = c.args.out.now in (
-      c.shorten_below.ensures.is
+    let o = c.args.out.now in
+    let e = c.shorten_below.ensures in
+    record {
+      is = e.is
           ∙ ap (λ (k : ℕ). shorten_within k c.least-2.result b o) c.least.ensures
-          ∙ ap (λ (k : ℕ). shorten_within (min c.args.registers 480) k b o) c.least-2.ensures,
-      c.shorten_below.ensures.accepted,
-    )
+          ∙ ap (λ (k : ℕ). shorten_within (min c.args.registers 480) k b o) c.least-2.ensures;
+      accepted = e.accepted;
+      room = e.room;
+      unmoved = e.unmoved;
+      bound = e.bound;
+      demand3 = e.demand3;
+    }

@@ -10,7 +10,7 @@ pub returns-then-t-ne0 : goal.returns-then-t-ne0
 returns-then-t-ne0 c =
     let b = c.args.bytes.now in
     let o = c.args.out.now in
-    provisioned b o (λ (k : ℕ). omega (arith, c.shared_slice_known-1.given k)) c.tidy-t.result c.tidy-t.ensures c.refused-s.result o
+    provisioned b o (λ (k : ℕ). omega (arith, c.type_inv.bytes k)) c.tidy-t.result c.tidy-t.ensures c.refused-s.result o
     (c.refused-s.ensures o ∙ refused-by-tidy b o c.tidy-t.ensures c.if-t-ne0.true)
 
 pub shorten_accepted-s-requires : goal.shorten_accepted-s-requires
@@ -21,5 +21,5 @@ pub returns : goal.returns
 returns c =
     let b = c.args.bytes.now in
     let o = c.args.out.now in
-    provisioned b o (λ (i : ℕ). omega (arith, c.shared_slice_known-1.given i)) c.tidy-t.result c.tidy-t.ensures
-    c.shorten_accepted-s.result c.shorten_accepted-s.last.1.0 c.shorten_accepted-s.ensures
+    provisioned b o (λ (i : ℕ). omega (arith, c.type_inv.bytes i)) c.tidy-t.result c.tidy-t.ensures
+    c.shorten_accepted-s.result c.shorten_accepted-s.new.out c.shorten_accepted-s.ensures

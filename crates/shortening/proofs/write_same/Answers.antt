@@ -15,11 +15,9 @@ slice_bounds-finish-end-2 c =
 
 pub returns : goal.returns
 returns c p h off =
-    let m = least-of c in
-    let p1 = m.before in
-    let a = p1.args in
+    let a = c.args in
     let x = parts_of a.b.now a.l in
-    let n = m.least.ensures ∙ ap (λ (y : List ℕ). min (length y / 32) (length a.work.now / 32)) p1.part.ensures in
+    let n = c.least-m.ensures ∙ ap (λ (y : List ℕ). min (length y / 32) (length a.work.now / 32)) c.part.ensures in
     c.finish.ensures (threaded_form p)
     (subst (λ (n : ℕ). Holds (threaded_form p).procedure (recoded x (take (32 * n) a.work.now) a.table.now) []) (sym n) (same-held p x h off))
     (same-tells p x h off)

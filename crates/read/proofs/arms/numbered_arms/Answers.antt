@@ -29,7 +29,7 @@ returns-then-not-numbers c =
     let rs = records_of a.b.now in
     let s : State = (c.loop-k.due, a.count - c.loop-k.k) in
     let stop = part_stop numbers next_arm rs a.first a.count c.requires.0 c.loop-k.k s c.loop-k-test.true c.record_at-r.ensures in
-    record { passed_value = stop c.numbers.ensures (not-true _ c.if-not-numbers.true-raw) ∙ c.loop-k.invariant.3; tables_value = c.loop-k.invariant.2; }
+    record { passed_value = stop c.numbers.ensures (not-true _ c.if-not-numbers.true-raw) ∙ c.loop-k.invariant.3; tables_value = c.loop-k.invariant.2 }
 
 pub overflow_add-due : goal.overflow_add-due
 overflow_add-due c = omega (arith, c.ends_table-due.ensures.1)
@@ -52,4 +52,4 @@ pub returns : goal.returns
 returns c = let a = c.args in
     let rs = records_of a.b.now in
     let s : State = (c.loop-k.due, a.count - c.loop-k.k) in
-    record { passed_value = part_end numbers next_arm rs a.first a.count c.requires.0 c.loop-k.k s c.loop-k-test.false ∙ c.loop-k.invariant.3; tables_value = c.loop-k.invariant.2; }
+    record { passed_value = part_end numbers next_arm rs a.first a.count c.requires.0 c.loop-k.k s c.loop-k-test.false ∙ c.loop-k.invariant.3; tables_value = c.loop-k.invariant.2 }
