@@ -3,16 +3,16 @@ use Prim.Native.Nat.{ℕ, ◌+◌, ◌*◌, ◌/◌, ◌≤◌, ◌<◌, min}
 use native.Mathlib.Omega.{arith}
 use mathlib.Core.Path.{◌≡◌, refl, sym, ap, ◌∙◌}
 use mathlib.Core.Bool.{Bool, true, false, cond, not, ◌&&◌, ◌||◌}
-use mathlib.Core.List.{List, [], ◌∷◌, ◌++◌, append-nil}
+use mathlib.Core.List.{List, [], ◌∷◌, append-nil}
 use mathlib.Core.Option.{Option, none, some}
 use borrow.Author.Tests.{ltb-true, ltb-false}
 use lib.Dec.{eqb, ltb}
-use lib.ListN.{length, get_or, drop, drop_of_length-le}
+use lib.ListN.{length, get_or, drop_of_length-le}
 use lib.Seq.{ext_get_or}
 use Rattle.inst.specs.declared.Code.{Code}
 use Rattle.ends.specs.Forms.{Fixed, word, real, address, varying, fixed_of}
 use Rattle.procedure.specs.Lists.{any_of, or_else, value_or, present}
-use Rattle.procedure.specs.Counts.{writes_in, def_count, singly, use_count}
+use Rattle.procedure.specs.Counts.{writes_in, singly, use_count}
 use Rattle.steps.specs.Facts.{Facts, writes, word_of, bound, const_in, const_of, konst_of, facts_of}
 use Rattle.facts.specs.Storage.{rows, row_of, class_of, cap, table_of, cell, kinds_in, single_in, uses_in, const_at, konst_at, facts_in}
 use Rattle.facts.proofs.Rows.{rows-length, rows_at, cell_in, cell-past, kinds-length, tabled-at}

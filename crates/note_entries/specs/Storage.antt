@@ -1,6 +1,6 @@
 -- Storage, not the paper's: how two slices represent the known values and the copies that `note` gathers.
 -- An entry is two words, a register and its value, or a register and the source that it copies.
-use Rattle.std.specs.Prelude.{ℕ, ◌+◌, ◌*◌, ◌/◌, ◌≤◌, min, ◌≡◌, List, [], ◌∷◌, ◌++◌, Bool, cond, ltb, length, get_or, set}
+use Rattle.std.specs.Prelude.{ℕ, ◌+◌, ◌*◌, ◌/◌, ◌≤◌, min, ◌≡◌, List, [], ◌∷◌, ◌++◌, Bool, cond, ltb, length, get_or}
 use Rattle.steps.specs.Note.{Known}
 use Rattle.facts.specs.Storage.{tabled}
 use Rattle.note_entries.specs.declared.Held.{Held}
