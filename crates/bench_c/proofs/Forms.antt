@@ -17,7 +17,7 @@ use Rattle.steps.specs.Shorten.{Outcome, refusal, shortened, above, run_unless, 
 use Rattle.parts.specs.Parts.{starts_in}
 use Rattle.procedure_parts.specs.Opened.{parts_of, Parted}
 use Rattle.procedure_parts.proofs.Laws.{parted}
-use Rattle.bench_c.specs.Forms.{if_read, where_read, sent, threaded, form_of}
+use Rattle.bench_c.specs.Forms.{if_read, sent, threaded, form_of}
 
 module _ (b out : List ℕ) where
   abbrev rs : List Record

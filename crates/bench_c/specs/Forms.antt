@@ -2,7 +2,7 @@
 use Rattle.std.specs.Prelude.{ℕ, List, Bool, true, false, cond, eqb}
 use Rattle.records.specs.Record.{records_of}
 use Rattle.read.specs.Reading.{reading}
-use Rattle.procedure.specs.Procedure.{Procedure, procedure_of}
+use Rattle.procedure.specs.Procedure.{procedure_of}
 use Rattle.steps.specs.declared.Answer.{Answer}
 use Rattle.steps.specs.Run.{unchanged, threaded_form}
 use Rattle.steps.specs.Shorten.{Outcome, refusal, shortened, above}

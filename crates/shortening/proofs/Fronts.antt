@@ -1,12 +1,12 @@
 -- Bytes written over the first of others.
-use Prim.Native.Nat.{ℕ, suc, ◌+◌, ◌*◌, ◌/◌, ◌≤◌, ◌<◌, min}
+use Prim.Native.Nat.{ℕ, ◌+◌, ◌/◌, ◌≤◌, ◌<◌, min}
 use native.Mathlib.Numerals.{add-one}
 use native.Mathlib.Omega.{arith}
 use mathlib.Core.Path.{◌≡◌, refl, sym, ap, ◌∙◌}
 use mathlib.Core.List.{List, [], ◌∷◌, map}
-use mathlib.Core.Option.{Option, none, some}
+use mathlib.Core.Option.{none, some}
 use lib.ListN.{length, get_or, take, set}
-use lib.Seq.{paste, paste-suc, length-paste, take-paste, take_all, length-take-le}
+use lib.Seq.{paste, paste-suc, length-paste, take-paste, take_all}
 use Rattle.records.specs.declared.Record.{Record}
 use Rattle.records.specs.Record.{records_of, record_at, blank}
 use Rattle.records.proofs.Laws.{length_records}

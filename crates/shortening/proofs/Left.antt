@@ -2,7 +2,7 @@
 use Prim.Native.Nat.{ℕ, ◌+◌, ◌*◌, ◌/◌, ◌≤◌, ◌<◌, min}
 use native.Mathlib.Omega.{arith}
 use mathlib.Core.Path.{◌≡◌, refl, sym, ap, subst, ◌∙◌}
-use mathlib.Core.Bool.{Bool, true, false}
+use mathlib.Core.Bool.{true, false}
 use mathlib.Core.List.{List, [], ◌++◌, map}
 use mathlib.Core.Logic.{◌⊎◌, inl, inr}
 use lib.ListN.{length, take, length-map}
@@ -10,7 +10,6 @@ use lib.Seq.{take_all, length-take-le}
 use Rattle.general.proofs.Numbers.{order}
 use Rattle.records.specs.Record.{records_of}
 use Rattle.records.proofs.Laws.{length_records}
-use Rattle.put_record.specs.Store.{Bytes}
 use Rattle.inst.specs.declared.Code.{Code}
 use Rattle.codec.specs.Codec.{record_of}
 use Rattle.procedure.specs.Procedure.{Procedure, first_of}
@@ -18,9 +17,8 @@ use Rattle.procedure.specs.Lists.{joined}
 use Rattle.blocks.specs.Blocks.{blocks_of}
 use Rattle.blocks.proofs.Parts.{records_part}
 use Rattle.blocks.proofs.Bytes.{bytes-part}
-use Rattle.steps.specs.Run.{Shortened, with_blocks, with_registers, arms_joined, emit, threaded_form}
-use Rattle.steps.specs.Write.{block_records}
-use Rattle.facts.specs.Storage.{facts_in, kinds_of}
+use Rattle.steps.specs.Run.{Shortened, arms_joined, emit, threaded_form}
+use Rattle.facts.specs.Storage.{facts_in}
 use Rattle.thread.proofs.Refined.{work_of}
 use Rattle.round_trips.specs.WellFormed.{WellFormed}
 use Rattle.round_trips.proofs.Blocks.{length-blocks}
@@ -33,7 +31,7 @@ use Rattle.run.proofs.Laws.{Still, Edited, still, edited}
 use Rattle.emit.specs.Stage.{Ready, Emitted}
 use Rattle.emit.specs.declared.Staged.{Staged}
 use Rattle.output.specs.Filed.{short}
-use Rattle.shortening.specs.Storage.{fronted, Lent, size_of, left_in, Enough, Staging, LeftOf, Tells}
+use Rattle.shortening.specs.Storage.{fronted, Lent, size_of, Enough, Staging, LeftOf, Tells}
 use Rattle.shortening.proofs.Fronts.{fronted-length, fronted_first, fronted-bytes}
 
 -- a part of whole records that would end past the last ends there

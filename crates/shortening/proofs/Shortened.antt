@@ -1,6 +1,6 @@
 -- Shorten over lent storage that is enough is Shorten of the procedure that the parts hold.
 use Prim.Native.Nat.{ℕ, ◌/◌}
-use mathlib.Core.Path.{◌≡◌, refl, sym, ap, subst, ◌∙◌}
+use mathlib.Core.Path.{◌≡◌, refl, subst, ◌∙◌}
 use mathlib.Core.List.{List, [], map}
 use mathlib.Core.Option.{Option}
 use lib.ListN.{length}
@@ -8,12 +8,11 @@ use Rattle.records.specs.Record.{records_of}
 use Rattle.put_record.specs.Store.{Bytes}
 use Rattle.layout.specs.declared.Layout.{Layout}
 use Rattle.procedure.specs.Procedure.{Procedure, first_of}
-use Rattle.steps.specs.Run.{Shortened, unchanged, run}
-use Rattle.steps.specs.Shorten.{Outcome, shortened}
+use Rattle.steps.specs.Run.{unchanged, run}
 use Rattle.procedure_parts.specs.Opened.{Parts, parts_of, recoded, Holds, Parted, Opened}
 use Rattle.run.specs.Ran.{Left, ran_in, NoStep}
 use Rattle.run.proofs.Unchanged.{no_step_run}
-use Rattle.shortening.specs.Storage.{fronted, Lent, NoStepIn, left_in, Enough, LeftOf}
+use Rattle.shortening.specs.Storage.{fronted, Lent, NoStepIn, Enough, LeftOf}
 
 -- where no step does anything, the parts as they were sent are the result
 pub sent-run : (p : Procedure) (x : Parts) → Opened p x → NoStepIn x → run p ≡ unchanged p

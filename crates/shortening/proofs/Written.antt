@@ -1,13 +1,12 @@
 -- Storage that holds a result is written as Shorten is defined to write it.
-use Prim.Native.Nat.{ℕ, ◌+◌, ◌≤◌}
+use Prim.Native.Nat.{ℕ, ◌≤◌}
 use native.Mathlib.Omega.{arith}
 use mathlib.Core.Path.{◌≡◌, refl, sym, ap, ◌∙◌}
 use mathlib.Core.Bool.{Bool, true, false}
-use mathlib.Core.List.{List, ◌++◌, map, map-append, append_assoc}
+use mathlib.Core.List.{List, ◌++◌, map-append, append_assoc}
 use lib.Dec.{ltb}
 use lib.ListN.{length, length-append}
 use Rattle.records.specs.declared.Record.{Record}
-use Rattle.records.specs.Record.{records_of}
 use Rattle.ops.specs.Ops.{reg_ty_of}
 use Rattle.items.specs.Items.{register_record}
 use Rattle.procedure.specs.Procedure.{Procedure}
