@@ -11,16 +11,28 @@ pub use reason::fail;
 pub use replacement::replace;
 use std::io::ErrorKind;
 
+// What became of a text for standard output.
+#[derive(Clone, Copy, PartialEq)]
+pub enum Output {
+    // All of it was written.
+    Written,
+    // Nobody reads on, as where `head` has had enough.
+    Closed,
+    // The reason is on standard error.
+    Failed,
+}
+
 // Writes a text to standard output. If that fails, the reason goes to standard error, unless it is
-// that nobody reads on, as where `head` has had enough.
-pub fn say(rt: &impl Print, text: &[u8]) -> bool {
+// that nobody reads on.
+pub fn say(rt: &impl Print, text: &[u8]) -> Output {
     match rt.write_all(text) {
-        Ok(()) => true,
+        Ok(()) => Output::Written,
         Err(error) => {
-            if error.kind() != ErrorKind::BrokenPipe {
-                fail(b"standard output", error);
+            if error.kind() == ErrorKind::BrokenPipe {
+                return Output::Closed;
             }
-            false
+            fail(b"standard output", error);
+            Output::Failed
         }
     }
 }

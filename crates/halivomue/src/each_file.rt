@@ -2,6 +2,7 @@
 use crate::arguments::Options;
 use crate::status::Status;
 use crate::{arguments, status};
+use files::Output;
 use replies::{Ask, Question, Told};
 use std::env::Env;
 use std::io::{Input, Read};
@@ -21,7 +22,7 @@ fn say_failed(rt: &impl Print, text: &mut [u8], n: usize, bare: bool, what: &[u8
     let end = line::put(text, at, what);
     Told {
         good: false,
-        written: files::say(rt, &text[..end]),
+        output: files::say(rt, &text[..end]),
     }
 }
 
@@ -106,8 +107,8 @@ fn answer_files(rt: &(impl Env + Files + Input + Print), ask: Ask, bare: bool) -
         let word = arguments::word_at(rt, before, i);
         if arguments::is_name(word) {
             let told = answer_argument(rt, i, ask, bare);
-            if !told.written {
-                return Status::Failed;
+            if told.output != Output::Written {
+                return status::of(told.output, told.good);
             }
             if !told.good {
                 good = false;
@@ -116,17 +117,14 @@ fn answer_files(rt: &(impl Env + Files + Input + Print), ask: Ask, bare: bool) -
         before = options::after(before, word);
         i += 1;
     }
-    status::of(good)
+    status::of(Output::Written, good)
 }
 
 fn answer_unnamed(rt: &(impl Input + Print), ask: Ask) -> Status {
     let mut text = [0u8; quote::ROOM];
     let n = line::put(&mut text, 0, b"standard input");
     let told = answer_input(rt, &mut text, n, ask, true);
-    if !told.written {
-        return Status::Failed;
-    }
-    status::of(told.good)
+    status::of(told.output, told.good)
 }
 
 // Standard input's answer has no name in front, nor has the listing of one file.

@@ -1,21 +1,25 @@
 // What the program says about itself: on standard output if asked to, else on standard error.
 use crate::status::Status;
 use crate::{arguments, status};
+use files::Output;
 use std::env::Env;
 
 // The descriptor of standard error.
 pub const STDERR: i32 = 2;
 
-fn say_usage(rt: &impl Print, asked: bool) -> bool {
+fn say_usage(rt: &impl Print, asked: bool) -> Output {
     let text = b"usage: halivomue read|tidy [--words] [--] [FILE..]
        halivomue list [--words] [--only PART] [--] [FILE..]
        halivomue shorten [--words] [--] IN OUT
        halivomue --help|--version
 ";
     if asked {
-        files::say(rt, text)
+        return files::say(rt, text);
+    }
+    if io::write_all(STDERR, text) {
+        Output::Written
     } else {
-        io::write_all(STDERR, text)
+        Output::Failed
     }
 }
 
@@ -25,14 +29,15 @@ pub fn usage(rt: &impl Print) -> Status {
 }
 
 pub fn version(rt: &impl Print) -> Status {
-    status::of(files::say(rt, b"halivomue 0.4\n"))
+    status::of(files::say(rt, b"halivomue 0.4\n"), true)
 }
 
 pub fn help(rt: &impl Print) -> Status {
-    if !say_usage(rt, true) {
-        return Status::Failed;
+    let usage = say_usage(rt, true);
+    if usage != Output::Written {
+        return status::of(usage, true);
     }
-    status::of(files::say(
+    let rest = files::say(
         rt,
         b"  read      of each file: accepted, or refused, number and record
   tidy      of each file: yes, or no and the lowest offending register, or refused
@@ -44,7 +49,8 @@ pub fn help(rt: &impl Print) -> Status {
   --        what follows are names, even with a dash in front
 Without a name the bare answer of standard input; the name - is standard input. OUT is a file.
 ",
-    ))
+    );
+    status::of(rest, true)
 }
 
 // `shorten` with anything but two names.

@@ -57,15 +57,14 @@ fn shorten_read(
     let at = line::put(text, n, b": ");
     if a.number != 0 {
         let end = reasons::put_refusal(text, at, words, a.number, a.place);
-        files::say(rt, &text[..end]);
-        return Status::Failed;
+        return status::of(files::say(rt, &text[..end]), false);
     }
     let m = line::front(&result, a.length);
     if !files::replace(rt, to, &result[..m]) {
         return Status::Failed;
     }
     let end = listing::put_counts(text, at, a);
-    status::of(files::say(rt, &text[..end]))
+    status::of(files::say(rt, &text[..end]), true)
 }
 
 fn shorten_named(

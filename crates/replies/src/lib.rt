@@ -5,6 +5,7 @@ mod answers;
 pub mod list;
 
 use answers::Answer;
+use files::Output;
 use list::Part;
 
 #[derive(Clone, Copy)]
@@ -22,18 +23,18 @@ pub struct Ask {
     pub words: bool,
 }
 
-// Whether the file was accepted, and whether its answer could be written.
+// Whether the file was accepted, and what became of its answer.
 #[derive(Clone, Copy)]
 pub struct Told {
     pub good: bool,
-    pub written: bool,
+    pub output: Output,
 }
 
 fn say_line(rt: &impl Print, text: &[u8], a: Answer) -> Told {
     let end = line::front(text, a.at);
     Told {
         good: a.good,
-        written: files::say(rt, &text[..end]),
+        output: files::say(rt, &text[..end]),
     }
 }
 

@@ -3,6 +3,7 @@ ghost use Rattle.std.specs.Prelude.{◌≤◌};
 ghost use Rattle.io.specs.Counts.{IsPrefixLen};
 
 use crate::Told;
+use files::Output;
 use records::Record;
 use steps::Answer;
 
@@ -39,11 +40,11 @@ pub const ROOM: usize = 61728;
 // How much of a text is filled before it is written: the rest has room for a line of any record.
 const FULL: usize = 16384;
 
-// Where the next line stands in the text, and whether all before it could be written.
+// Where the next line stands in the text, and what became of the text before it.
 #[derive(Clone, Copy)]
 struct Page {
     at: usize,
-    written: bool,
+    output: Output,
 }
 
 // Writes the text up to `at` where it is full.
@@ -51,13 +52,13 @@ fn turned(rt: &impl Print, text: &[u8], at: usize) -> Page {
     if at < FULL {
         return Page {
             at: at,
-            written: true,
+            output: Output::Written,
         };
     }
     let end = line::front(text, at);
     Page {
         at: 0,
-        written: files::say(rt, &text[..end]),
+        output: files::say(rt, &text[..end]),
     }
 }
 
@@ -105,7 +106,7 @@ fn next(rt: &impl Print, text: &mut [u8], at: usize, class: u32, i: usize, r: Re
     }
     Page {
         at: at,
-        written: true,
+        output: Output::Written,
     }
 }
 
@@ -120,7 +121,7 @@ fn first_in(class: u32, before: u32, first: usize, k: usize) -> usize
 }
 
 // Writes what the text has up to `at`, and a line for each record of a class.
-fn say_records(rt: &impl Print, text: &mut [u8], at: usize, class: u32, res: &[u8]) -> bool {
+fn say_records(rt: &impl Print, text: &mut [u8], at: usize, class: u32, res: &[u8]) -> Output {
     let count = res.len() / 32;
     let mut page = turned(rt, text, at);
     let mut before = 0;
@@ -131,8 +132,8 @@ fn say_records(rt: &impl Print, text: &mut [u8], at: usize, class: u32, res: &[u
         first = first_in(r.class, before, first, k);
         before = r.class;
         page = next(rt, text, page.at, class, k - first, r);
-        if !page.written {
-            return false;
+        if page.output != Output::Written {
+            return page.output;
         }
         k += 1;
     }
@@ -171,7 +172,7 @@ fn say_refusal(rt: &impl Print, text: &mut [u8], at: usize, words: bool, a: Answ
     let end = reasons::put_refusal(text, at, words, a.number, a.place);
     Told {
         good: false,
-        written: files::say(rt, &text[..end]),
+        output: files::say(rt, &text[..end]),
     }
 }
 
@@ -192,6 +193,6 @@ pub fn say(
     let at = put_head(text, at, part, a, records::record_at(&result, 0));
     Told {
         good: true,
-        written: say_records(rt, text, at, class_of(part), &result[..n]),
+        output: say_records(rt, text, at, class_of(part), &result[..n]),
     }
 }
