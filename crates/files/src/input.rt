@@ -16,7 +16,13 @@ pub struct Input {
 
 // Opens a file for reading.
 pub fn open<R: Files>(rt: &R, path: &[u8]) -> Result<R::File, Error> {
-    fs::open(rt, name::text_of(path)?)
+    match name::text_of(path) {
+        Ok(text) => fs::open(rt, text),
+        Err(why) => {
+            name::find(rt, path)?;
+            Err(why)
+        }
+    }
 }
 
 // Reads until the buffer is full or the input ends.

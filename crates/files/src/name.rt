@@ -1,5 +1,11 @@
 // Files' names as std takes them, which is as text.
-use std::io::{Error, ErrorKind};
+ghost use Rattle.io.specs.Counts.{IsPrefixLen};
+
+use std::io::{Error, ErrorKind, Read};
+use std::rt::Files;
+
+// The system's number for "No such file or directory".
+const ENOENT: i32 = 2;
 
 // A name that is not UTF-8 can't be passed on.
 pub fn text_of(path: &[u8]) -> Result<&str, Error> {
@@ -7,4 +13,57 @@ pub fn text_of(path: &[u8]) -> Result<&str, Error> {
         Ok(text) => Ok(text),
         Err(_) => Err(Error::new(ErrorKind::InvalidFilename, "the name is not UTF-8")),
     }
+}
+
+// Where the name after the last slash starts.
+pub fn name_start(path: &[u8]) -> usize
+    ensures { IsPrefixLen result path.now }
+{
+    let mut i = path.len();
+    while i > 0 {
+        if path[i - 1] == b'/' {
+            return i;
+        }
+        i -= 1;
+    }
+    i
+}
+
+// The folder that the name after the last slash is in.
+pub fn folder_of(path: &[u8]) -> Result<&str, Error> {
+    let start = name_start(path);
+    if start == 0 {
+        return Ok(".");
+    }
+    text_of(&path[..start])
+}
+
+// Whether one of the names, each ended by a NUL, is this one.
+fn is_among(names: &[u8], name: &[u8]) -> bool {
+    names.split(|byte| *byte == 0).any(|found| found == name)
+}
+
+// Whether one of the folder's names that are still to be read is this one.
+fn is_in(folder: &mut impl Read, name: &[u8]) -> Result<bool, Error> {
+    let mut names = [0u8; 4096];
+    for _ in 0..usize::MAX {
+        let n = folder.read(&mut names)?;
+        if n == 0 {
+            return Ok(false);
+        }
+        if is_among(&names[..n], name) {
+            return Ok(true);
+        }
+    }
+    Ok(false)
+}
+
+// Looks in its folder for a name that can't be passed on. If it isn't there, the error is the one
+// that the system would give.
+pub fn find(rt: &impl Files, path: &[u8]) -> Result<(), Error> {
+    let mut folder = rt.open_dir(folder_of(path)?)?;
+    if is_in(&mut folder, &path[name_start(path)..])? {
+        return Ok(());
+    }
+    Err(Error::from_raw_os_error(ENOENT))
 }

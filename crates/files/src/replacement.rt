@@ -15,20 +15,6 @@ const KEPT: usize = 200;
 // Room for the new file's name, which is at most 21 bytes longer than a path.
 const NAME_ROOM: usize = 4128;
 
-// Where the name after the last slash starts.
-fn name_start(path: &[u8]) -> usize
-    ensures { IsPrefixLen result path.now }
-{
-    let mut i = path.len();
-    while i > 0 {
-        if path[i - 1] == b'/' {
-            return i;
-        }
-        i -= 1;
-    }
-    i
-}
-
 // The start of the character that place n is in.
 fn char_start(path: &[u8], n: usize) -> usize
     ensures { IsPrefixLen result path.now }
@@ -46,7 +32,7 @@ fn char_start(path: &[u8], n: usize) -> usize
 fn name_kept(path: &[u8]) -> usize
     ensures { IsPrefixLen result path.now }
 {
-    let start = name_start(path);
+    let start = name::name_start(path);
     if path.len() - start < KEPT {
         path.len()
     } else {
@@ -129,12 +115,7 @@ fn fill(mut file: impl Write + OpenFile + Drop, bytes: &[u8]) -> Result<(), Erro
 }
 
 fn open_folder<R: Files>(rt: &R, path: &str) -> Result<R::File, Error> {
-    let bytes = path.as_bytes();
-    let start = name_start(bytes);
-    if start == 0 {
-        return fs::open(rt, ".");
-    }
-    fs::open(rt, name::text_of(&bytes[..start])?)
+    fs::open(rt, name::folder_of(path.as_bytes())?)
 }
 
 // Flushes the new name to the disk too, if the folder can be read and its file system can do it.
