@@ -288,8 +288,9 @@ def _line(out: str, rows: List[Row], data: Dict[str, Any], dot: Optional[str]) -
     without = len(data["drawings"]) - drawn
     told = f"{out}: {report.counted(len(rows))}, {drawn} drawn"
     if dot is None:
-        return told + "; dot isn't installed (Debian: graphviz)"
-    told += f", {without} not (the page says why)" if without else ""
+        told += "; dot isn't installed (Debian: graphviz)"
+    elif without:
+        told += f", {without} not (the page says why)"
     return told + (f"; {report.counted(len(data['differs']))} not as the report says" if data["differs"] else "")
 
 

@@ -9,7 +9,7 @@ import os
 import re
 
 ERROR = re.compile(r"(?:note: )?(?:\./)?((?:src|specs|proofs)/[^:\s]+):(\d+):\d+: (?:error(?:\[[^\]]*\])?: )(.*)")
-LOST = re.compile(r"^(fn \S+: no proof: (?!it calls)(?:.* in (?:\./)?(proofs/[^\s;]+))?.*)", re.M)
+LOST = re.compile(r"^(fn \S+: no proof: (?!it calls|expected a measure)(?:.* in (?:\./)?(proofs/[^\s;]+))?.*)", re.M)
 # The toolchain has found values that break the goal.
 FALSE = re.compile(r"^note: ((?:\./)?src/\S+:\d+:\d+: it is not proved that .*; the facts known there allow.*)", re.M)
 # An error that is only a consequence of another.
