@@ -80,12 +80,9 @@ fn is_link(rt: &impl Files, path: &str) -> bool {
     }
 }
 
-// Whether it is no device, pipe or terminal.
+// Whether it is no device, pipe or terminal: these can't be flushed.
 fn is_plain(file: impl OpenFile + Drop) -> bool {
-    match file.metadata() {
-        Ok(found) => found.is_file(),
-        Err(_) => false,
-    }
+    file.sync_all().is_ok()
 }
 
 // Whether a file may be put at the path: there is none, or a plain one that the user may write.
