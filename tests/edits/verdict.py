@@ -12,6 +12,8 @@ ERROR = re.compile(r"(?:note: )?(?:\./)?((?:src|specs|proofs)/[^:\s]+):(\d+):\d+
 LOST = re.compile(r"^(fn \S+: no proof: (?!it calls|expected a measure)(?:.* in (?:\./)?(proofs/[^\s;]+))?.*)", re.M)
 # The toolchain has found values that break the goal.
 FALSE = re.compile(r"^note: ((?:\./)?src/\S+:\d+:\d+: it is not proved that .*; the facts known there allow.*)", re.M)
+# A sum, a difference or an index that no proof file answers for: the toolchain's own search found it safe before.
+UNSAFE = re.compile(r"^note: ((?:\./)?src/\S+:\d+:\d+: it is not proved that .*\(`(?:overflow|bounds|slice_bounds|offset_bounds|nonzero)_?[^`]*`\).*)", re.M)
 # An error that is only a consequence of another.
 FOLLOWS = re.compile(r"was not admitted|Mend `[^`]*` first")
 # Signs that the text of a proof, a definition or a contract no longer fits, whatever holds.
@@ -28,7 +30,7 @@ UNFIT_BELOW = re.compile(
 # A name that is gone, and those that are there in its place.
 GONE = re.compile(r"has no (?:field )?`([^`]+)`(?: that can be named from here)?(.*)")
 ASKED = re.compile(r"^help: `Goals` has no `([^`]+)`; rattle asks for (.*?)(?:; a `use` line|$)", re.M)
-LEAST = 0.75  # how alike a name has to be to follow
+LEAST = 0.6  # how alike a name has to be to follow
 
 
 def errors(log):
@@ -64,6 +66,9 @@ def fact(log):
     known = FALSE.search(log)
     if known:
         return known.group(1), True
+    unsafe = UNSAFE.search(log)
+    if unsafe and not re.search(r"`goal\.(?:overflow|bounds|slice_bounds|offset_bounds|nonzero)", log):
+        return unsafe.group(1), True
     # of a function that has no proof file: the toolchain's own search found nothing
     lost = next((found for found in LOST.finditer(log) if found.group(2) not in unfit), None)
     if lost and all(file.startswith("proofs/") for file in unfit):
@@ -93,6 +98,14 @@ def refitted(log, folder):
                 texts[path] = text.read()
         free = [one for one in there if not any(word(one).search(text) for text in texts.values())]
         near = difflib.get_close_matches(name, free, 1, LEAST)
+        if not near and "Goals` has no" in said:
+            for path, text in texts.items():
+                # an answer to a goal that is gone
+                less = re.sub(rf"(?ms)^pub {re.escape(name)} :.*?(?:\n\n|\Z)", "", text)
+                if less != text:
+                    with open(path, "w") as out:
+                        out.write(less)
+                    done = True
         for path, text in texts.items():
             if near and word(name).search(text):
                 with open(path, "w") as out:
