@@ -28,13 +28,24 @@ def statics(root=ROOT):
         return {name for name, marks, _ in ROW.findall(text.read()) if "staticlib" in marks.split()}
 
 
+@functools.lru_cache(maxsize=None)
+def _below(name, root):
+    listed, found = crates(root), {}
+    if name in listed:
+        for use in listed[name]:
+            for n in _below(use, root):
+                found[n] = None
+        found[name] = None
+    return tuple(found)
+
+
 def below(names, root=ROOT):
     """Those of the names that are the repository's, and all of its crates below them, each after those that it uses."""
-    listed, found = crates(root), []
+    found = {}
     for name in names:
-        if name in listed:
-            found += [n for n in [*below(listed[name], root), name] if n not in found]
-    return found
+        for n in _below(name, root):
+            found[n] = None
+    return list(found)
 
 
 def proved(*names, root=ROOT):

@@ -22,14 +22,13 @@ ROOT = os.path.dirname(os.path.dirname(os.path.abspath(__file__)))
 
 OTHER = """\
 use Rattle.std.specs.Prelude.{ℕ, List}
-use Rattle.read.specs.Reading.{reading}
-use Rattle.read.specs.declared.Reading.{Reading}
+use Rattle.read.specs.Reading.{Reading, reading}
 
 abbrev pub other : List ℕ → Reading
 other b = reading b
 """
 READING = "ghost use Rattle.records.specs.Record.{records_of};"
-CONTRACT = "{ result ≡ reading b.now }"
+CONTRACT = "{ reading_of result ≡ reading b.now }"
 ADDED = {"crates/read/specs/Other.antt": OTHER}
 TOLD = "read/specs/Other.antt isn't listed as believed, and the contract of read::read names its `other`"
 
@@ -43,14 +42,14 @@ SHAPES = [
     ("ghost use Rattle.read.specs as s;", "s.Other.other", {}),
     ("ghost use Rattle.read.specs.{Reading.{answer as told}, Other.{other}};", "other", {}),
     ("ghost use Rattle.read.specs.{\n    Reading.beyond_limit,\n    Other.other as hidden,\n};", "hidden", {}),
-    ("ghost use Rattle.read.specs.declared.Reading.{Reading};\n"
+    ("ghost use Rattle.read.specs.Reading.{Reading};\n"
      "ghost use Rattle.read.specs.Other as Reading;", "Reading.other", {}),
     ("", "Rattle.read.specs.Other.other", {}),
     ("", "package.Rattle.read.specs.Other.other", {}),
     ("ghost use Rattle.read.specs.Passed.{other};", "other",
      {"crates/read/specs/Passed.antt": "pub use Rattle.read.specs.Other.{other}\n"}),
     ("ghost use Rattle.read.specs.{other};", "other",
-     {"crates/read/specs/Lib.antt": "pub mod Structure\npub mod Reading\npub mod Other\npub use Other.*\n"}),
+     {"crates/read/specs/Lib.antt": "pub mod Structure\npub mod Reading\npub mod Refusal\npub mod Other\npub use Other.*\n"}),
 ]
 
 # The same through a believed definition, and what else is checked about the page.
@@ -68,7 +67,7 @@ PAGE = [
      "`spare` of records/specs/Kinds.antt is reached from nothing public, and no row says why it stands there"),
     ("crates/read/src/lib.rt", READING,
      f"{READING}\nghost use Rattle.layout.proofs.layout_of.Statement.{{statement}};", None),
-    ("crates/read/src/lib.rt", CONTRACT, "{ (result ≡ reading b.now) × statement }",
+    ("crates/read/src/lib.rt", CONTRACT, "{ (reading_of result ≡ reading b.now) × statement }",
      "Rattle.layout.proofs.layout_of.Statement.statement, which is made of a function's code, is reached from"),
     ("docs/MAP.md", "| `terminator_of` |", "| `terminates` |",
      "`terminates` of ends/specs/Ends.antt has a row as reached from nothing public, and isn't there"),
@@ -76,7 +75,7 @@ PAGE = [
      f"record_rules/specs/Exist.antt has {EXIST} lines, not {EXIST + 1}"),
     ("docs/MAP.md", f"| `paths/specs/Paths.antt` | {PATHS} | 4 of 7 |", f"| `paths/specs/Paths.antt` | {PATHS} | 7 |",
      "of paths/specs/Paths.antt 4 of 7 definitions are reached, not 7"),
-    ("crates/steps/src/lib.rt", "pub struct Answer {", "pub struct Answer {\n    pub more: layout::Layout,",
+    ("crates/steps/src/lib.rt", "pub struct Shortening {", "pub struct Shortening {\n    pub more: layout::Layout,",
      "| `layout/src/lib.rt` | `Layout` |"),
 ]
 
@@ -96,7 +95,7 @@ IMPORTS = [
 ]
 
 # Things taken without proof, in files that the theorem doesn't import.
-SHORTEN = "pub fn shorten(bytes: &[u8], out: &mut [u8]) -> Answer\n"
+SHORTEN = "pub fn shorten(bytes: &[u8], out: &mut [u8]) -> Result<Shortening, Refusal>\n"
 SCANNED = [
     ("crates/note/proofs/Lib.antt", "pub mod ", "pub mod Axioms\npub mod ", None),
     ("crates/note/proofs/Axioms.antt", None, "axiom pub never : ⊥\n",
@@ -263,7 +262,7 @@ def through(folder, shape, name, more):
     for path, text in {**ADDED, **more}.items():
         edit(folder, path, None, text)
     edit(folder, "crates/read/src/lib.rt", READING, f"{READING}\n{shape}")
-    edit(folder, "crates/read/src/lib.rt", CONTRACT, CONTRACT.replace("reading", name))
+    edit(folder, "crates/read/src/lib.rt", CONTRACT, CONTRACT.replace("reading b", f"{name} b"))
     tree = Tree(folder)
     functions = [row for row in believed.roots(tree) if row[0] == "read"]
     computed = believed.Computed(tree, tree.reached(believed.contracts(tree, functions)))

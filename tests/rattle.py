@@ -24,7 +24,7 @@ ITEM = re.compile(
 )
 RESULT = re.compile(r"\s*(?:->\s*(?P<type>[^{]+?)\s*(?=\{|\bwhere\b|\brequires\b|\bensures\b|\bghost\b))?(?:where\b[^{]*?(?=\{|\brequires\b|\bensures\b|\bghost\b))?", re.S)
 BRACKET = re.compile(rf"{LITERAL}|[(\[{{}}\])]")
-BUILT_IN = set("u8 u16 u32 u64 usize i8 i16 i32 i64 isize f32 f64 bool mut static".split())
+BUILT_IN = set("u8 u16 u32 u64 usize i8 i16 i32 i64 isize f32 f64 bool mut static Option Result".split())
 PATH = re.compile(r"'\w+|\d\w*|[A-Za-z_]\w*(?:::[A-Za-z_]\w*)*")
 
 
@@ -144,13 +144,15 @@ def read_use(code, inner, where):
 
 
 def parts_of(text, where):
-    """Cuts at the commas outside brackets."""
-    parts, at, start = [], 0, 0
+    """Cuts at the commas outside brackets, those of type arguments too."""
+    parts, at, start, angles = [], 0, 0, 0
     while at < len(text):
         if text[at] in "([{":
             at = closing(text, at, where)
             continue
-        if text[at] == ",":
+        if text[at] in "<>" and text[at - 1:at + 1] != "->":
+            angles += 1 if text[at] == "<" else -1
+        if text[at] == "," and not angles:
             parts.append(text[start:at])
             start = at + 1
         at += 1
@@ -188,6 +190,7 @@ def read_type(code, text, found):
     else:
         types = []
         for part in parts_of(body[1:-1], where):
+            part = re.sub(r"^#\[\w+\]\s*", "", part)
             name = re.match(r"\w+", part).group()
             variants.append(name)
             rest = part[len(name):].strip()

@@ -27,7 +27,7 @@ OWNER = "Rattle"  # the first name of the path to a crate's module: Rattle.CRATE
 PRELUDE = set("IsProp IsSet ⊥ absurd ¬◌ Dec yes no Discrete ∥◌∥₁ ∣◌∣₁ squash₁ Unit tt Id J Path refl".split())
 PRELUDE |= set("rw rw⁻¹ simp search grw cc omega grind hlevel assumption first_of cap".split())
 # What every clause of a contract has without a `ghost use` (`rattle check --help`), with the result of an `ensures`.
-LENT = set("⌜◌⌝ ∀ₛ ∃ₛ ◌∧ₛ◌ ◌∨ₛ◌ ◌→ₛ◌ ◌∗◌ ◌-∗◌ ⊤ₛ ⊥ₛ ◌>>=◌ ◌>>◌ 𝓤 𝓛 result".split())
+LENT = set("⌜◌⌝ ∀ₛ ∃ₛ ◌∧ₛ◌ ◌∨ₛ◌ ◌→ₛ◌ ◌∗◌ ◌-∗◌ ⊤ₛ ⊥ₛ ◌>>=◌ ◌>>◌ 𝓤 𝓛 result Some None Ok Err".split())
 
 
 def kit():
@@ -137,6 +137,10 @@ def source_of(folder):
     return os.path.normpath(os.path.join(folder, project(folder).get("src", "src")))
 
 
+# std passes on the types of core.
+PASSED_ON = {"std": ("std", "core")}
+
+
 class Tree:
     def __init__(self, root):
         self.root, self.home = root, kit()
@@ -200,8 +204,9 @@ class Tree:
         if not crate_of(path) or path[2:4] != ("specs", "declared") or path[1] in self.crates or len(path) < 6:
             return False
         inner = path[4:-2] if path[-2] != "TheVariants" else path[4:-3]
-        source = os.path.join(self.home, path[1], "src", *inner)
-        files = [source + ".rt", os.path.join(source, "mod.rt")] if inner else [os.path.join(source, "lib.rt")]
+        sources = [os.path.join(self.home, crate, "src", *inner) for crate in PASSED_ON.get(path[1], (path[1],))]
+        ends = (".rt", "/mod.rt") if inner else ("/lib.rt",)
+        files = [source + end for source in sources for end in ends]
         texts = [self.read(file) for file in files if os.path.isfile(file)]
         word = rf"\b(?:struct|enum) {path[-1]}\b" if path[-2] != "TheVariants" else rf"(?m)^ +{path[-1]}\b"
         return any(re.search(word, text) for text in texts)
@@ -337,6 +342,8 @@ class Tree:
         elif path[0] == "super":
             path, modules = path[1:], modules[:-1]
         found = path and self.code(crate, modules + path[:-1])
+        if found and path[-1] in found.constants:
+            return None
         if not found or path[-1] not in found.types:
             raise Fault(f"{code.path}: the type `{'::'.join(path)}` leads nowhere")
         return found.types[path[-1]]

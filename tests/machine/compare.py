@@ -27,7 +27,7 @@ CRATE = "machine"
 A_FILE = 40  # runs in one file of the scratch crate
 HEAD = """use mathlib.Core.Path.{◌≡◌, refl}
 use mathlib.Core.List.{List, [], ◌∷◌}
-use mathlib.Core.Option.{none, some}
+use Rattle.std.specs.Prelude.{None, Some}
 use Rattle.machine.specs.Act.{Act}
 use Rattle.machine.specs.Machine.{returned, unreachable, stopped, ran_out}
 use Rattle.tried.specs.Rules.{bytes_in, held, address, listed, drawn, told, act, going, over}"""
@@ -38,7 +38,7 @@ def listing(items):
 
 
 def optional(item):
-    return "none" if item is None else f"(some {item})"
+    return "None" if item is None else f"(Some {item})"
 
 
 def outside_of(text):

@@ -1,14 +1,14 @@
--- Laws of the arena's tests and of its copies.
-use Prim.Native.Nat.{ℕ, suc, ◌+◌, ◌-◌, ◌/◌, ◌≤◌, ◌<◌, min}
+-- Laws of the arena's tests.
+use Prim.Native.Nat.{ℕ, ◌+◌, ◌-◌, ◌/◌, ◌≤◌, ◌<◌, min}
 use native.Mathlib.Omega.{arith}
 use native.Mathlib.Numerals.{add-one}
 use mathlib.Core.Path.{◌≡◌, refl, sym, ap, ◌∙◌}
 use mathlib.Core.Bool.{Bool, true, false, ◌&&◌, not}
-use mathlib.Core.List.{List, ◌++◌}
+use mathlib.Core.List.{List}
 use borrow.Author.Tests.{ltb-true, eqb-true, leb-true, leb-false, le-leb, lt-leb}
 use lib.Dec.{ltb, leb}
-use lib.ListN.{length, length-take, drop_of_length-le, get_or, take, drop, set, length-append, length-drop, get_or-append}
-use lib.Seq.{drop-cons, paste, paste-suc, length-take-le, get_or-take, get_or-drop}
+use lib.ListN.{length, drop_of_length-le, get_or, drop}
+use lib.Seq.{drop-cons}
 use Rattle.general.proofs.Booleans.{and_first, and_second}
 use Rattle.records.specs.declared.Record.{Record}
 use Rattle.records.specs.Record.{record_at}
@@ -25,24 +25,6 @@ room_split top n l h = go (leb n (l - top)) refl
 
 pub no_room : (top n l : ℕ) → l < top → false ≡ leb (top + n) l
 no_room top n l h = sym (lt-leb (top + n) l (omega arith))
-
--- one byte more of a copy to a later place
-module _ (b : List ℕ) (from to n i : ℕ) (h : from + n ≤ to) (f : to + n ≤ length b) (l : i < n) where
-  read : get_or (paste b to (drop from b) i) (from + i) 0 ≡ get_or (drop from b) i 0
-  read =
-      let t = length-take-le to b (omega arith) in
-      let m = length-append (take to b) (take i (drop from b)) in
-      get_or-append (take to b ++ take i (drop from b)) (drop (to + i) b) 0 (from + i) (omega arith)
-      ∙ get_or-append (take to b) (take i (drop from b)) 0 (from + i) (omega arith)
-      ∙ get_or-take to b (from + i) 0 (omega arith)
-      ∙ sym (get_or-drop from b i 0)
-
-  pub copy_step : set (paste b to (drop from b) i) (to + i) (get_or (paste b to (drop from b) i) (from + i) 0) ≡ paste b to (drop from b) (i + 1)
-  copy_step =
-      let d = length-drop from b in
-      ap (set (paste b to (drop from b) i) (to + i)) read
-      ∙ paste-suc b to (drop from b) i 0 (omega arith) (omega arith)
-      ∙ ap (paste b to (drop from b)) (sym (add-one i))
 
 -- what the tests tell
 pub record Moving (work : List ℕ) (r : Record) (top : ℕ) : Type 0 where
@@ -107,15 +89,13 @@ unfolding push
 by_grows k c s {r} e f = ap (λ (b : Bool). push_if b k r c s) f ∙ ap (λ (q : Record). push_if (grows s.work q s.top) k q c s) e
 
 -- one instruction more of some
-pub push_step : (k : ℕ) (cs : List Code) (n i : ℕ) (d : Code) (s : Arena) → i < n → i < length cs
-    → push_all k (drop i (take n cs)) s ≡ push_all k (drop (i + 1) (take n cs)) (push k (get_or cs i d) s)
+pub push_step : (k : ℕ) (cs : List Code) (i : ℕ) (d : Code) (s : Arena) → i < length cs
+    → push_all k (drop i cs) s ≡ push_all k (drop (i + 1) cs) (push k (get_or cs i d) s)
 unfolding push_all
-push_step k cs n i d s h l =
-    let m : i < length (take n cs) = rw (length-take n cs) (omega arith) in
-    ap (λ (c : List Code). push_all k c s) (drop-cons (take n cs) i d m)
-    ∙ ap (λ (c : Code). push_all k (drop (suc i) (take n cs)) (push k c s)) (get_or-take n cs i d h)
-    ∙ ap (λ (j : ℕ). push_all k (drop j (take n cs)) (push k (get_or cs i d) s)) (sym (add-one i))
+push_step k cs i d s l =
+    ap (λ (c : List Code). push_all k c s) (drop-cons cs i d l)
+    ∙ ap (λ (j : ℕ). push_all k (drop j cs) (push k (get_or cs i d) s)) (sym (add-one i))
 
-pub push-end : (k : ℕ) (cs : List Code) (n i : ℕ) (s : Arena) → min n (length cs) ≤ i → s ≡ push_all k (drop i (take n cs)) s
+pub push-end : (k : ℕ) (cs : List Code) (i : ℕ) (s : Arena) → length cs ≤ i → s ≡ push_all k (drop i cs) s
 unfolding push_all
-push-end k cs n i s h = sym (ap (λ (c : List Code). push_all k c s) (drop_of_length-le (take n cs) {i = i} (rw (length-take n cs) h)))
+push-end k cs i s h = sym (ap (λ (c : List Code). push_all k c s) (drop_of_length-le cs {i = i} h))

@@ -1,5 +1,5 @@
 -- The work storage of the branch steps: the blocks are anywhere below the top, and one block grows at the top.
-use Rattle.std.specs.Prelude.{ℕ, ◌+◌, ◌*◌, ◌-◌, ◌/◌, min, Bool, true, false, ◌&&◌, not, List, [], ◌∷◌, eqb, ltb, leb, length, drop}
+use Rattle.std.specs.Prelude.{ℕ, ◌≡◌, ◌+◌, ◌*◌, ◌-◌, ◌/◌, min, Bool, true, false, ◌&&◌, not, List, [], ◌∷◌, eqb, ltb, leb, length, drop}
 use Rattle.std.proofs.Math.Seq.{paste}
 use Rattle.records.specs.declared.Record.{Record}
 use Rattle.records.specs.Record.{record_at}
@@ -7,6 +7,7 @@ use Rattle.put_record.specs.Store.{put_of}
 use Rattle.inst.specs.declared.Code.{Code}
 use Rattle.codec.specs.Codec.{record_of}
 use Rattle.items.specs.Items.{block_record}
+use Rattle.arena.specs.declared.Space.{Space}
 
 -- the bytes of the code and of the block table, and how many records are in use
 pub record Arena : Type 0 where
@@ -16,6 +17,14 @@ pub record Arena : Type 0 where
 
 abbrev pub arena : List ℕ → List ℕ → ℕ → Arena
 arena work table top = record { work = work; table = table; top = top }
+
+-- what lent space holds
+abbrev pub arena_in : Space → Arena
+arena_in s = arena s.work.now s.table.now s.top
+
+-- it is still the same two slices
+abbrev pub SameSlices : Space → Space → Type 0
+SameSlices s t = (t.work.ghost_name ≡ s.work.ghost_name) × (t.table.ghost_name ≡ s.table.ghost_name)
 
 -- how many records a block has
 abbrev pub size_of : Record → ℕ
@@ -66,6 +75,9 @@ popped r top = ltb r.p1 r.p2 && eqb r.p2 top
 abbrev pub pop_if : Bool → ℕ → Record → Topped → Topped
 pop_if true k r s = topped (pointed s.table k r.p1 (r.p2 - 1)) (s.top - 1)
 pop_if false k r s = s
+
+abbrev pub topped_in : Space → Topped
+topped_in s = topped s.table.now s.top
 
 -- block k without its last record
 unfoldable pub pop : ℕ → Topped → Topped

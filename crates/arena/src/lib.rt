@@ -1,22 +1,26 @@
-// The work storage of Thread: the block that is being edited is the last one and grows at its end.
+// The work storage of Thread: the block that is edited is the last one and grows at its end.
 #![tactic(auto)]
 
-ghost use Rattle.std.specs.Prelude.{◌≡◌, ℕ, ◌+◌, ◌≤◌, length, take, drop};
-ghost use Rattle.std.proofs.Math.Seq.{paste};
+ghost use Rattle.std.specs.Prelude.{◌≡◌};
+ghost use Rattle.records.specs.Record.{record_at};
 ghost use Rattle.arena.specs.Arena as spec;
-ghost use Rattle.arena.specs.Arena.{arena, topped};
 
+use blocks::Blocks;
 use inst::{Block, BlockId, Code};
 use records::Record;
+
+// The code and the block table, and how many records of the code are in use.
+#[derive(Drop)]
+pub struct Space<'a> {
+    pub work: &'a mut [u8],
+    pub table: &'a mut [u8],
+    pub top: usize,
+}
 
 fn size_of(r: Record) -> usize
     ensures { result ≡ spec.size_of r }
 {
-    if r.p1 <= r.p2 {
-        (r.p2 - r.p1) as usize
-    } else {
-        0
-    }
+    r.p2.saturating_sub(r.p1) as usize
 }
 
 fn is_last(r: Record, top: usize) -> bool
@@ -25,115 +29,113 @@ fn is_last(r: Record, top: usize) -> bool
     r.p1 <= r.p2 && r.p2 as usize == top
 }
 
-// Whether there is room for n more records.
-pub fn has_room(work: &[u8], top: usize, n: usize) -> bool
-    ensures { result ≡ spec.room work.now top n }
-{
-    let limit = general::least(work.len() / 32, 4294967295);
-    top <= limit && n <= limit - top
-}
-
-fn moves(work: &[u8], r: Record, top: usize) -> bool
-    ensures { result ≡ spec.moves work.now r top }
-{
-    if is_last(r, top) {
-        return false;
-    }
-    let n = size_of(r);
-    r.p1 as usize + n <= top && has_room(work, top, n)
-}
-
-// Copies n bytes to a later place.
-fn copy(b: &mut [u8], from: usize, to: usize, n: usize)
-    requires { (from + n ≤ to) × (to + n ≤ length b.old) }
-    ensures { b.new ≡ paste b.old to (drop from b.old) n }
-{
-    let mut i = 0;
-    while i < n {
-        b[to + i] = b[from + i];
-        i += 1;
-    }
-}
-
-// Writes the start and end of block k.
-fn point(table: &mut [u8], k: BlockId, start: u32, end: u32)
-    ensures { table.new ≡ spec.pointed table.old k.0 start end }
-{
-    put_record::put_record(
-        table,
-        k.0 as usize,
-        items::record_of_block(Block { start, end }),
-    );
-}
-
-// Moves block k to the top, unless it is there or has no room; returns the new top.
-pub fn to_end(work: &mut [u8], table: &mut [u8], k: BlockId, top: usize) -> usize
-    ensures { arena work.new table.new result ≡ spec.to_end k.0 (arena work.old table.old top) }
-{
-    let r = records::record_at(table, k.0 as usize);
-    if !moves(work, r, top) {
-        return top;
-    }
-    let n = size_of(r);
-    copy(work, 32 * r.p1 as usize, 32 * top, 32 * n);
-    point(table, k, top as u32, (top + n) as u32);
-    top + n
-}
-
 fn can_pop(r: Record, top: usize) -> bool
     ensures { result ≡ spec.popped r top }
 {
     r.p1 < r.p2 && r.p2 as usize == top
 }
 
-// Removes the last record of block k, if the block ends at the top; returns the new top.
-pub fn pop(table: &mut [u8], k: BlockId, top: usize) -> usize
-    ensures { topped table.new result ≡ spec.pop k.0 (topped table.old top) }
-{
-    let r = records::record_at(table, k.0 as usize);
-    if !can_pop(r, top) {
-        return top;
+impl Space<'_> {
+    // Whether there is room for n more records.
+    pub fn has_room(&self, n: usize) -> bool
+        ensures { result ≡ spec.room self.now.work.now self.now.top n }
+    {
+        let limit = (self.work.len() / 32).min(4294967295);
+        self.top <= limit && n <= limit - self.top
     }
-    point(table, k, r.p1, r.p2 - 1);
-    top - 1
-}
 
-fn grows(work: &[u8], r: Record, top: usize) -> bool
-    ensures { result ≡ spec.grows work.now r top }
-{
-    is_last(r, top) && has_room(work, top, 1)
-}
-
-// Appends an instruction to block k, if it ends at the top and there is room; returns the new top.
-pub fn push(work: &mut [u8], table: &mut [u8], k: BlockId, top: usize, c: Code) -> usize
-    ensures { arena work.new table.new result ≡ spec.push k.0 c (arena work.old table.old top) }
-{
-    let r = records::record_at(table, k.0 as usize);
-    if !grows(work, r, top) {
-        return top;
+    fn moves(&self, r: Record) -> bool
+        ensures { result ≡ spec.moves self.now.work.now r self.now.top }
+    {
+        let n = size_of(r);
+        !is_last(r, self.top) && r.p1 as usize + n <= self.top && self.has_room(n)
     }
-    put_record::put_record(work, top, codec::record_of(c));
-    point(table, k, r.p1, (top + 1) as u32);
-    top + 1
-}
 
-// Appends the first n of some instructions to block k; returns the new top.
-pub fn append(
-    work: &mut [u8],
-    table: &mut [u8],
-    k: BlockId,
-    top: usize,
-    code: [Code; 4],
-    n: usize,
-) -> usize
-    ensures { arena work.new table.new result ≡ spec.push_all k.0 (take n code) (arena work.old table.old top) }
-{
-    let end = general::least(n, 4);
-    let mut at = top;
-    let mut i = 0;
-    while i < end {
-        at = push(work, table, k, at, code[i]);
-        i += 1;
+    fn grows(&self, r: Record) -> bool
+        ensures { result ≡ spec.grows self.now.work.now r self.now.top }
+    {
+        is_last(r, self.top) && self.has_room(1)
     }
-    at
+
+    // Where block k is.
+    fn block(&self, k: BlockId) -> Record
+        ensures { result ≡ record_at self.now.table.now k.0 }
+    {
+        records::record_at(self.table, k.0 as usize)
+    }
+
+    // The code, by its block table.
+    pub fn blocks(&self) -> Blocks<'_>
+        ensures code { result.code.now ≡ self.now.work.now }
+        ensures table { result.table.now ≡ self.now.table.now }
+    {
+        Blocks {
+            code: self.work,
+            table: self.table,
+        }
+    }
+
+    // Writes the start and end of block k.
+    fn point(&mut self, k: BlockId, start: u32, end: u32)
+        ensures same { spec.SameSlices self.old self.new }
+        ensures rest { (self.new.work.now ≡ self.old.work.now) × (self.new.top ≡ self.old.top) }
+        ensures pointed { self.new.table.now ≡ spec.pointed self.old.table.now k.0 start end }
+    {
+        put_record::put_record(
+            self.table,
+            k.0 as usize,
+            items::record_of_block(Block { start, end }),
+        );
+    }
+
+    // Moves block k to the top, unless it is there or has no room.
+    pub fn to_end(&mut self, k: BlockId)
+        ensures same { spec.SameSlices self.old self.new }
+        ensures moved { spec.arena_in self.new ≡ spec.to_end k.0 (spec.arena_in self.old) }
+    {
+        let r = self.block(k);
+        if self.moves(r) {
+            let n = size_of(r);
+            let from = 32 * r.p1 as usize;
+            self.work.copy_within(from..from + 32 * n, 32 * self.top);
+            self.point(k, self.top as u32, (self.top + n) as u32);
+            self.top += n;
+        }
+    }
+
+    // Removes the last record of block k, if the block ends at the top.
+    pub fn pop(&mut self, k: BlockId)
+        ensures same { spec.SameSlices self.old self.new }
+        ensures code { self.new.work.now ≡ self.old.work.now }
+        ensures popped { spec.topped_in self.new ≡ spec.pop k.0 (spec.topped_in self.old) }
+    {
+        let r = self.block(k);
+        if can_pop(r, self.top) {
+            self.point(k, r.p1, r.p2 - 1);
+            self.top -= 1;
+        }
+    }
+
+    // Appends an instruction to block k, if it ends at the top and there is room.
+    pub fn push(&mut self, k: BlockId, c: Code)
+        ensures same { spec.SameSlices self.old self.new }
+        ensures pushed { spec.arena_in self.new ≡ spec.push k.0 c (spec.arena_in self.old) }
+    {
+        let r = self.block(k);
+        if self.grows(r) {
+            put_record::put_record(self.work, self.top, codec::record_of(c));
+            self.point(k, r.p1, (self.top + 1) as u32);
+            self.top += 1;
+        }
+    }
+
+    // Appends some instructions to block k, one after the other.
+    pub fn append(&mut self, k: BlockId, code: &[Code])
+        ensures same { spec.SameSlices self.old self.new }
+        ensures appended { spec.arena_in self.new ≡ spec.push_all k.0 code.now (spec.arena_in self.old) }
+    {
+        for c in code {
+            self.push(k, *c);
+        }
+    }
 }

@@ -8,14 +8,14 @@ use lib.Dec.{eqb}
 use Rattle.records.specs.declared.Record.{Record}
 use Rattle.records.specs.Record.{records_of}
 use Rattle.put_record.specs.Store.{Bytes}
-use Rattle.layout.specs.declared.Layout.{Layout}
-use Rattle.read.specs.declared.Reading.{Reading}
-use Rattle.read.specs.Reading.{reading}
+use Rattle.read.specs.Reading.{Reading, reading}
 use Rattle.procedure.specs.Procedure.{Procedure, procedure_of}
 use Rattle.steps.specs.Run.{unchanged, threaded_form}
 use Rattle.steps.specs.Shorten.{Outcome, refusal, shortened, above, run_unless, accept_if, shorten_within, shorten}
-use Rattle.parts.specs.Parts.{starts_in}
-use Rattle.procedure_parts.specs.Opened.{parts_of, Parted}
+use Rattle.parts.specs.declared.File.{File}
+use Rattle.parts.specs.Parts.{starts_in, parts_in}
+use Rattle.shorten.proofs.Answers.{parts-open}
+use Rattle.procedure_parts.specs.Opened.{Parted}
 use Rattle.procedure_parts.proofs.Laws.{parted}
 use Rattle.bench_c.specs.Forms.{if_read, sent, threaded, form_of}
 
@@ -31,11 +31,11 @@ module _ (b out : List ℕ) where
       (sym (ne_eqb (reading b).number 0 (λ z. n (ap (λ (q : Reading). q.number) e ∙ z))))
 
   -- the parts as they were sent
-  pub sent-put : {r : Reading} {l : Layout} {o : Outcome} → Bytes b → r ≡ reading b → r.number ≡ 0 → l ≡ starts_in rs
-      → ((p : Procedure) → Parted p (parts_of b l) → o ≡ shortened (unchanged p) out) → o ≡ sent b out
-  sent-put {r} h e n s put =
+  pub sent-put : {r : Reading} (file : File) {o : Outcome} → Bytes b → r ≡ reading b → r.number ≡ 0 → file.bytes.now ≡ b → file.layout ≡ starts_in rs
+      → ((p : Procedure) → Parted p (parts_in file) → o ≡ shortened (unchanged p) out) → o ≡ sent b out
+  sent-put {r} file h e n d s put =
       let read : (reading b).number ≡ 0 = sym (ap (λ (q : Reading). q.number) e) ∙ n in
-      put (procedure_of rs) (subst (λ (l : Layout). Parted (procedure_of rs) (parts_of b l)) (sym s) (parted b h read))
+      put (procedure_of rs) (subst (Parted (procedure_of rs)) (sym (parts-open b file d s)) (parted b h read))
       ∙ ap (λ (t : Bool). if_read t b out (shortened (unchanged (procedure_of rs)) out)) (sym (eq-eqb (reading b).number 0 read))
 
   -- Shorten's own answer, as long as no step comes behind Emit

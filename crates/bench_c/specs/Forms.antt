@@ -3,9 +3,8 @@ use Rattle.std.specs.Prelude.{ℕ, List, Bool, true, false, cond, eqb}
 use Rattle.records.specs.Record.{records_of}
 use Rattle.read.specs.Reading.{reading}
 use Rattle.procedure.specs.Procedure.{procedure_of}
-use Rattle.steps.specs.declared.Answer.{Answer}
 use Rattle.steps.specs.Run.{unchanged, threaded_form}
-use Rattle.steps.specs.Shorten.{Outcome, refusal, shortened, above}
+use Rattle.steps.specs.Shorten.{Answer, Outcome, refusal, shortened, above}
 use Rattle.bench_c.specs.declared.HalivomueForm.{HalivomueForm}
 
 abbrev pub answer_of : HalivomueForm → Answer

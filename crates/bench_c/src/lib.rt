@@ -1,22 +1,25 @@
-// Only for tests: the steps, which the benchmark times on storage that it opens itself, and the forms of a file by number.
+// Only for tests: the steps, which the benchmark times on storage that it opens itself, and the forms of a file by number. The C
+// interface takes numbers and flags, and each slice by itself.
 #![tactic(auto)]
 
-ghost use Rattle.std.specs.Prelude.{◌≡◌, true, List, map, ℕ, length};
-ghost use Rattle.std.proofs.Math.Option.{Option};
+ghost use Rattle.std.specs.Prelude.{◌≡◌, true, List, map, ℕ, length, Option};
 ghost use Rattle.records.specs.Record.{records_of};
 ghost use Rattle.procedure.specs.Procedure.{Procedure, first_of};
 ghost use Rattle.steps.specs.Thread.{Work};
 ghost use Rattle.steps.specs.Run as run;
-ghost use Rattle.steps.specs.Shorten.{refusal};
+ghost use Rattle.steps.specs.Shorten.{refused as refused_by};
 ghost use Rattle.facts.specs.Storage.{facts_in};
 ghost use Rattle.run.specs.Ran.{left, ran_in};
 ghost use Rattle.emit.specs.Stage.{Ready, Emitted};
+ghost use Rattle.steps.specs.Told.{told};
 ghost use Rattle.output.specs.Filed.{outcome, counts, filed, short, form_records};
 ghost use Rattle.bench_c.specs.Steps.{ran_of, staged_of, Put};
 ghost use Rattle.bench_c.specs.Forms.{answer_of, sent as sentOf, form_of};
 
-use output::Changes;
-use steps::Answer;
+use blocks::Blocks;
+use output::{Changes, Form};
+use read::Refusal;
+use steps::Shortening;
 
 // How far `run` got before Emit.
 #[repr(C)]
@@ -84,7 +87,8 @@ pub extern "C" fn halivomue_emit(
         (length code.old) (length heads.old)
         → Emitted (run.emit (facts_in facts.now body budget) p w) (staged_of result) code.new heads.new }
 {
-    let e = emit::emit(code, heads, work, table, arms, facts);
+    let blocks = Blocks { code: work, table };
+    let e = emit::emit(code, heads, blocks, arms, facts);
     HalivomueStaged {
         n: e.n,
         rescued: e.rescued,
@@ -114,8 +118,7 @@ pub extern "C" fn halivomue_put(
         out.old)
         result out.new }
 {
-    let a = output::put_form(
-        out,
+    let form = Form {
         registers,
         kinds,
         heads,
@@ -123,13 +126,16 @@ pub extern "C" fn halivomue_put(
         code,
         operands,
         arms,
-        Changes {
-            moved: true,
-            grown,
-            rescued,
-        },
-    );
-    a.length
+    };
+    let did = Changes {
+        moved: true,
+        grown,
+        rescued,
+    };
+    match output::put_form(out, &form, did) {
+        Ok(s) => s.length,
+        Err(_) => 0,
+    }
 }
 
 // The answer about a form, in the order of struct halivomue_shortening: number is 0 if the form is written.
@@ -145,24 +151,11 @@ pub struct HalivomueForm {
     pub rescued: u32,
 }
 
-fn told(a: Answer) -> HalivomueForm
-    ensures { answer_of result ≡ a }
+// A refusal by its number: 10 is no reason of Shorten's.
+fn refused(number: u32, place: u32) -> HalivomueForm
+    ensures { answer_of result ≡ refused_by number place }
 {
     HalivomueForm {
-        number: a.number,
-        place: a.place,
-        length: a.length,
-        moved: a.moved,
-        grown: a.grown,
-        fresh: a.fresh,
-        rescued: a.rescued,
-    }
-}
-
-fn refused(number: u32, place: u32) -> Answer
-    ensures { (out : List ℕ) → outcome result out ≡ refusal number place out }
-{
-    Answer {
         number,
         place,
         length: 0,
@@ -173,15 +166,31 @@ fn refused(number: u32, place: u32) -> Answer
     }
 }
 
-// The form as sent of an accepted file.
-fn sent(bytes: &[u8], out: &mut [u8]) -> Answer
-    ensures { outcome result out.new ≡ sentOf bytes.now out.old }
-{
-    let r = read::read(bytes);
-    if r.number != 0 {
-        return refused(r.number, r.place);
+impl From<Result<Shortening, Refusal>> for HalivomueForm {
+    ghost from_gives = { λ r f. answer_of f ≡ told r };
+
+    fn from(r: Result<Shortening, Refusal>) -> HalivomueForm {
+        match r {
+            Ok(s) => HalivomueForm {
+                number: 0,
+                place: 0,
+                length: s.length,
+                moved: s.moved as u32,
+                grown: s.grown,
+                fresh: s.fresh,
+                rescued: s.rescued,
+            },
+            Err(e) => refused(e.reason.number(), e.place),
+        }
     }
-    shortening::put_sent(out, bytes, parts::starts(bytes))
+}
+
+// The form as sent of an accepted file.
+fn sent(bytes: &[u8], out: &mut [u8]) -> Result<Shortening, Refusal>
+    ensures { outcome (told result) out.new ≡ sentOf bytes.now out.old }
+{
+    read::read(bytes)?;
+    shortening::put_sent(out, &parts::File::open(bytes))
 }
 
 // Writes a form of a file into the output buffer: 0 is the file as sent, 1 the threaded form. A request that adds a step after
@@ -190,11 +199,9 @@ fn sent(bytes: &[u8], out: &mut [u8]) -> Answer
 pub extern "C" fn halivomue_form(bytes: &[u8], which: u32, out: &mut [u8]) -> HalivomueForm
     ensures { outcome (answer_of result) out.new ≡ form_of which bytes.now out.old }
 {
-    if which == 0 {
-        return told(sent(bytes, out));
+    match which {
+        0 => sent(bytes, out).into(),
+        1 => shorten::shorten(bytes, out).into(),
+        _ => refused(10, 0),
     }
-    if which == 1 {
-        return told(shorten::shorten(bytes, out));
-    }
-    told(refused(10, 0))
 }

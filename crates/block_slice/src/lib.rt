@@ -21,14 +21,14 @@ fn part_of<'a>(code: &'a [u8], b: Block) -> &'a [u8]
 pub fn block_in<'a>(code: &'a [u8], blocks: &[Block], k: usize) -> &'a [u8]
     ensures { result.now ≡ lent_bytes code.now blocks.now k }
 {
-    let mut b = Block { start: 0, end: 0 };
-    if k < blocks.len() {
-        b = blocks[k];
+    match blocks.get(k) {
+        Some(b) => part_of(code, *b),
+        None => part_of(code, Block { start: 0, end: 0 }),
     }
-    part_of(code, b)
 }
 
 // How block k of a lent block table ends.
+#[tactic(auto, using(crate::proofs::Laws::codes_at))]
 pub fn end_in(code: &[u8], blocks: &[Block], k: usize) -> End
     ensures { result ≡ end_of (get_or (lent_blocks code.now blocks.now) k []) }
 {
@@ -47,10 +47,8 @@ pub fn table_of(records: &[u8]) -> [Block; 160]
     ensures { (k : ℕ) → k < 160 → get_or result k none ≡ block_of (record_at records.now k) }
 {
     let mut blocks = [Block { start: 0, end: 0 }; 160];
-    let mut k = 0;
-    while k < 160 {
+    for k in 0..160 {
         blocks[k] = items::block_of(records::record_at(records, k));
-        k += 1;
     }
     blocks
 }

@@ -18,12 +18,17 @@ use Rattle.procedure.specs.Procedure.{codes_of}
 use Rattle.ends.specs.declared.End.TheVariants as e
 use Rattle.ends.specs.Ends.{view_of, end_of, lone_of}
 use Rattle.ends.proofs.Laws.{length_codes, inst-there, end-last, end_none, lone_none}
-use Rattle.blocks.specs.Blocks.{blocks_of, bytes_of_block}
+use Rattle.blocks.specs.declared.Blocks.{Blocks}
+use Rattle.blocks.specs.Blocks.{blocks_of, blocks_in, bytes_of_block, block_bytes}
 use Rattle.blocks.proofs.Parts.{start-within, end-within, between_length, between_at, block_codes}
 
 -- a block that doesn't hold one instruction alone has no lone end
 pub not_lone : (c : List Code) → eqb (length c) 1 ≡ false → lone_of c ≡ e.Other
 not_lone c h = lone_none c (eqb-false (length c) 1 h)
+
+-- the code that is told for block k holds its instructions
+pub codes_in : (b : Blocks) (k : ℕ) {code : List ℕ} → code ≡ block_bytes b.code.now b.table.now k → codes_of code ≡ get_or (blocks_in b) k []
+codes_in b k e = ap codes_of e ∙ block_codes b.code.now b.table.now k
 
 -- a block by its record
 module _ (code : List ℕ) (r : Record) where

@@ -3,6 +3,8 @@ use Prim.Native.Nat.{ℕ, zero, suc, ◌-◌, ◌/◌, ◌≤◌, ◌<◌}
 use native.Mathlib.Omega.{arith}
 use mathlib.Core.Path.{◌≡◌, refl, sym, ap, ◌∙◌}
 use mathlib.Core.Bool.{true}
+use mathlib.Core.Logic.{⊎_elim}
+use Rattle.general.proofs.Numbers.{order}
 use mathlib.Core.List.{List, [], ◌∷◌, map}
 use borrow.Author.Tests.{lt-ltb, le-ltb}
 use lib.ListN.{length, get_or, take, set}
@@ -28,6 +30,17 @@ module _ (code : List ℕ) (r : Record) (i : Inst) where
   pub end_kept : r.p2 ≤ r.p1 → code ≡ end_rewritten code r i
   unfolding end_rewritten
   end_kept h = sym (rw (le-ltb r.p1 r.p2 h))
+
+  pub rewritten_last :
+      {new : List ℕ}
+      → (r.p1 < r.p2 → (x : Record) × (x ≡ rewritten_record (record_at code (r.p2 - 1)) i) × (new ≡ put_of code (r.p2 - 1) x))
+      → (r.p2 ≤ r.p1 → new ≡ code)
+      → new ≡ end_rewritten code r i
+  rewritten_last {new} some none =
+      ⊎_elim
+      (λ (h : r.p1 < r.p2). let p = some h in p.2 ∙ ap (put_of code (r.p2 - 1)) p.1 ∙ end_rewritten_lem h)
+      (λ (h : r.p2 ≤ r.p1). none h ∙ end_kept h)
+      (order r.p1 r.p2)
 
 -- the records of a block without its last
 pub front_records_lem : (code : List ℕ) → records_of (front_bytes code) ≡ take (length code / 32 - 1) (records_of code)

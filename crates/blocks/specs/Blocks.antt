@@ -5,6 +5,7 @@ use Rattle.records.specs.Record.{records_of, record_at}
 use Rattle.inst.specs.declared.Code.{Code}
 use Rattle.codec.specs.Codec.{code_of, record_of}
 use Rattle.read.specs.Structure.{code_of as recordsOfBlock}
+use Rattle.blocks.specs.declared.Blocks.{Blocks}
 
 -- the records of each block of a table
 abbrev pub block_records_in : List ℕ → List ℕ → List (List Record)
@@ -13,6 +14,10 @@ block_records_in code table = map (recordsOfBlock (records_of code)) (records_of
 -- the instructions of each
 abbrev pub blocks_of : List ℕ → List ℕ → List (List Code)
 blocks_of code table = map (map code_of) (block_records_in code table)
+
+-- those of lent code and table
+abbrev pub blocks_in : Blocks → List (List Code)
+blocks_in b = blocks_of b.code.now b.table.now
 
 -- the blocks hold exactly the records of their instructions
 abbrev pub Canonical : List ℕ → List ℕ → Type 0

@@ -9,8 +9,8 @@ use borrow.Author.Tests.{lt-ltb, ltb-true}
 use Rattle.general.proofs.Numbers.{Below, below}
 use Rattle.real.proofs.Laws.{real-canonical}
 use Rattle.inst.specs.declared.Inst.TheVariants as i
-use Rattle.ops.specs.Ops.{space_of, opt_of, opt_arg}
-use Rattle.codec.specs.Codec.{word_of, insts, space_in_range, in_range}
+use Rattle.ops.specs.Ops.{space_of, space_in_range, opt_of, opt_arg}
+use Rattle.codec.specs.Codec.{word_of, insts, in_range}
 
 -- six fields of 32 bits
 pub record Words (p1 p2 p3 p4 p5 p6 : ℕ) : Type 0 where

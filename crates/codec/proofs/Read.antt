@@ -1,5 +1,5 @@
 -- What was written reads back as the same value, and its record is right.
-use Prim.Native.Nat.{ℕ, ◌%◌, ◌<◌, ◌^◌}
+use Prim.Native.Nat.{ℕ, ◌<◌, ◌^◌}
 use native.Mathlib.Omega.{arith}
 use mathlib.Core.Path.{◌≡◌, refl, ap, ◌∙◌}
 use mathlib.Core.Bool.{true}
@@ -10,7 +10,7 @@ use Rattle.general.proofs.Booleans.{and_first, and_second}
 use Rattle.records.specs.Kinds.{right, fields}
 use Rattle.real.specs.Real.{real_of, bits_of, canonical}
 use Rattle.real.proofs.Laws.{real_bits, bits_lt}
-use Rattle.inst.specs.declared.OptReg.TheVariants as o
+use Rattle.std.specs.Prelude.{Some, None}
 use Rattle.inst.specs.declared.AddrSpace.{AddrSpace}
 use Rattle.inst.specs.declared.AddrSpace.TheVariants as s
 use Rattle.inst.specs.declared.CmpOp.{CmpOp}
@@ -19,23 +19,12 @@ use Rattle.inst.specs.declared.IntOp.{IntOp}
 use Rattle.inst.specs.declared.CheckKind.{CheckKind}
 use Rattle.inst.specs.declared.Inst.{Inst}
 use Rattle.inst.specs.declared.Inst.TheVariants as i
-use Rattle.ops.specs.Ops.{space_of, space_num, space_arg, cmp_num, bool_num, int_num, width_num, check_num}
-use Rattle.ops.proofs.Laws.{cmp_back, cmp_lt, bool-back, bool_lt, int_back, int_lt, width_back, width_lt, check_back, check_lt, opt_back}
-use Rattle.codec.specs.Codec.{word_of, low_of, high_of, inst_of, inst_record, with_stmt, words, space_in_range, in_range}
+use Rattle.ops.specs.Ops.{space_in_range, cmp_num, bool_num, int_num, width_num, check_num}
+use Rattle.ops.proofs.Laws.{cmp_back, cmp_lt, bool-back, bool_lt, int_back, int_lt, width_back, width_lt, check_back, check_lt, small, space_back, opt_back}
+use Rattle.codec.specs.Codec.{word_of, low_of, high_of, inst_of, inst_record, with_stmt, words, in_range}
 
 pub word_join : (v : ℕ) → word_of (low_of v) (high_of v) ≡ v
 word_join v = omega arith
-
-small : (n : ℕ) → ltb n 256 ≡ true → n % 256 ≡ n
-small n h = let k = ltb-true n 256 h in omega arith
-
-space_back : (p : AddrSpace) → space_in_range p ≡ true → space_of (space_num p) (space_arg p) ≡ p
-space_back s.Frame h = refl
-space_back (s.Up n) h = ap s.Up (small n h)
-space_back s.Inst h = refl
-space_back (s.Pkg n) h = refl
-space_back (s.Const n) h = refl
-space_back s.Shared h = refl
 
 pub inst_back : (x : Inst) (n : ℕ) → in_range x ≡ true → inst_of (with_stmt (inst_record x) n) ≡ x
 unfolding inst_of inst_record in_range
@@ -88,13 +77,13 @@ inst-right (i.DopeLen d p m) n h = rw (and_first (ltb m 256) _ h)
 inst-right (i.BoundsLen d l r k) n h = refl
 inst-right (i.Alloc d m) n h = refl
 inst-right (i.TakeBounds l r k) n h = refl
-inst-right (i.CallNative m a (o.Some d)) n h = refl
-inst-right (i.CallNative m a o.None) n h = refl
+inst-right (i.CallNative m a (Some d)) n h = refl
+inst-right (i.CallNative m a None) n h = refl
 inst-right (i.Br t) n h = refl
 inst-right (i.CondBr c t f) n h = refl
 inst-right (i.Case v t) n h = refl
-inst-right (i.Ret (o.Some v)) n h = refl
-inst-right (i.Ret o.None) n h = refl
+inst-right (i.Ret (Some v)) n h = refl
+inst-right (i.Ret None) n h = refl
 inst-right (i.Unreachable w) n h = refl
 inst-right i.Stmt n h = refl
 

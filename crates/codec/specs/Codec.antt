@@ -6,12 +6,10 @@ use Rattle.inst.specs.declared.Reg.{Reg}
 use Rattle.inst.specs.declared.BlockId.{BlockId}
 use Rattle.inst.specs.declared.Regs.{Regs}
 use Rattle.inst.specs.declared.Code.{Code}
-use Rattle.inst.specs.declared.AddrSpace.{AddrSpace}
-use Rattle.inst.specs.declared.AddrSpace.TheVariants as s
 use Rattle.inst.specs.declared.Inst.{Inst}
 use Rattle.inst.specs.declared.Inst.TheVariants as i
 use Rattle.ops.specs.Ops.{cmp_of, cmp_num, bool_of, bool_num, int_of, int_num, width_of, width_num, check_of, check_num}
-use Rattle.ops.specs.Ops.{space_of, space_num, space_arg, opt_of, opt_num, opt_arg}
+use Rattle.ops.specs.Ops.{space_of, space_num, space_arg, space_in_range, opt_of, opt_num, opt_arg}
 
 -- "v (p2 low, p3 high)"
 abbrev pub word_of : ℕ → ℕ → ℕ
@@ -149,15 +147,6 @@ rewritten_record r x = record_of (with_inst x (code_of r))
 abbrev pub words : List ℕ → Bool
 words [] = true
 words (x ∷ xs) = ltb x (2 ^ 32) && words xs
-
--- "dim and Up's number are at most 255"
-abbrev pub space_in_range : AddrSpace → Bool
-space_in_range s.Frame = true
-space_in_range (s.Up n) = ltb n 256
-space_in_range s.Inst = true
-space_in_range (s.Pkg n) = ltb n (2 ^ 32)
-space_in_range (s.Const n) = ltb n (2 ^ 32)
-space_in_range s.Shared = true
 
 -- an instruction's numbers are in their types' ranges, and its f64 comes from 64 bits
 unfoldable pub in_range : Inst → Bool

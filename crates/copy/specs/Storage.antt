@@ -1,14 +1,12 @@
--- Storage, not the paper's: how arrays of four represent a copy.
-use Rattle.std.specs.Prelude.{ℕ, ◌+◌, ◌≤◌, ◌≡◌, Bool, true, false, cond, List, [], ◌∷◌, ◌++◌, map, eqb, length, take, get_or}
-use Rattle.std.proofs.Math.Option.{Option}
+-- Storage, not the paper's: how two short lists represent a copy.
+use Rattle.std.specs.Prelude.{ℕ, ◌+◌, ◌≤◌, ◌≡◌, Bool, true, false, cond, List, [], ◌∷◌, ◌++◌, map, eqb, length, get_or, Option}
 use Rattle.inst.specs.declared.Code.{Code}
-use Rattle.roles.specs.Roles.{numbers_of}
-use Rattle.roles.specs.Exchange.{first_pairs}
+use Rattle.visit_mut.specs.Pairs.{pairs_in}
 use Rattle.ends.specs.Forms.{Fixed, word, real, address, varying}
 use Rattle.ends.specs.Ends.{code_at}
 use Rattle.steps.specs.Copy as s
 use Rattle.facts.specs.Storage.{facts_in}
-use Rattle.copy.specs.declared.Copied.{Copied}
+use Rattle.copy.specs.declared.copied.Copied.{Copied}
 use Rattle.copy.specs.declared.How.{How}
 use Rattle.copy.specs.declared.How.TheVariants as h
 
@@ -29,14 +27,14 @@ how_one uses own d x = cond (is_const x) s.left_out (cond (eqb uses own) (s.renu
 
 -- the instructions of the copy
 abbrev pub codes_in : Copied → List Code
-codes_in z = take z.n z.code
+codes_in z = z.code.items
 
 -- the registers that got a new number: with it, and without
 abbrev pub local_in : Copied → List (ℕ × ℕ)
-local_in z = first_pairs z.fresh z.old z.new
+local_in z = pairs_in z.given.items
 
 abbrev pub olds_in : Copied → List ℕ
-olds_in z = take z.fresh (numbers_of z.old)
+olds_in z = map (λ x. x.0.0) z.given.items
 
 abbrev pub first_four : List Code → List Code
 first_four c = code_at c 0 ∷ code_at c 1 ∷ code_at c 2 ∷ code_at c 3 ∷ []
@@ -52,45 +50,18 @@ taking s.left_out = 0
 taking (s.renumbered d) = 1
 taking s.kept = 0
 
--- the lengths of its arrays
-pub record Four (z : Copied) : Type 0 where
-  pub code : length z.code ≡ 4
-  pub old : length z.old ≡ 4
-  pub new : length z.new ≡ 4
-
--- one more instruction at the end
-pub record Pushed (a : Copied) (x : Code) (z : Copied) : Type 0 where
-  pub code : codes_in z ≡ codes_in a ++ (x ∷ [])
-  pub local : local_in z ≡ local_in a
-  pub olds : olds_in z ≡ olds_in a
-  pub n-is : z.n ≡ a.n + 1
-  pub fresh-is : z.fresh ≡ a.fresh
-  pub four : Four z
-
--- one more register with a new number
-pub record Given (a : Copied) (d m : ℕ) (z : Copied) : Type 0 where
-  pub code : codes_in z ≡ codes_in a
-  pub local : local_in z ≡ local_in a ++ ((d, m) ∷ [])
-  pub olds : olds_in z ≡ olds_in a ++ (d ∷ [])
-  pub n-is : z.n ≡ a.n
-  pub fresh-is : z.fresh ≡ a.fresh + 1
-  pub four : Four z
-
 -- one more instruction, whatever comes after it
 pub record Placed (a : Copied) (how : s.How) (x : Code) (m : ℕ) (z : Copied) : Type 0 where
   pub code : (rest : List (ℕ × ℕ) → ℕ → List Code)
       → (codes_in a ++ s.place how x (local_in a) m rest ≡ codes_in z ++ rest (local_in z) (m + taking how))
   pub olds : olds_in z ≡ with_old how (olds_in a)
-  pub n_le : z.n ≤ a.n + 1
-  pub fresh-is : z.fresh ≡ a.fresh + taking how
-  pub fresh_le : a.fresh ≤ a.n → z.fresh ≤ z.n
-  pub four : Four z
+  pub n_le : length z.code.items ≤ length a.code.items + 1
+  pub fresh-is : length z.given.items ≡ length a.given.items + taking how
 
 -- the copy of some code, with the kinds of its new numbers
 pub record CopyOf (facts : List ℕ) (c : List Code) (m : ℕ) (z : Copied) : Type 0 where
   pub code : (body : Option ℕ) (budget : ℕ) → codes_in z ≡ s.copy_of (facts_in facts body budget) c m
   pub kinds : (body : Option ℕ) (budget : ℕ)
       → map (λ d. get_or (facts_in facts body budget).registers d 0) (olds_in z) ≡ s.kinds_of (facts_in facts body budget) c
-  pub n_le : z.n ≤ 4
-  pub fresh_le : z.fresh ≤ z.n
-  pub four : Four z
+  pub n_le : length z.code.items ≤ 4
+  pub fresh_le : length z.given.items ≤ length z.code.items

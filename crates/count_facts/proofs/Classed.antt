@@ -1,20 +1,14 @@
 -- Laws of one instruction's class, by the tests of the code.
 use Prim.Native.Nat.{ℕ, ◌+◌, ◌*◌, ◌≤◌, ◌<◌}
-use native.Mathlib.Omega.{arith}
-use mathlib.Core.Path.{◌≡◌, refl, ◌∙◌}
-use mathlib.Core.Bool.{Bool, false, ◌||◌, true≢false}
+use mathlib.Core.Path.{◌≡◌, refl, sym}
+use mathlib.Core.Bool.{Bool, true, false, cond, not, ◌&&◌}
+use Rattle.std.proofs.Common.{Option, None, Some}
+use Rattle.std.proofs.lemmas.Option.{none-some, same_Some}
 use mathlib.Core.List.{List}
-use borrow.Author.Tests.{lt-ltb, le-ltb, eq-eqb, ne_eqb}
-use lib.Dec.{eqb}
+use borrow.Author.Tests.{lt-ltb, le-ltb, eq-eqb, ne_eqb, ltb-true, true-eqb}
+use lib.Dec.{eqb, ltb}
 use lib.ListN.{length, get_or, set}
-use Rattle.records.specs.declared.Record.{Record}
-use Rattle.inst.specs.declared.Inst.{Inst}
-use Rattle.inst.specs.declared.Inst.TheVariants as i
-use Rattle.inst.specs.Inst.{kind_of}
-use Rattle.codec.specs.Codec.{inst_of}
-use Rattle.ends.specs.Forms.{form_of}
-use Rattle.ends.proofs.Laws.{same_kind}
-use Rattle.count_facts.specs.Filling.{with_word, with_konst, class_step}
+use Rattle.count_facts.specs.Filling.{with_word, with_konst, with_constant}
 
 module _ (t : List ℕ) (d : ℕ) where
   pub word-short : (v : ℕ) → length t ≤ 5 * d + 4 → t ≡ with_word t d v
@@ -51,41 +45,39 @@ module _ (t : List ℕ) (d : ℕ) where
       unfolding with_konst
       konst-new f = rw (lt-ltb (5 * d + 4) (length t) h, eq-eqb (get_or t (5 * d + 1) 0) 1 e, eq-eqb (get_or t (5 * d + 3) 0) 0 f)
 
--- Const, ConstF and AddrOf
-abbrev pub fixed_kind : ℕ → Bool
-fixed_kind k = eqb k 0 || (eqb k 1 || eqb k 3)
+-- the row of a register that is written once
+no_row : (x y : List ℕ) (n : ℕ) (a b c : Bool) → cond (a && b) (Some n) None ≡ None → y ≡ cond (a && (b && c)) x y
+no_row x y n true true c e = absurd (none-some n (sym e))
+no_row x y n true false c e = refl
+no_row x y n false b c e = refl
 
-pub other-class : (t : List ℕ) (x : Inst) → fixed_kind (kind_of x) ≡ false → t ≡ class_step t x
-unfolding class_step form_of
-other-class t (i.Const d v) q = absurd (true≢false q)
-other-class t (i.ConstF d v) q = absurd (true≢false q)
-other-class t (i.Move d s) q = refl
-other-class t (i.AddrOf d s f) q = absurd (true≢false q)
-other-class t (i.Select d c x y) q = refl
-other-class t (i.Cmp op d x y) q = refl
-other-class t (i.Bool op d x y) q = refl
-other-class t (i.Bin op d x y) q = refl
-other-class t (i.BinRange op d x y l h w) q = refl
-other-class t (i.Load d a w) q = refl
-other-class t (i.Store a s w) q = refl
-other-class t (i.Check c v l h w) q = refl
-other-class t (i.MakeDope a p) q = refl
-other-class t (i.DopeLen d p n) q = refl
-other-class t (i.BoundsLen d l r e) q = refl
-other-class t (i.Alloc d s) q = refl
-other-class t (i.TakeBounds l r e) q = refl
-other-class t (i.CallNative n a d) q = refl
-other-class t (i.Br b) q = refl
-other-class t (i.CondBr c b f) q = refl
-other-class t (i.Case v b) q = refl
-other-class t (i.Ret v) q = refl
-other-class t (i.Unreachable w) q = refl
-other-class t i.Stmt q = refl
+module _ (t : List ℕ) (d : ℕ) where
+  abbrev room : Bool
+  room = ltb (5 * d + 4) (length t)
 
-fixed-past : (k : ℕ) → 23 ≤ k → fixed_kind k ≡ fixed_kind 23
-fixed-past k h = rw (ne_eqb k 0 (omega arith), ne_eqb k 1 (omega arith), ne_eqb k 3 (omega arith))
+  abbrev once : Bool
+  once = eqb (get_or t (5 * d + 1) 0) 1
 
--- the same by the record's kind
-pub other_record : (t : List ℕ) (r : Record) → (r.kind ≡ 0 → ⊥) → (r.kind ≡ 1 → ⊥) → (r.kind ≡ 3 → ⊥) → t ≡ class_step t (inst_of r)
-other_record t r a b c =
-    other-class t (inst_of r) (same_kind fixed_kind fixed-past r ∙ rw (ne_eqb r.kind 0 a, ne_eqb r.kind 1 b, ne_eqb r.kind 3 c))
+  abbrev row : Option ℕ
+  row = cond (room && once) (Some (5 * d)) None
+
+  word-none : (v : ℕ) → row ≡ None → t ≡ with_word t d v
+  unfolding with_word
+  word-none v e = no_row (set (set t (5 * d + 3) 1) (5 * d + 4) v) t (5 * d) room once (not (eqb (get_or t (5 * d + 3) 0) 1)) e
+
+  konst-none : row ≡ None → t ≡ with_konst t d
+  unfolding with_konst
+  konst-none e = no_row (set t (5 * d + 3) 2) t (5 * d) room once (eqb (get_or t (5 * d + 3) 0) 0) e
+
+  pub constant_none : (v : Option ℕ) → row ≡ None → t ≡ with_constant t d v
+  constant_none (Some v) e = word-none v e
+  constant_none None e = konst-none e
+
+  pub row-told : (m : ℕ) → row ≡ Some m → (5 * d + 4 < length t) × (get_or t (5 * d + 1) 0 ≡ 1) × (5 * d ≡ m)
+  row-told m e = by room once refl refl e
+    where
+      by : (a b : Bool) → room ≡ a → once ≡ b → cond (a && b) (Some (5 * d)) None ≡ Some m
+          → (5 * d + 4 < length t) × (get_or t (5 * d + 1) 0 ≡ 1) × (5 * d ≡ m)
+      by true true p q e = (ltb-true (5 * d + 4) (length t) p, true-eqb (get_or t (5 * d + 1) 0) 1 (sym q), same_Some (5 * d) m e)
+      by true false p q e = absurd (none-some m e)
+      by false b p q e = absurd (none-some m e)

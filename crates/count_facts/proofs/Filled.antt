@@ -4,7 +4,7 @@ use native.Mathlib.Omega.{arith}
 use mathlib.Core.Path.{◌≡◌, refl, sym, ap, ◌∙◌}
 use mathlib.Core.Bool.{Bool, true, false, cond, not, ◌&&◌, ◌||◌}
 use mathlib.Core.List.{List, [], ◌∷◌, ◌++◌}
-use mathlib.Core.Option.{Option, none, some}
+use Rattle.std.proofs.Common.{Option, None, Some}
 use borrow.Author.Tests.{eqb-true, eqb-false}
 use lib.Dec.{eqb, ltb}
 use lib.ListN.{length, get_or, set, take, drop, length-set}
@@ -64,43 +64,43 @@ record Says (t : List ℕ) (r : ℕ) (o : Option ℕ) (k : Bool) : Type 0 where
 
 -- what an instruction says of a register's constant, and whether it makes it one
 abbrev told : ℕ → Inst → Option ℕ
-told r x = cond (writes r x) (word_of (fixed_of x)) none
+told r x = cond (writes r x) (word_of (fixed_of x)) None
 
 abbrev bound_by : ℕ → Inst → Bool
 bound_by r x = writes r x && bound (fixed_of x)
 
 -- nothing more is said
 kept : {t : List ℕ} {r : ℕ} (u : List ℕ) (s b : Bool) (o : Option ℕ) (k : Bool) → get_or u (5 * r + 3) 0 ≡ get_or t (5 * r + 3) 0 →
-    get_or u (5 * r + 4) 0 ≡ get_or t (5 * r + 4) 0 → Says t r o k → Says u r (or_else o (cond s (cond b none none) none)) (k || (s && (b && false)))
+    get_or u (5 * r + 4) 0 ≡ get_or t (5 * r + 4) 0 → Says t r o k → Says u r (or_else o (cond s (cond b None None) None)) (k || (s && (b && false)))
 kept u s b o k e f p = record { class = e ∙ p.class ∙ same_class o k s b; word = f ∙ p.word ∙ same_word o s b }
   where
-    same_class : (o : Option ℕ) (k s b : Bool) → class_of o k ≡ class_of (or_else o (cond s (cond b none none) none)) (k || (s && (b && false)))
-    same_class (some v) k s b = refl
-    same_class none true true true = refl
-    same_class none true true false = refl
-    same_class none true false b = refl
-    same_class none false true true = refl
-    same_class none false true false = refl
-    same_class none false false b = refl
+    same_class : (o : Option ℕ) (k s b : Bool) → class_of o k ≡ class_of (or_else o (cond s (cond b None None) None)) (k || (s && (b && false)))
+    same_class (Some v) k s b = refl
+    same_class None true true true = refl
+    same_class None true true false = refl
+    same_class None true false b = refl
+    same_class None false true true = refl
+    same_class None false true false = refl
+    same_class None false false b = refl
 
-    same_word : (o : Option ℕ) (s b : Bool) → value_or 0 o ≡ value_or 0 (or_else o (cond s (cond b none none) none))
-    same_word (some v) s b = refl
-    same_word none true true = refl
-    same_word none true false = refl
-    same_word none false b = refl
+    same_word : (o : Option ℕ) (s b : Bool) → value_or 0 o ≡ value_or 0 (or_else o (cond s (cond b None None) None))
+    same_word (Some v) s b = refl
+    same_word None true true = refl
+    same_word None true false = refl
+    same_word None false b = refl
 
-not_one : (k : Bool) → class_of none k ≡ 1 → ⊥
+not_one : (k : Bool) → class_of None k ≡ 1 → ⊥
 not_one true e = omega arith
 not_one false e = omega arith
 
 -- one instruction, of a register that is counted once (s) or not
 module _ (t : List ℕ) (r : ℕ) (fits : 5 * r + 4 < length t) where
   word_mine : (v : ℕ) (s : Bool) (o : Option ℕ) (k : Bool) → eqb (get_or t (5 * r + 1) 0) 1 ≡ s → Says t r o k →
-      Says (with_word t r v) r (or_else o (cond s (some v) none)) (k || (s && true))
+      Says (with_word t r v) r (or_else o (cond s (Some v) None)) (k || (s && true))
   word_mine v false o k e p = rw (← word_often t r fits v (eqb-false (get_or t (5 * r + 1) 0) 1 e)) (kept t false false o k refl refl p)
-  word_mine v true (some w) k e p =
+  word_mine v true (Some w) k e p =
       rw (← word-old t r fits (eqb-true (get_or t (5 * r + 1) 0) 1 e) v p.class) (record { class = p.class; word = p.word })
-  word_mine v true none k e p =
+  word_mine v true None k e p =
       rw (← word-new t r fits (eqb-true (get_or t (5 * r + 1) 0) 1 e) v (λ q. not_one k (sym p.class ∙ q)))
       (record {
         class = get_or-set_other (set t (5 * r + 3) 1) (5 * r + 4) (5 * r + 3) v 0 (λ q. omega arith) ∙ get_or-set_same t (5 * r + 3) 1 0 (omega arith);
@@ -108,15 +108,15 @@ module _ (t : List ℕ) (r : ℕ) (fits : 5 * r + 4 < length t) where
       })
 
   konst_mine : (s : Bool) (o : Option ℕ) (k : Bool) → eqb (get_or t (5 * r + 1) 0) 1 ≡ s → Says t r o k →
-      Says (with_konst t r) r (or_else o (cond s none none)) (k || (s && true))
+      Says (with_konst t r) r (or_else o (cond s None None)) (k || (s && true))
   konst_mine false o k e p = rw (← konst_often t r fits (eqb-false (get_or t (5 * r + 1) 0) 1 e)) (kept t false false o k refl refl p)
-  konst_mine true (some w) k e p =
+  konst_mine true (Some w) k e p =
       rw (← konst-old t r fits (eqb-true (get_or t (5 * r + 1) 0) 1 e) (λ q. let c = p.class in omega arith))
       (record { class = p.class; word = p.word })
-  konst_mine true none true e p =
+  konst_mine true None true e p =
       rw (← konst-old t r fits (eqb-true (get_or t (5 * r + 1) 0) 1 e) (λ q. let c = p.class in omega arith))
       (record { class = p.class; word = p.word })
-  konst_mine true none false e p =
+  konst_mine true None false e p =
       rw (← konst-new t r fits (eqb-true (get_or t (5 * r + 1) 0) 1 e) p.class)
       (record {
         class = get_or-set_same t (5 * r + 3) 2 0 (omega arith);
@@ -126,7 +126,7 @@ module _ (t : List ℕ) (r : ℕ) (fits : 5 * r + 4 < length t) where
   module _ (s : Bool) (once : eqb (get_or t (5 * r + 1) 0) 1 ≡ s) (o : Option ℕ) (k : Bool) (p : Says t r o k) where
     -- a Const of d, and a ConstF or AddrOf of d
     word_any : (d v : ℕ) (b : Bool) → eqb r d ≡ b →
-        Says (with_word t d v) r (or_else o (cond s (cond (b || false) (some v) none) none)) (k || (s && ((b || false) && true)))
+        Says (with_word t d v) r (or_else o (cond s (cond (b || false) (Some v) None) None)) (k || (s && ((b || false) && true)))
     word_any d v true e = let same = eqb-true r d e in rw (sym same) (word_mine v s o k once p)
     word_any d v false e =
         let other = eqb-false r d e in
@@ -136,7 +136,7 @@ module _ (t : List ℕ) (r : ℕ) (fits : 5 * r + 4 < length t) where
         p
 
     konst_any : (d : ℕ) (b : Bool) → eqb r d ≡ b →
-        Says (with_konst t d) r (or_else o (cond s (cond (b || false) none none) none)) (k || (s && ((b || false) && true)))
+        Says (with_konst t d) r (or_else o (cond s (cond (b || false) None None) None)) (k || (s && ((b || false) && true)))
     konst_any d true e = let same = eqb-true r d e in rw (sym same) (konst_mine s o k once p)
     konst_any d false e =
         let other = eqb-false r d e in
@@ -146,14 +146,14 @@ module _ (t : List ℕ) (r : ℕ) (fits : 5 * r + 4 < length t) where
         p
 
     address_any : (d : ℕ) (up : Bool) →
-        Says (cond up t (with_konst t d)) r (or_else o (cond s (cond (eqb r d || false) none none) none)) (k || (s && ((eqb r d || false) && not up)))
+        Says (cond up t (with_konst t d)) r (or_else o (cond s (cond (eqb r d || false) None None) None)) (k || (s && ((eqb r d || false) && not up)))
     address_any d true = kept t s (eqb r d || false) o k refl refl p
     address_any d false = konst_any d (eqb r d) refl
 
-    silent : (b : Bool) → Says t r (or_else o (cond s (cond b none none) none)) (k || (s && (b && false)))
+    silent : (b : Bool) → Says t r (or_else o (cond s (cond b None None) None)) (k || (s && (b && false)))
     silent b = kept t s b o k refl refl p
 
-    says_step : (x : Inst) → Says (class_step t x) r (or_else o (cond s (told r x) none)) (k || (s && bound_by r x))
+    says_step : (x : Inst) → Says (class_step t x) r (or_else o (cond s (told r x) None)) (k || (s && bound_by r x))
     unfolding class_step form_of fixed_of any_of
     says_step (i.Const d v) = word_any d.0 v (eqb r d.0) refl
     says_step (i.ConstF d v) = konst_any d.0 (eqb r d.0) refl
@@ -225,10 +225,10 @@ classes_front t r j h (x ∷ c) = classes_front (class_code t x) r j h c ∙ ste
 says_eq : {t : List ℕ} {r : ℕ} {o u : Option ℕ} {k l : Bool} → o ≡ u → k ≡ l → Says t r o k → Says t r u l
 says_eq e f p = record { class = p.class ∙ rw (e, f); word = p.word ∙ rw e }
 
-join : (o : Option ℕ) (s : Bool) (a b : Option ℕ) → or_else (or_else o (cond s a none)) (cond s b none) ≡ or_else o (cond s (or_else a b) none)
-join (some v) s a b = refl
-join none true a b = refl
-join none false a b = refl
+join : (o : Option ℕ) (s : Bool) (a b : Option ℕ) → or_else (or_else o (cond s a None)) (cond s b None) ≡ or_else o (cond s (or_else a b) None)
+join (Some v) s a b = refl
+join None true a b = refl
+join None false a b = refl
 
 join_bound : (k s a b : Bool) → ((k || (s && a)) || (s && b)) ≡ (k || (s && (a || b)))
 join_bound true s a b = refl
@@ -237,12 +237,12 @@ join_bound false false a b = refl
 
 says_all : (c : List Code) (t : List ℕ) (r : ℕ) → 5 * r + 4 < length t → (s : Bool) → eqb (get_or t (5 * r + 1) 0) 1 ≡ s →
     (o : Option ℕ) (k : Bool) → Says t r o k →
-    Says (over class_code t c) r (or_else o (cond s (const_in c r) none)) (k || (s && any_of (λ x. bound_by r x.inst) c))
+    Says (over class_code t c) r (or_else o (cond s (const_in c r) None)) (k || (s && any_of (λ x. bound_by r x.inst) c))
 unfolding over const_in any_of
 says_all [] t r fits s once o k p = kept t s false o k refl refl p
 says_all (x ∷ c) t r fits s once o k p =
     let u = class_code t x in
-    let o' = or_else o (cond s (told r x.inst) none) in
+    let o' = or_else o (cond s (told r x.inst) None) in
     let k' = k || (s && bound_by r x.inst) in
     says_eq
     (join o s (told r x.inst) (const_in c r))
@@ -281,7 +281,7 @@ module _ (kinds ops : List ℕ) (c : List Code) (n : ℕ) where
         (rw (counts-length ops (rows n (bare kinds)) c) fits)
         (eqb (def_count c r) 1)
         (ap (λ (m : ℕ). eqb m 1) counted-defs)
-        none
+        None
         false
         (record {
           class = untouched 3 (omega arith) (λ q. omega arith) (λ q. omega arith);

@@ -12,16 +12,9 @@ use lib.Seq.{drop-cons, get_or-take, get_or-drop}
 use Rattle.records.specs.declared.Record.{Record}
 use Rattle.records.specs.Record.{records_of, record_at, blank}
 use Rattle.records.proofs.Laws.{length_records}
-use Rattle.inst.specs.declared.Inst.{Inst}
-use Rattle.inst.specs.declared.Inst.TheVariants.{Stmt}
-use Rattle.codec.specs.Codec.{insts_of, inst_of}
-use Rattle.codec.proofs.Table.{inst-at}
-use Rattle.roles.specs.declared.Roles.{Roles}
-use Rattle.roles.specs.Roles.{roles_of, reads_of, operands_of, numbers_of}
-use Rattle.roles.proofs.Laws.{n-few, defs-few, defs_first, reads_all}
-use Rattle.facts.specs.Storage.{operands_in, kinds_of, cap}
+use Rattle.facts.specs.Storage.{operands_in, kinds_of}
 use Rattle.facts.proofs.Rows.{get_d_any}
-use Rattle.count_facts.specs.Filling.{over, bumped, counted, count_inst}
+use Rattle.count_facts.specs.Filling.{over, bumped}
 
 module _ (cap : ℕ) (l : List ℕ) (r : ℕ) where
   by : {b : Bool} → ltb (get_or l r cap) cap ≡ b → cond b (set l r (get_or l r 0 + 1)) l ≡ bumped cap l r
@@ -84,35 +77,7 @@ module _ (l : List ℕ) (start len k : ℕ) where
   part-over h = simp length-take (omega arith)
 
 -- one list after another
-pub over-append : {S A : Type 0} (f : S → A → S) (s : S) (l m : List A) → over f s (l ++ m) ≡ over f (over f s l) m
+pub over_append : {S A : Type 0} (f : S → A → S) (s : S) (l m : List A) → over f s (l ++ m) ≡ over f (over f s l) m
 unfolding over
-over-append f s [] m = refl
-over-append f s (x ∷ l) m = over-append f (f s x) l m
-
--- an instruction's definitions, then its uses: its own fields and those of its list
-abbrev written_by : Roles → List ℕ
-written_by p = take p.defs (numbers_of p.reg)
-
-abbrev read_by : Roles → List ℕ
-read_by p = drop p.defs (take p.n (numbers_of p.reg))
-
-module _ (i : Inst) {q : Roles} (e : q ≡ roles_of i) (ops t : List ℕ) {t₁ t₂ t₃ : List ℕ} where
-  pub count-one : t₁ ≡ over (counted 1 255) t (written_by q) → t₂ ≡ over (counted 2 cap) t₁ (read_by q) →
-      t₃ ≡ over (counted 2 cap) t₂ (operands_of ops q.list) → t₃ ≡ count_inst ops t i
-  count-one h m n =
-      n
-      ∙ ap (λ (s : List ℕ). over (counted 2 cap) s (operands_of ops q.list)) m
-      ∙ sym (over-append (counted 2 cap) t₁ (read_by q) (operands_of ops q.list))
-      ∙ ap (over (counted 2 cap) t₁) (ap (λ (p : Roles). read_by p ++ operands_of ops p.list) e ∙ reads_all ops i)
-      ∙ ap (λ (s : List ℕ). over (counted 2 cap) s (reads_of ops i)) (h ∙ ap (over (counted 1 255) t) (ap written_by e ∙ defs_first i))
-
-pub few-defs : {q : Roles} (i : Inst) → q ≡ roles_of i → q.defs ≤ 5
-few-defs i g = rw g (defs-few i)
-
-pub few-all : {q : Roles} (i : Inst) → q ≡ roles_of i → q.n ≤ 5
-few-all i g = rw g (n-few i)
-
--- what is counted at a record is what is counted at its row of the table of kinds
-pub counted_as : (b t : List ℕ) (r : Record) (k : ℕ) {q : Record} → r ≡ q → r.kind ≡ k
-    → count_inst (operands_in b) t (get_or (insts_of r) k Stmt) ≡ count_inst (operands_in b) t (inst_of q)
-counted_as b t r k i e = ap (count_inst (operands_in b) t) (inst-at r k e ∙ ap inst_of i)
+over_append f s [] m = refl
+over_append f s (x ∷ l) m = over_append f (f s x) l m

@@ -1,5 +1,5 @@
 -- Storage, not the paper's: how the private functions fill the table, step by step.
-use Rattle.std.specs.Prelude.{ℕ, ◌+◌, ◌*◌, List, [], ◌∷◌, Bool, ◌&&◌, cond, not, eqb, ltb, length, get_or, set}
+use Rattle.std.specs.Prelude.{ℕ, ◌+◌, ◌*◌, List, [], ◌∷◌, Bool, ◌&&◌, cond, not, eqb, ltb, length, get_or, set, Option, Some, None}
 use Rattle.inst.specs.declared.Code.{Code}
 use Rattle.inst.specs.declared.Inst.{Inst}
 use Rattle.roles.specs.Roles.{defs_of, reads_of}
@@ -40,6 +40,10 @@ with_word t d v = cond (ready t d (λ k. not (eqb k 1))) (set (set t (5 * d + 3)
 
 unfoldable pub with_konst : List ℕ → ℕ → List ℕ
 with_konst t d = cond (ready t d (λ k. eqb k 0)) (set t (5 * d + 3) 2) t
+
+abbrev pub with_constant : List ℕ → ℕ → Option ℕ → List ℕ
+with_constant t d (Some v) = with_word t d v
+with_constant t d None = with_konst t d
 
 -- what one instruction says about the class of the register that it writes
 abbrev pub class_in : List ℕ → Form → List ℕ

@@ -28,7 +28,7 @@ pub fn facts(code: &[u8], operands: &[u8], registers: &[u8], kinds: &[u8], table
         ≡ table_of table.old (kinds_of registers.now ++ kinds.now) (operands_in operands.now)
         (codes_of code.now) }
 {
-    let n = general::least(registers.len() / 32 + kinds.len(), table.len() / facts::ROW);
+    let n = usize::min(registers.len() / 32 + kinds.len(), table.len() / facts::ROW);
     fill(
         code,
         operands,

@@ -34,9 +34,7 @@ pub fn start(registers: &[u8], kinds: &[u8], table: &mut [u64])
     requires { length table.old ≡ 5 * (length table.old / 5) }
     ensures { table.new ≡ rows (length table.old / 5) (bare (kinds_of registers.now ++ kinds.now)) }
 {
-    let mut k = 0;
-    while k < table.len() / facts::ROW {
+    for k in 0..table.len() / facts::ROW {
         put_row(table, facts::ROW * k, kind_of(registers, kinds, k));
-        k += 1;
     }
 }

@@ -3,7 +3,7 @@ use Prim.Native.Nat.{ℕ, ◌≤◌}
 use mathlib.Core.Path.{◌≡◌, refl, sym, ap, subst, ◌∙◌}
 use mathlib.Core.Logic.{inl, inr}
 use mathlib.Core.List.{List, [], ◌∷◌, map, map-map, append-nil}
-use mathlib.Core.Option.{none, some}
+use Rattle.std.proofs.Common.{None, Some}
 use mathlib.Core.Bool.{Bool, true, false, ◌&&◌, ◌||◌, cond}
 use lib.Dec.{eqb, ltb}
 use lib.ListN.{length}
@@ -177,8 +177,8 @@ module _ (E : Setting) where
 
     -- what each way says of the instruction
     pub data Way (x : Code) : How → Type 0 where
-      way_out : (d v : ℕ) → defs_at x ≡ d ∷ [] → E.one d ≡ true → constant_of E.address x.inst ≡ some v → Way x left_out
-      way_new : (d : ℕ) → defs_at x ≡ d ∷ [] → E.one d ≡ true → all_own d ≡ true → constant_of E.address x.inst ≡ none → Way x (renumbered d)
+      way_out : (d v : ℕ) → defs_at x ≡ d ∷ [] → E.one d ≡ true → constant_of E.address x.inst ≡ Some v → Way x left_out
+      way_new : (d : ℕ) → defs_at x ≡ d ∷ [] → E.one d ≡ true → all_own d ≡ true → constant_of E.address x.inst ≡ None → Way x (renumbered d)
       way_kept : ((d : ℕ) → In d (defs_at x) → E.one d ≡ true → all_own d ≡ true → ⊥) → Way x kept
 
     pub way_last : (x : Code) → Last x → Way x (how_of f own x.inst)

@@ -3,7 +3,7 @@ use Prim.Native.Nat.{ℕ, suc, ◌+◌, ◌≤◌, ◌<◌}
 use mathlib.Core.Path.{◌≡◌, refl, sym, ap, subst, ◌∙◌}
 use mathlib.Core.Logic.{◌⊎◌, inl, inr}
 use mathlib.Core.List.{List, [], ◌∷◌, ◌++◌, map-id}
-use mathlib.Core.Option.{Option, none, some}
+use Rattle.std.proofs.Common.{Option, None, Some}
 use mathlib.Core.Bool.{false, ◌&&◌}
 use native.Mathlib.Omega.{arith}
 use native.Mathlib.Decide.{ℕ_discrete}
@@ -39,25 +39,25 @@ module _ (E : Setting) (f : Facts) (same-one : (r : ℕ) → (ltb r (length f.re
 
   -- what is read in a copied instruction
   pub read_through_lem : (x : Code) (local : List (ℕ × ℕ)) (τ : ℕ → ℕ) → list_of x.inst ≡ no_list → (r : ℕ) → In r (reads_at E.operands (renamed local τ x))
-      → (s : ℕ) × In s (reads_at E.operands x) × (((found s local ≡ none) × (s ≡ r)) ⊎ (found s local ≡ some r))
+      → (s : ℕ) × In s (reads_at E.operands x) × (((found s local ≡ None) × (s ≡ r)) ⊎ (found s local ≡ Some r))
   read_through_lem x local τ u r k =
       let t = in_map (read_through local) r (reads_at E.operands x) (subst (In r) (renamed-reads E (read_through local) τ x u) k) in
       (t.0, t.2, by t.0 (found t.0 local) refl t.1)
     where
-      by : (s : ℕ) (o : Option ℕ) → found s local ≡ o → r ≡ value_or s o → ((found s local ≡ none) × (s ≡ r)) ⊎ (found s local ≡ some r)
-      by s none z q = inl (z, sym q)
-      by s (some j) z q = inr (cc)
+      by : (s : ℕ) (o : Option ℕ) → found s local ≡ o → r ≡ value_or s o → ((found s local ≡ None) × (s ≡ r)) ⊎ (found s local ≡ Some r)
+      by s None z q = inl (z, sym q)
+      by s (Some j) z q = inr (cc)
 
   -- a register that the copy exposes is exposed in the code, or isn't local; or it is a number that it got
   abbrev Seen : List Code → List (ℕ × ℕ) → ℕ → Type 0
-  Seen c local r = (Exposed E.operands c r × (found r local ≡ none)) ⊎ (E.local r ≡ false) ⊎ ((s : ℕ) × (found s local ≡ some r))
+  Seen c local r = (Exposed E.operands c r × (found r local ≡ None)) ⊎ (E.local r ≡ false) ⊎ ((s : ℕ) × (found s local ≡ Some r))
 
   seen_read : (x : Code) (c : List Code) (local : List (ℕ × ℕ)) (τ : ℕ → ℕ) → list_of x.inst ≡ no_list → (r : ℕ)
       → In r (reads_at E.operands (renamed local τ x)) → Seen (x ∷ c) local r
   seen_read x c local τ u r k = by (read_through_lem x local τ u r k)
     where
-      by : (s : ℕ) × In s (reads_at E.operands x) × (((found s local ≡ none) × (s ≡ r)) ⊎ (found s local ≡ some r)) → Seen (x ∷ c) local r
-      by (s, k, inl z) = inl (inl (subst (λ w. In w (reads_at E.operands x)) z.1 k), subst (λ w. found w local ≡ none) z.1 z.0)
+      by : (s : ℕ) × In s (reads_at E.operands x) × (((found s local ≡ None) × (s ≡ r)) ⊎ (found s local ≡ Some r)) → Seen (x ∷ c) local r
+      by (s, k, inl z) = inl (inl (subst (λ w. In w (reads_at E.operands x)) z.1 k), subst (λ w. found w local ≡ None) z.1 z.0)
       by (s, k, inr z) = inr (inr (s, z))
 
   module _ (x : Code) (c : List Code) (local : List (ℕ × ℕ)) (m : ℕ) (s : Silent E x) (fine : Fine E x) where
@@ -80,25 +80,25 @@ module _ (E : Setting) (f : Facts) (same-one : (r : ℕ) → (ltb r (length f.re
         not_m : ¬ (r ≡ m)
         not_m e = n (rw (defs-new x local d m s.unlisted p) (inl e))
 
-        none_before : (r : ℕ) → found r (local ++ ((d, m) ∷ [])) ≡ none → (¬ (r ≡ d)) × (found r local ≡ none)
+        none_before : (r : ℕ) → found r (local ++ ((d, m) ∷ [])) ≡ None → (¬ (r ≡ d)) × (found r local ≡ None)
         none_before r v = by (found r local) refl
           where
-            by : (o : Option ℕ) → found r local ≡ o → (¬ (r ≡ d)) × (o ≡ none)
-            by none y = (
-              λ e. clash_some (subst (λ u. found u (local ++ ((d, m) ∷ [])) ≡ some m) (sym e)
-                  (found-new d m local (subst (λ u. found u local ≡ none) e y))) v,
+            by : (o : Option ℕ) → found r local ≡ o → (¬ (r ≡ d)) × (o ≡ None)
+            by None y = (
+              λ e. clash_some (subst (λ u. found u (local ++ ((d, m) ∷ [])) ≡ Some m) (sym e)
+                  (found-new d m local (subst (λ u. found u local ≡ None) e y))) v,
               refl,
             )
-            by (some j) y = clash_some (found-old d m local r j y) v
+            by (Some j) y = clash_some (found-old d m local r j y) v
 
-        from : (u : ℕ) → found u (local ++ ((d, m) ∷ [])) ≡ some r → Dec (u ≡ d) → (o : Option ℕ) → found u local ≡ o → (s : ℕ) × (found s local ≡ some r)
-        from u v e (some j) y = let t = found-old d m local u j y in (u, cc)
-        from u v (yes e) none y =
-            let t : found u (local ++ ((d, m) ∷ [])) ≡ some m = subst (λ u. found u (local ++ ((d, m) ∷ [])) ≡ some m) (sym e)
-            (found-new d m local (subst (λ u. found u local ≡ none) e y)) in
+        from : (u : ℕ) → found u (local ++ ((d, m) ∷ [])) ≡ Some r → Dec (u ≡ d) → (o : Option ℕ) → found u local ≡ o → (s : ℕ) × (found s local ≡ Some r)
+        from u v e (Some j) y = let t = found-old d m local u j y in (u, cc)
+        from u v (yes e) None y =
+            let t : found u (local ++ ((d, m) ∷ [])) ≡ Some m = subst (λ u. found u (local ++ ((d, m) ∷ [])) ≡ Some m) (sym e)
+            (found-new d m local (subst (λ u. found u local ≡ None) e y)) in
             let i : r ≡ m = cc in
             absurd (not_m i)
-        from u v (no e) none y = clash_some v (found-other d m local u e ∙ y)
+        from u v (no e) None y = clash_some v (found-other d m local u e ∙ y)
 
         by : Seen c (local ++ ((d, m) ∷ [])) r → Seen (x ∷ c) local r
         by (inl v) = let t = none_before r v.1 in inl (inr (λ u. t.0 (only r d (subst (In r) p u)), v.0), t.1)
@@ -143,25 +143,25 @@ module _ (E : Setting) (f : Facts) (same-one : (r : ℕ) → (ltb r (length f.re
   module _ (n₀ : ℕ) (above : E.size ≤ n₀) where
     -- the numbers given so far are below m
     abbrev Given : List (ℕ × ℕ) → ℕ → Type 0
-    Given local m = (n₀ ≤ m) × ((r k : ℕ) → found r local ≡ some k → k < m)
+    Given local m = (n₀ ≤ m) × ((r k : ℕ) → found r local ≡ Some k → k < m)
 
     given-more : (local : List (ℕ × ℕ)) (d m : ℕ) → Given local m → Given (local ++ ((d, m) ∷ [])) (suc m)
     given-more local d m g = (let z = g.0 in omega arith, λ r k q. by r k q (ℕ_discrete r d) (found r local) refl)
       where
-        by : (r k : ℕ) → found r (local ++ ((d, m) ∷ [])) ≡ some k → Dec (r ≡ d) → (o : Option ℕ) → found r local ≡ o → k < suc m
-        by r k q e (some j) z = let t = found-old d m local r j z in let i : j ≡ k = cc in let b = g.1 r j z in omega arith
-        by r k q (yes e) none z =
-            let t : found r (local ++ ((d, m) ∷ [])) ≡ some m =
-            subst (λ u. found u (local ++ ((d, m) ∷ [])) ≡ some m) (sym e) (found-new d m local (subst (λ u. found u local ≡ none) e z)) in
+        by : (r k : ℕ) → found r (local ++ ((d, m) ∷ [])) ≡ Some k → Dec (r ≡ d) → (o : Option ℕ) → found r local ≡ o → k < suc m
+        by r k q e (Some j) z = let t = found-old d m local r j z in let i : j ≡ k = cc in let b = g.1 r j z in omega arith
+        by r k q (yes e) None z =
+            let t : found r (local ++ ((d, m) ∷ [])) ≡ Some m =
+            subst (λ u. found u (local ++ ((d, m) ∷ [])) ≡ Some m) (sym e) (found-new d m local (subst (λ u. found u local ≡ None) e z)) in
             let i : m ≡ k = cc in
             omega arith
-        by r k q (no e) none z = clash_some q (found-other d m local r e ∙ z)
+        by r k q (no e) None z = clash_some q (found-other d m local r e ∙ z)
 
     module _ (x : Code) (local : List (ℕ × ℕ)) (m : ℕ) (unlisted : list_of x.inst ≡ no_list) (low : Low E n₀ x) (g : Given local m) where
       reads-low : (τ : ℕ → ℕ) (r : ℕ) → In r (reads_at E.operands (renamed local τ x)) → r < m
       reads-low τ r k = by (read_through_lem x local τ unlisted r k)
         where
-          by : (s : ℕ) × In s (reads_at E.operands x) × (((found s local ≡ none) × (s ≡ r)) ⊎ (found s local ≡ some r)) → r < m
+          by : (s : ℕ) × In s (reads_at E.operands x) × (((found s local ≡ None) × (s ≡ r)) ⊎ (found s local ≡ Some r)) → r < m
           by (s, k, inl z) = let a = low s (inr k) in let b = g.0 in let i = z.1 in omega arith
           by (s, k, inr z) = g.1 s r z
 

@@ -3,7 +3,7 @@ use Prim.Native.Nat.{ℕ, suc, ◌≤◌, ◌<◌}
 use mathlib.Core.Path.{◌≡◌, refl, sym, ap, subst, ◌∙◌}
 use mathlib.Core.Logic.{◌⊎◌, inl, inr}
 use mathlib.Core.List.{List, [], ◌∷◌, ◌++◌, map}
-use mathlib.Core.Option.{Option, none, some}
+use Rattle.std.proofs.Common.{Option, None, Some}
 use mathlib.Core.Bool.{Bool, true, false, ◌&&◌}
 use native.Mathlib.Omega.{arith}
 use native.Mathlib.Decide.{ℕ_discrete}
@@ -60,27 +60,27 @@ module _ (E : Setting) (f : Facts) (same-one : (r : ℕ) → (ltb r (length f.re
 
   -- the numbers given so far are new, and given to registers whose uses are all in the block
   abbrev Given : List (ℕ × ℕ) → Type 0
-  Given local = (r k : ℕ) → found r local ≡ some k → (n₀ ≤ k) × (owned r ≡ true)
+  Given local = (r k : ℕ) → found r local ≡ Some k → (n₀ ≤ k) × (owned r ≡ true)
 
   given-more : (local : List (ℕ × ℕ)) (e m : ℕ) → n₀ ≤ m → owned e ≡ true → Given local → Given (local ++ ((e, m) ∷ []))
   given-more local e m l o g r k q = by (ℕ_discrete r e) (found r local) refl
     where
       by : Dec (r ≡ e) → (o : Option ℕ) → found r local ≡ o → (n₀ ≤ k) × (owned r ≡ true)
-      by i (some j) z = let t = found-old e m local r j z in let u : j ≡ k = cc in let v = g r j z in (omega (arith, v.0), v.1)
-      by (yes i) none z =
-          let t : found r (local ++ ((e, m) ∷ [])) ≡ some m =
-          subst (λ u. found u (local ++ ((e, m) ∷ [])) ≡ some m) (sym i) (found-new e m local (subst (λ u. found u local ≡ none) i z)) in
+      by i (Some j) z = let t = found-old e m local r j z in let u : j ≡ k = cc in let v = g r j z in (omega (arith, v.0), v.1)
+      by (yes i) None z =
+          let t : found r (local ++ ((e, m) ∷ [])) ≡ Some m =
+          subst (λ u. found u (local ++ ((e, m) ∷ [])) ≡ Some m) (sym i) (found-new e m local (subst (λ u. found u local ≡ None) i z)) in
           let u : m ≡ k = cc in
           (omega arith, ap owned i ∙ o)
-      by (no i) none z = clash_some q (found-other e m local r i ∙ z)
+      by (no i) None z = clash_some q (found-other e m local r i ∙ z)
 
   -- what reads d in the copy reads it in the block
   read-before : (x : Code) (local : List (ℕ × ℕ)) (τ : ℕ → ℕ) → list_of x.inst ≡ no_list → Given local → In d (reads_at ops (renamed local τ x))
-      → In d (reads_at ops x) × (found d local ≡ none)
+      → In d (reads_at ops x) × (found d local ≡ None)
   read-before x local τ u g k = by (read_through_lem E f same-one own x local τ u d k)
     where
-      by : (s : ℕ) × In s (reads_at ops x) × (((found s local ≡ none) × (s ≡ d)) ⊎ (found s local ≡ some d)) → In d (reads_at ops x) × (found d local ≡ none)
-      by (s, k, inl z) = (subst (λ r. In r (reads_at ops x)) z.1 k, subst (λ r. found r local ≡ none) z.1 z.0)
+      by : (s : ℕ) × In s (reads_at ops x) × (((found s local ≡ None) × (s ≡ d)) ⊎ (found s local ≡ Some d)) → In d (reads_at ops x) × (found d local ≡ None)
+      by (s, k, inl z) = (subst (λ r. In r (reads_at ops x)) z.1 k, subst (λ r. found r local ≡ None) z.1 z.0)
       by (s, k, inr z) = let t = g s d z in let v = low_d in absurd (omega (arith, t.0))
 
   new_unwritten : (x : Code) (local : List (ℕ × ℕ)) (e m : ℕ) → list_of x.inst ≡ no_list → defs_at x ≡ e ∷ [] → n₀ ≤ m
@@ -113,7 +113,7 @@ module _ (E : Setting) (f : Facts) (same-one : (r : ℕ) → (ltb r (length f.re
 
     -- d has a number by now, or isn't exposed
     abbrev Safe : List Code → List (ℕ × ℕ) → Type 0
-    Safe c local = found d local ≡ none → ¬ (Exposed ops c d)
+    Safe c local = found d local ≡ None → ¬ (Exposed ops c d)
 
     unread_by : (x : Code) (c : List Code) (local : List (ℕ × ℕ)) (m : ℕ) → list_of x.inst ≡ no_list → Fine E x → n₀ ≤ m → Given local
         → Safe (x ∷ c) local → (w : How) → W x w
@@ -132,10 +132,10 @@ module _ (E : Setting) (f : Facts) (same-one : (r : ℕ) → (ltb r (length f.re
         safe y = by (ℕ_discrete d e) (found d local) refl
           where
             by : Dec (d ≡ e) → (o : Option ℕ) → found d local ≡ o → ¬ (Exposed ops c d)
-            by i (some j) t = λ r. clash_some (found-old e m local d j t) y
-            by (yes i) none t = λ r. clash_some (subst (λ u. found u (local ++ ((e, m) ∷ [])) ≡ some m) (sym i)
-                (found-new e m local (subst (λ u. found u local ≡ none) i t))) y
-            by (no i) none t = λ r. s t (inr (λ a. i (only E f same-one own d e (subst (In d) p a)), r))
+            by i (Some j) t = λ r. clash_some (found-old e m local d j t) y
+            by (yes i) None t = λ r. clash_some (subst (λ u. found u (local ++ ((e, m) ∷ [])) ≡ Some m) (sym i)
+                (found-new e m local (subst (λ u. found u local ≡ None) i t))) y
+            by (no i) None t = λ r. s t (inr (λ a. i (only E f same-one own d e (subst (In d) p a)), r))
     unread_by x c local m u fine l g s w (way_kept z) ih (inl k) = let t = read-before x local (λ r. r) u g k in s t.1 (inl t.0)
     unread_by x c local m u fine l g s w (way_kept z) ih (inr k) = ih local m l g (λ v y. s v (inr (λ t. z d t one_d own-d, y))) k
 
@@ -191,8 +191,8 @@ module _ (E : Setting) (f : Facts) (same-one : (r : ℕ) → (ltb r (length f.re
     through_d local g = by (found d local) refl
       where
         by : (o : Option ℕ) → found d local ≡ o → value_or d o ≡ d
-        by none z = refl
-        by (some k) z = clash (g d k z).1 else-d
+        by None z = refl
+        by (Some k) z = clash (g d k z).1 else-d
 
     read_on : (x : Code) (local : List (ℕ × ℕ)) (τ : ℕ → ℕ) → list_of x.inst ≡ no_list → Given local → In d (reads_at ops x)
         → In d (reads_at ops (renamed local τ x))

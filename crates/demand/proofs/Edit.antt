@@ -3,7 +3,7 @@ use Prim.Native.Nat.{ℕ, ◌*◌, ◌≤◌}
 use mathlib.Core.Path.{◌≡◌, refl, sym, ap, subst₂, ◌∙◌}
 use mathlib.Core.Logic.{◌⊎◌, inl, inr}
 use mathlib.Core.List.{List, [], ◌∷◌, ◌++◌}
-use mathlib.Core.Option.{Option, none, some}
+use Rattle.std.proofs.Common.{Option, None, Some}
 use mathlib.Core.Bool.{false}
 use native.Mathlib.Omega.{arith}
 use lib.ListN.{get_or}
@@ -123,8 +123,8 @@ module _ (E : Setting) where
               → ((vs : List ℕ) → Ahead y (stores (defs_at x) vs g))
               → R (answered E.outside E.address (code E rs P) o q (defs_at x) c g h)
               (answered E.outside E.address (code E rs' P') o q (defs_at x) c' g' h)
-          answer_on none q k b = over _ _
-          answer_on (some vs) q k b = rest y _ _ _ (b vs) (k vs) (agree_stores x c' g g' vs a)
+          answer_on None q k b = over _ _
+          answer_on (Some vs) q k b = rest y _ _ _ (b vs) (k vs) (agree_stores x c' g g' vs a)
 
           go : (e : Effect) → Passes e (defs_at x) (Loaded E) g → Passes e (defs_at x) (Ahead y) g
               → R (after E.outside E.address (code E rs P) e (defs_at x) c g h) (after E.outside E.address (code E rs' P') e (defs_at x) c' g' h)

@@ -3,12 +3,11 @@ use Prim.Native.Nat.{ℕ, zero, suc, ◌≤◌}
 use mathlib.Core.Path.{◌≡◌, refl, sym, subst, ◌∙◌}
 use mathlib.Core.Logic.{inl, inr}
 use mathlib.Core.List.{List, [], ◌∷◌, ◌++◌, map}
-use mathlib.Core.Option.{Option, none, some}
+use Rattle.std.proofs.Common.{Option, None, Some}
 use mathlib.Core.Bool.{Bool, true, false, cond}
 use native.Mathlib.Omega.{arith}
 use native.Mathlib.Decide.{ℕ_discrete}
 use lib.ListN.{length, get_or}
-use Rattle.inst.specs.declared.OptReg.TheVariants as o
 use Rattle.inst.specs.declared.Reg.{Reg}
 use Rattle.inst.specs.declared.BlockId.{BlockId}
 use Rattle.inst.specs.declared.Inst.{Inst}
@@ -117,8 +116,8 @@ module _ (address : Address) where
   shape (i.Br l) = going l refl (outer _ refl refl refl refl (omega arith) refl) (λ t s k w. refl)
   shape (i.CondBr c l m) = testing c l m refl refl (outer _ refl refl refl refl (omega arith) refl) (λ t s k w. refl)
   shape (i.Case v n) = casing n refl (outer _ refl refl refl refl (omega arith) refl) (λ t s k w. refl)
-  shape (i.Ret (o.Some v)) = ending (λ s vs. returned (first_of vs) s) refl (outer _ refl refl refl refl (omega arith) refl) (λ t s k w. refl)
-  shape (i.Ret o.None) = ending (λ s vs. returned (first_of vs) s) refl (outer _ refl refl refl refl (omega arith) refl) (λ t s k w. refl)
+  shape (i.Ret (Some v)) = ending (λ s vs. returned (first_of vs) s) refl (outer _ refl refl refl refl (omega arith) refl) (λ t s k w. refl)
+  shape (i.Ret None) = ending (λ s vs. returned (first_of vs) s) refl (outer _ refl refl refl refl (omega arith) refl) (λ t s k w. refl)
   shape (i.Unreachable w) = ending (λ s vs. unreachable w s) refl (outer _ refl refl refl refl (omega arith) refl) (λ t s k v. refl)
   shape i.Stmt = acting refl (inner _ _ refl refl refl) (λ t s k w. refl)
 
@@ -144,15 +143,15 @@ module _ (address : Address) where
     pub unlisted : list_of x ≡ no_list
     pub always : (tables : List Table) (s : ℕ) (kinds values : List ℕ) → effect address tables s kinds values x ≡ writes (v ∷ [])
 
-  pub varies : (x : Inst) → is_fixed (fixed_of x) ≡ false → constant_of address x ≡ none
+  pub varies : (x : Inst) → is_fixed (fixed_of x) ≡ false → constant_of address x ≡ None
   unfolding constant_of
   varies x e = rw e
 
-  pub fixed_constant : (x : Inst) → is_fixed (fixed_of x) ≡ true → (v : ℕ) × (constant_of address x ≡ some v) × Fixes x v
+  pub fixed_constant : (x : Inst) → is_fixed (fixed_of x) ≡ true → (v : ℕ) × (constant_of address x ≡ Some v) × Fixes x v
   unfolding constant_of
   fixed_constant x y = by (shape x)
     where
-      by : Shape x → (v : ℕ) × (constant_of address x ≡ some v) × Fixes x v
+      by : Shape x → (v : ℕ) × (constant_of address x ≡ Some v) × Fixes x v
       by (constant d v e u l c f a) = (v, rw (y, a [] 0 [] []), record { d = d; one = e; alone = u; unlisted = l; always = a })
       by (computed d F e l f a) = clash y f.is-fixed
       by (acting u f a) = clash y f.is-fixed
@@ -161,7 +160,7 @@ module _ (address : Address) where
       by (casing n q f a) = clash y f.varies
       by (ending F q f a) = clash y f.varies
 
-  pub constant_fixes : (x : Inst) (v : ℕ) → constant_of address x ≡ some v → Fixes x v
+  pub constant_fixes : (x : Inst) (v : ℕ) → constant_of address x ≡ Some v → Fixes x v
   constant_fixes x v c = by (is_fixed (fixed_of x)) refl
     where
       by : (b : Bool) → is_fixed (fixed_of x) ≡ b → Fixes x v
@@ -172,7 +171,7 @@ module _ (E : Setting) where
   pub effect_is : (rs : List ℕ) (P : List (List Code)) (x : Code) (g : Regs) → effect_of E.outside E.address (code E rs P) x g ≡ does E x g
   effect_is rs P x g = no_kinds E.address x.inst _ _ _ _ _
 
-  pub constant_does : (x : Code) (v : ℕ) (g : Regs) → constant_of E.address x.inst ≡ some v → does E x g ≡ writes (v ∷ [])
+  pub constant_does : (x : Code) (v : ℕ) (g : Regs) → constant_of E.address x.inst ≡ Some v → does E x g ≡ writes (v ∷ [])
   constant_does x v g c = (constant_fixes E.address x.inst v c).always _ _ _ _
 
   -- where an instruction goes on, a fact holds that holds whatever is stored
@@ -199,17 +198,17 @@ module _ (E : Setting) where
   keeps x g fine l = by (constant_of E.address x.inst) refl
     where
       by : (o : Option ℕ) → constant_of E.address x.inst ≡ o → Passes (does E x g) (defs_at x) (Loaded E) g
-      by none c = passes_any (Loaded E) (does E x g) (defs_at x) g (λ vs r w e. other vs r w e (dec_in r (defs_at x)))
+      by None c = passes_any (Loaded E) (does E x g) (defs_at x) g (λ vs r w e. other vs r w e (dec_in r (defs_at x)))
         where
-          other : (vs : List ℕ) (r w : ℕ) → E.single r ≡ some w → Dec (In r (defs_at x)) → stores (defs_at x) vs g r ≡ w
+          other : (vs : List ℕ) (r w : ℕ) → E.single r ≡ Some w → Dec (In r (defs_at x)) → stores (defs_at x) vs g r ≡ w
           other vs r w e (yes m) = clash_some e (fine r m (E.single-one r w e) ∙ c)
           other vs r w e (no n) = stores-other (defs_at x) vs g r n ∙ l r w e
-      by (some v) c = rw (constant_does x v g c, f.one) (λ r w e. at_one r w e (ℕ_discrete r f.d))
+      by (Some v) c = rw (constant_does x v g c, f.one) (λ r w e. at_one r w e (ℕ_discrete r f.d))
         where
           f : Fixes E.address x.inst v
           f = constant_fixes E.address x.inst v c
 
-          at_one : (r w : ℕ) → E.single r ≡ some w → Dec (r ≡ f.d) → upd f.d v g r ≡ w
+          at_one : (r w : ℕ) → E.single r ≡ Some w → Dec (r ≡ f.d) → upd f.d v g r ≡ w
           at_one r w e (yes q) =
               let m : In r (defs_at x) = rw f.one (inl q) in
               upd_same f.d v g r q ∙ cc (fine r m (E.single-one r w e))

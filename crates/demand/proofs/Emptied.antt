@@ -3,7 +3,7 @@ use Prim.Native.Nat.{ℕ, zero, suc, ◌<◌}
 use mathlib.Core.Path.{◌≡◌, refl, sym, subst, subst₂, ◌∙◌}
 use mathlib.Core.Logic.{◌⊎◌, inl, inr}
 use mathlib.Core.List.{List, [], ◌∷◌, map}
-use mathlib.Core.Option.{Option, none, some}
+use Rattle.std.proofs.Common.{Option, None, Some}
 use mathlib.Core.Bool.{Bool, true, false, cond}
 use native.Mathlib.Omega.{arith}
 use lib.ListN.{length, get_or}
@@ -140,8 +140,8 @@ module _ (E : Setting) where
       module _ (x : Code) (c : List Code) (g : Regs) (h : List Act) (p : Each Leads (x ∷ c)) where
         answer_on : (o : Option (List ℕ)) (q : Act) → R (answered E.outside E.address (code E rs P) o q (defs_at x) c g h)
             (answered E.outside E.address (code E rs' P') o q (defs_at x) c g h)
-        answer_on none q = over _ _
-        answer_on (some vs) q = ran c _ _ p.1
+        answer_on None q = over _ _
+        answer_on (Some vs) q = ran c _ _ p.1
 
         go : (d : Effect) → does E x g ≡ d → R (after E.outside E.address (code E rs P) d (defs_at x) c g h)
             (after E.outside E.address (code E rs' P') d (defs_at x) c g h)

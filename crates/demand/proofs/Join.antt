@@ -3,7 +3,7 @@ use Prim.Native.Nat.{ℕ, ◌+◌, ◌≤◌, ◌<◌}
 use mathlib.Core.Path.{◌≡◌, refl, sym, ap, subst, ◌∙◌}
 use mathlib.Core.Logic.{◌⊎◌, inl, inr}
 use mathlib.Core.List.{List, [], ◌∷◌, ◌++◌, append-nil}
-use mathlib.Core.Option.{some}
+use Rattle.std.proofs.Common.{Some}
 use mathlib.Core.Bool.{Bool, true, false, ◌&&◌}
 use native.Mathlib.Omega.{arith}
 use lib.Dec.{T, ltb, leb, leb→le}
@@ -164,7 +164,7 @@ module _ (E : Setting) where
           by [] n = absurd (n refl)
           by (x ∷ d) n = front-append pre x d
 
-      none-given : (r k : ℕ) → found r [] ≡ some k → (m ≤ k) × (all_own E f same-one own r ≡ true)
+      none-given : (r k : ℕ) → found r [] ≡ Some k → (m ≤ k) × (all_own E f same-one own r ≡ true)
       unfolding found
       none-given r k q = clash_some q refl
 

@@ -3,7 +3,7 @@ use Prim.Native.Nat.{ℕ, suc, ◌+◌, ◌≤◌, ◌<◌}
 use mathlib.Core.Path.{◌≡◌, refl, sym, ap, subst, subst₂, ◌∙◌}
 use mathlib.Core.Logic.{◌⊎◌, inl, inr}
 use mathlib.Core.List.{List, [], ◌∷◌, ◌++◌, map}
-use mathlib.Core.Option.{Option, none, some}
+use Rattle.std.proofs.Common.{Option, None, Some}
 use mathlib.Core.Bool.{Bool, true, false, ◌&&◌, cond}
 use native.Mathlib.Omega.{arith}
 use native.Mathlib.Decide.{ℕ_discrete}
@@ -31,8 +31,8 @@ use Rattle.demand.proofs.Copied.{all_own, Way, way_out, way_new, way_kept, way_l
 
 -- a register has a new number
 abbrev pub counted : Option ℕ → ℕ
-counted none = 0
-counted (some k) = 1
+counted None = 0
+counted (Some k) = 1
 
 abbrev pub renumberings : ℕ → List (ℕ × ℕ) → ℕ
 renumberings r local = counted (found r local)
@@ -41,30 +41,30 @@ module _ (d m : ℕ) where
   abbrev more : List (ℕ × ℕ) → List (ℕ × ℕ)
   more local = local ++ ((d, m) ∷ [])
 
-  pub found-old : (local : List (ℕ × ℕ)) (r k : ℕ) → found r local ≡ some k → found r (more local) ≡ some k
+  pub found-old : (local : List (ℕ × ℕ)) (r k : ℕ) → found r local ≡ Some k → found r (more local) ≡ Some k
   unfolding found
   found-old [] r k q = clash_some q refl
   found-old (x ∷ local) r k q = by (eqb x.0 r) q (found-old local r k)
     where
-      by : (t : Bool) → cond t (some x.1) (found r local) ≡ some k → (found r local ≡ some k → found r (more local) ≡ some k)
-          → cond t (some x.1) (found r (more local)) ≡ some k
+      by : (t : Bool) → cond t (Some x.1) (found r local) ≡ Some k → (found r local ≡ Some k → found r (more local) ≡ Some k)
+          → cond t (Some x.1) (found r (more local)) ≡ Some k
       by true q ih = q
       by false q ih = ih q
 
-  pub found-new : (local : List (ℕ × ℕ)) → found d local ≡ none → found d (more local) ≡ some m
+  pub found-new : (local : List (ℕ × ℕ)) → found d local ≡ None → found d (more local) ≡ Some m
   unfolding found
   found-new [] q = rw (eqb_true d d refl)
   found-new (x ∷ local) q = by (eqb x.0 d) q (found-new local)
     where
-      by : (t : Bool) → cond t (some x.1) (found d local) ≡ none → (found d local ≡ none → found d (more local) ≡ some m)
-          → cond t (some x.1) (found d (more local)) ≡ some m
+      by : (t : Bool) → cond t (Some x.1) (found d local) ≡ None → (found d local ≡ None → found d (more local) ≡ Some m)
+          → cond t (Some x.1) (found d (more local)) ≡ Some m
       by true q ih = clash_some refl q
       by false q ih = ih q
 
   pub found-other : (local : List (ℕ × ℕ)) (r : ℕ) → ¬ (r ≡ d) → found r (more local) ≡ found r local
   unfolding found
   found-other [] r n = rw (eqb_false d r (λ z. n (sym z)))
-  found-other (x ∷ local) r n = ap (cond (eqb x.0 r) (some x.1)) (found-other local r n)
+  found-other (x ∷ local) r n = ap (cond (eqb x.0 r) (Some x.1)) (found-other local r n)
 
 module _ (E : Setting) (f : Facts) (same-one : (r : ℕ) → (ltb r (length f.registers) && f.single r) ≡ E.one r) (own : ℕ → ℕ)
     (n₀ : ℕ) (above : E.size ≤ n₀) where
@@ -73,7 +73,7 @@ module _ (E : Setting) (f : Facts) (same-one : (r : ℕ) → (ltb r (length f.re
     pub loaded : Loaded E g
     pub fine : Each (Fine E) c
     pub agree : (r : ℕ) → Live E c r → g r ≡ g' (read_through local r)
-    pub entries : (r k : ℕ) → found r local ≡ some k
+    pub entries : (r k : ℕ) → found r local ≡ Some k
         → (E.one r ≡ true) × (E.local r ≡ true) × (all_own E f same-one own r ≡ true) × (n₀ ≤ k) × (k < m)
     pub low : Each (Low E n₀) c
     pub from : n₀ ≤ m
@@ -95,8 +95,8 @@ module _ (E : Setting) (f : Facts) (same-one : (r : ℕ) → (ltb r (length f.re
       shared_through r q = by (found r local) refl
         where
           by : (o : Option ℕ) → found r local ≡ o → value_or r o ≡ r
-          by none z = refl
-          by (some k) z = clash (y.entries r k z).1 q
+          by None z = refl
+          by (Some k) z = clash (y.entries r k z).1 q
 
       meets : Meet E g g'
       meets r q = y.agree r (inl q) ∙ ap g' (shared_through r q)
@@ -167,15 +167,15 @@ module _ (E : Setting) (f : Facts) (same-one : (r : ℕ) → (ltb r (length f.re
           through_d = by (found d local) refl
             where
               by : (o : Option ℕ) → found d local ≡ o → value_or d o ≡ d
-              by none z = refl
-              by (some k) z = let t = y.entries d k z in absurd (kept-d t.0 t.2)
+              by None z = refl
+              by (Some k) z = let t = y.entries d k z in absurd (kept-d t.0 t.2)
 
           off : (r : ℕ) → ¬ (r ≡ d) → ¬ (read_through local r ≡ d)
           off r n = by (found r local) refl
             where
               by : (o : Option ℕ) → found r local ≡ o → ¬ (value_or r o ≡ d)
-              by none z = n
-              by (some k) z = λ q. let t = y.entries r k z in let u = low_d in absurd (omega (arith, t.3))
+              by None z = n
+              by (Some k) z = λ q. let t = y.entries r k z in let u = low_d in absurd (omega (arith, t.3))
 
           agree_kept : (r : ℕ) → Live E c r → upd d v g r ≡ upd d v g' (read_through local r)
           agree_kept r l = by (ℕ_discrete r d)
@@ -205,23 +205,23 @@ module _ (E : Setting) (f : Facts) (same-one : (r : ℕ) → (ltb r (length f.re
           through-below r l = by (found r local) refl
             where
               by : (o : Option ℕ) → found r local ≡ o → ¬ (value_or r o ≡ m)
-              by none z = λ q. let u = live_low r l in let w = y.from in absurd (omega arith)
-              by (some k) z = λ q. let t = y.entries r k z in absurd (omega (arith, t.4))
+              by None z = λ q. let u = live_low r l in let w = y.from in absurd (omega arith)
+              by (Some k) z = λ q. let t = y.entries r k z in absurd (omega (arith, t.4))
 
           -- it has none yet, or isn't read any more
-          fresh : Live E c d → found d local ≡ none
+          fresh : Live E c d → found d local ≡ None
           fresh l = by (found d local) refl (y.once d one_d local_d own-d)
             where
               read_on : Live E c d → Read E.operands c d
               read_on (inl q) = clash local_d q
               read_on (inr z) = exposed-read E.operands c d z
 
-              by : (o : Option ℕ) → found d local ≡ o → (writes_in (x ∷ c) d + counted o ≤ 1) ⊎ (¬ (Read E.operands (x ∷ c) d)) → o ≡ none
-              by none z w = refl
-              by (some k) z (inl w) =
+              by : (o : Option ℕ) → found d local ≡ o → (writes_in (x ∷ c) d + counted o ≤ 1) ⊎ (¬ (Read E.operands (x ∷ c) d)) → o ≡ None
+              by None z w = refl
+              by (Some k) z (inl w) =
                   let t : writes_in (x ∷ c) d ≡ 1 + writes_in c d = writes_one d ∙ ap (λ b. cond b 1 0 + writes_in c d) (eqb_true d d refl) in
                   absurd (omega arith)
-              by (some k) z (inr w) = absurd (w (inr (read_on l)))
+              by (Some k) z (inr w) = absurd (w (inr (read_on l)))
 
           agree_new : (r : ℕ) → Live E c r → upd d v g r ≡ upd m v g' (read_through local' r)
           agree_new r l = by (ℕ_discrete r d)
@@ -236,32 +236,32 @@ module _ (E : Setting) (f : Facts) (same-one : (r : ℕ) → (ltb r (length f.re
                   upd_other d v g r n ∙ y.agree r b ∙ ap g' (sym q)
                   ∙ sym (upd_other m v g' (read_through local' r) (λ w. through-below r b (sym q ∙ w)))
 
-          entries-new : (r k : ℕ) → found r local' ≡ some k
+          entries-new : (r k : ℕ) → found r local' ≡ Some k
               → (E.one r ≡ true) × (E.local r ≡ true) × (all_own E f same-one own r ≡ true) × (n₀ ≤ k) × (k < suc m)
           entries-new r k q = by (ℕ_discrete r d) (found r local) refl
             where
-              was : (j : ℕ) → found r local ≡ some j → j ≡ k → (E.one r ≡ true) × (E.local r ≡ true) × (all_own E f same-one own r ≡ true)
+              was : (j : ℕ) → found r local ≡ Some j → j ≡ k → (E.one r ≡ true) × (E.local r ≡ true) × (all_own E f same-one own r ≡ true)
                   × (n₀ ≤ k) × (k < suc m)
               was j z w = let t = y.entries r j z in (t.0, t.1, t.2, omega (arith, t.3), omega (arith, t.4))
 
               by : Dec (r ≡ d) → (o : Option ℕ) → found r local ≡ o
                   → (E.one r ≡ true) × (E.local r ≡ true) × (all_own E f same-one own r ≡ true) × (n₀ ≤ k) × (k < suc m)
-              by (yes w) none z =
-                  let t : found r local' ≡ some m = subst (λ u. found u local' ≡ some m) (sym w)
-                  (found-new d m local (subst (λ u. found u local ≡ none) w z)) in
+              by (yes w) None z =
+                  let t : found r local' ≡ Some m = subst (λ u. found u local' ≡ Some m) (sym w)
+                  (found-new d m local (subst (λ u. found u local ≡ None) w z)) in
                   let e : m ≡ k = cc in
                   let u = y.from in
                   (ap E.one w ∙ one_d, ap E.local w ∙ local_d, ap (all_own E f same-one own) w ∙ own-d, omega arith, omega arith)
-              by (no n) none z = clash_some q (found-other d m local r n ∙ z)
-              by w (some j) z = let t = found-old d m local r j z in was j z (cc)
+              by (no n) None z = clash_some q (found-other d m local r n ∙ z)
+              by w (Some j) z = let t = found-old d m local r j z in was j z (cc)
 
           once_new : (r : ℕ) → E.one r ≡ true → E.local r ≡ true → all_own E f same-one own r ≡ true
               → (writes_in c r + renumberings r local' ≤ 1) ⊎ (¬ (Read E.operands c r))
           once_new r p i q = by (y.once r p i q) (ℕ_discrete r d)
             where
               most : (o : Option ℕ) → counted o ≤ 1
-              most none = omega arith
-              most (some k) = omega arith
+              most None = omega arith
+              most (Some k) = omega arith
 
               by : (writes_in (x ∷ c) r + renumberings r local ≤ 1) ⊎ (¬ (Read E.operands (x ∷ c) r)) → Dec (r ≡ d)
                   → (writes_in c r + renumberings r local' ≤ 1) ⊎ (¬ (Read E.operands c r))
@@ -284,8 +284,8 @@ module _ (E : Setting) (f : Facts) (same-one : (r : ℕ) → (ltb r (length f.re
               }
 
         -- a single constant is left out: its register holds the value already
-        module _ (n : ℕ) (one_d : E.one d ≡ true) (constant-d : constant_of E.address x.inst ≡ some n) where
-          single_d : E.single d ≡ some n
+        module _ (n : ℕ) (one_d : E.one d ≡ true) (constant-d : constant_of E.address x.inst ≡ Some n) where
+          single_d : E.single d ≡ Some n
           single_d = y.fine.0 d (rw s.one (inl refl)) one_d ∙ constant-d
 
           value-is : v ≡ n

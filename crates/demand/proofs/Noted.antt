@@ -3,7 +3,7 @@ use Prim.Native.Nat.{ℕ}
 use mathlib.Core.Path.{◌≡◌, refl, sym, subst, ◌∙◌}
 use mathlib.Core.Logic.{◌⊎◌, inl, inr}
 use mathlib.Core.List.{List, [], ◌∷◌, ◌++◌, map}
-use mathlib.Core.Option.{Option, none, some}
+use Rattle.std.proofs.Common.{Option, None, Some}
 use mathlib.Core.Bool.{Bool, true, false, ◌||◌, cond}
 use lib.Dec.{eqb}
 use lib.ListN.{get_or, drop}
@@ -84,12 +84,12 @@ entries-more : (F : ℕ → ℕ → Type 0) (xs : List (ℕ × ℕ)) (r v : ℕ)
 entries-more F [] r v p q = (q, tt)
 entries-more F (x ∷ xs) r v p q = (p.0, entries-more F xs r v p.1 q)
 
-pub found-entry : (F : ℕ → ℕ → Type 0) (xs : List (ℕ × ℕ)) (r v : ℕ) → Entries F xs → found r xs ≡ some v → F r v
+pub found-entry : (F : ℕ → ℕ → Type 0) (xs : List (ℕ × ℕ)) (r v : ℕ) → Entries F xs → found r xs ≡ Some v → F r v
 unfolding found
 found-entry F [] r v p q = clash_some q refl
 found-entry F (x ∷ xs) r v p q = by (eqb x.0 r) refl q (found-entry F xs r v p.1)
   where
-    by : (t : Bool) → eqb x.0 r ≡ t → cond t (some x.1) (found r xs) ≡ some v → (found r xs ≡ some v → F r v) → F r v
+    by : (t : Bool) → eqb x.0 r ≡ t → cond t (Some x.1) (found r xs) ≡ Some v → (found r xs ≡ Some v → F r v) → F r v
     by true e z ih = let a : x.0 ≡ r = eqb_eq x.0 r e in let c : x.1 ≡ v = cc in subst (λ y. F y v) a (subst (F x.0) c p.0)
     by false e z ih = ih z
 
@@ -158,31 +158,31 @@ forget_was d k g h =
       copies = entries-map _ _ (λ r s z. z.0) (copies_without d k.copies) (keep_copies _ d k.copies h.copies);
     }
 
-module _ (E : Setting) (f : Facts) (known : (r v : ℕ) → f.const r ≡ some v → E.single r ≡ some v) where
-  pub value-holds : (k : Known) (g : Regs) → Loaded E g → Holds k g → (r v : ℕ) → value_of f k r ≡ some v → g r ≡ v
+module _ (E : Setting) (f : Facts) (known : (r v : ℕ) → f.const r ≡ Some v → E.single r ≡ Some v) where
+  pub value-holds : (k : Known) (g : Regs) → Loaded E g → Holds k g → (r v : ℕ) → value_of f k r ≡ Some v → g r ≡ v
   value-holds k g l h r v q = by (found r k.values) refl q
     where
-      by : (o : Option ℕ) → found r k.values ≡ o → or_else o (f.const r) ≡ some v → g r ≡ v
-      by none e z = l r v (known r v z)
-      by (some w) e z = found-entry (λ r v. g r ≡ v) k.values r v h.values (e ∙ z)
+      by : (o : Option ℕ) → found r k.values ≡ o → or_else o (f.const r) ≡ Some v → g r ≡ v
+      by None e z = l r v (known r v z)
+      by (Some w) e z = found-entry (λ r v. g r ≡ v) k.values r v h.values (e ∙ z)
 
   pub source_holds : (k : Known) (g : Regs) → Holds k g → (r : ℕ) → g r ≡ g (source_of k r)
   source_holds k g h r = by (found r k.copies) refl
     where
       by : (o : Option ℕ) → found r k.copies ≡ o → g r ≡ g (value_or r o)
-      by none e = refl
-      by (some s) e = found-entry (λ r s. g r ≡ g s) k.copies r s h.copies e
+      by None e = refl
+      by (Some s) e = found-entry (λ r s. g r ≡ g s) k.copies r s h.copies e
 
   source_off : (d : ℕ) (k : Known) → Off d k → (r : ℕ) → ¬ (r ≡ d) → ¬ (source_of k r ≡ d)
   source_off d k o r n = by (found r k.copies) refl
     where
       by : (y : Option ℕ) → found r k.copies ≡ y → ¬ (value_or r y ≡ d)
-      by none e = n
-      by (some s) e = (found-entry _ k.copies r s o.copies e).1
+      by None e = n
+      by (Some s) e = (found-entry _ k.copies r s o.copies e).1
 
-  with_value_lem : (d : ℕ) (o : Option ℕ) (k : Known) (g : Regs) → Holds k g → ((v : ℕ) → o ≡ some v → g d ≡ v) → Holds (with_value_if d o k) g
-  with_value_lem d none k g h q = h
-  with_value_lem d (some v) k g h q = record { values = entries-more _ k.values d v h.values (q v refl); copies = h.copies }
+  with_value_lem : (d : ℕ) (o : Option ℕ) (k : Known) (g : Regs) → Holds k g → ((v : ℕ) → o ≡ Some v → g d ≡ v) → Holds (with_value_if d o k) g
+  with_value_lem d None k g h q = h
+  with_value_lem d (Some v) k g h q = record { values = entries-more _ k.values d v h.values (q v refl); copies = h.copies }
 
   with_copy_lem : (t : Bool) (d s : ℕ) (k : Known) (g : Regs) → Holds k g → g d ≡ g s → Holds (cond t (with_copy d s k) k) g
   with_copy_lem true d s k g h q = record { values = h.values; copies = entries-more _ k.copies d s h.copies q }
@@ -213,21 +213,21 @@ module _ (E : Setting) (f : Facts) (known : (r v : ℕ) → f.const r ≡ some v
           (λ v q. upd_same d (g s) g d refl ∙ same ∙ value-holds k' g l h₀ s' v q))
           (upd_same d (g s) g d refl ∙ same ∙ sym (upd_other d (g s) g s' off))
 
-  bool-holds : (op : BoolOp) (x y : ℕ) (k : Known) (g : Regs) → Loaded E g → Holds k g → (v : ℕ) → bool_of op (value_of f k x) (value_of f k y) ≡ some v
+  bool-holds : (op : BoolOp) (x y : ℕ) (k : Known) (g : Regs) → Loaded E g → Holds k g → (v : ℕ) → bool_of op (value_of f k x) (value_of f k y) ≡ Some v
       → tests op (get_or (map g (bool_uses op x y)) 0 0) (get_or (map g (bool_uses op x y)) 1 0) ≡ v
   bool-holds op x y k g l h v q = by op (value_of f k x) (value_of f k y) (λ u e. value-holds k g l h x u e) (λ u e. value-holds k g l h y u e) q
     where
-      by : (op : BoolOp) (o o' : Option ℕ) → ((u : ℕ) → o ≡ some u → g x ≡ u) → ((u : ℕ) → o' ≡ some u → g y ≡ u) → bool_of op o o' ≡ some v
+      by : (op : BoolOp) (o o' : Option ℕ) → ((u : ℕ) → o ≡ Some u → g x ≡ u) → ((u : ℕ) → o' ≡ Some u → g y ≡ u) → bool_of op o o' ≡ Some v
           → tests op (get_or (map g (bool_uses op x y)) 0 0) (get_or (map g (bool_uses op x y)) 1 0) ≡ v
-      by op none o' p p' q = clash_some q refl
-      by b.And (some u) none p p' q = clash_some q refl
-      by b.Or (some u) none p p' q = clash_some q refl
-      by b.Xor (some u) none p p' q = clash_some q refl
-      by b.Not (some u) none p p' q = rw (p u refl) (cc)
-      by b.And (some u) (some w) p p' q = rw (p u refl, p' w refl) (cc)
-      by b.Or (some u) (some w) p p' q = rw (p u refl, p' w refl) (cc)
-      by b.Xor (some u) (some w) p p' q = rw (p u refl, p' w refl) (cc)
-      by b.Not (some u) (some w) p p' q = rw (p u refl) (cc)
+      by op None o' p p' q = clash_some q refl
+      by b.And (Some u) None p p' q = clash_some q refl
+      by b.Or (Some u) None p p' q = clash_some q refl
+      by b.Xor (Some u) None p p' q = clash_some q refl
+      by b.Not (Some u) None p p' q = rw (p u refl) (cc)
+      by b.And (Some u) (Some w) p p' q = rw (p u refl, p' w refl) (cc)
+      by b.Or (Some u) (Some w) p p' q = rw (p u refl, p' w refl) (cc)
+      by b.Xor (Some u) (Some w) p p' q = rw (p u refl, p' w refl) (cc)
+      by b.Not (Some u) (Some w) p p' q = rw (p u refl) (cc)
 
   -- what is noted of one instruction holds after it
   noted : (x : Code) (k : Known) (g : Regs) → Loaded E g → Holds k g → Passes (does E x g) (defs_at x) (Holds (note f k x.inst)) g
@@ -241,7 +241,7 @@ module _ (E : Setting) (f : Facts) (known : (r v : ℕ) → f.const r ≡ some v
       plain = passes_any E (Holds k') (does E x g) (defs_at x) g (λ vs. forgets (defs_at x) vs k g h)
 
       by : (y : Form) → Says E.address x.inst y → Passes (does E x g) (defs_at x) (Holds (learnt f k' y)) g
-      by (const d v) q = rw (q.1, q.0) (with_value_lem d.0 (some v) _ _ (forget-holds d.0 v k g h) (λ w e. upd_same d.0 v g d.0 refl ∙ cc))
+      by (const d v) q = rw (q.1, q.0) (with_value_lem d.0 (Some v) _ _ (forget-holds d.0 v k g h) (λ w e. upd_same d.0 v g d.0 refl ∙ cc))
       by (const_f d) q = plain
       by (addr_of d up) q = plain
       by (move d s) q = rw (q.1, q.0, q.2) (move-holds d.0 s.0 k g l h)
@@ -274,16 +274,16 @@ module _ (address : Address) (ops : List ℕ) (f : Facts) where
   forgets_sources S (d ∷ e ∷ a ∷ ds) k p = tt
 
   copies_if : (d : ℕ) (o : Option ℕ) (k : Known) → (with_value_if d o k).copies ≡ k.copies
-  copies_if d none k = refl
-  copies_if d (some v) k = refl
+  copies_if d None k = refl
+  copies_if d (Some v) k = refl
 
   move_sources : (S : ℕ → Type 0) (d s : ℕ) (k : Known) → Entries (λ r s. S s) k.copies → S s
       → Entries (λ r s. S s) (cond (eqb d s) k (note_move f d (source_of k s) k)).copies
   move_sources S d s k p q = by (eqb d s) (alike f d (source_of k s))
     where
       from : (o : Option ℕ) → found s k.copies ≡ o → S (value_or s o)
-      from none e = q
-      from (some t) e = found-entry (λ r s. S s) k.copies s t p e
+      from None e = q
+      from (Some t) e = found-entry (λ r s. S s) k.copies s t p e
 
       k' : Known
       k' = with_value_if d (value_of f k (source_of k s)) k
@@ -331,5 +331,5 @@ module _ (address : Address) (ops : List ℕ) (f : Facts) where
       k = notes f nothing c
 
       by : (o : Option ℕ) → found r k.copies ≡ o → (value_or r o ≡ r) ⊎ Read ops c (value_or r o)
-      by none e = inl refl
-      by (some s) e = inr (found-entry (λ r s. Read ops c s) k.copies r s (notes_sources (Read ops c) c nothing (λ r m. m) tt) e)
+      by None e = inl refl
+      by (Some s) e = inr (found-entry (λ r s. Read ops c s) k.copies r s (notes_sources (Read ops c) c nothing (λ r m. m) tt) e)

@@ -3,7 +3,7 @@ use Prim.Native.Nat.{ℕ, ◌≤◌, ◌<◌, min}
 use mathlib.Core.Path.{◌≡◌, refl, sym, ap, subst, ◌∙◌}
 use mathlib.Core.Logic.{◌⊎◌, inl, inr}
 use mathlib.Core.List.{List, [], ◌∷◌}
-use mathlib.Core.Option.{Option, none, some}
+use Rattle.std.proofs.Common.{Option, None, Some}
 use mathlib.Core.Bool.{Bool, true, false, ◌&&◌, ◌||◌, not, cond}
 use native.Mathlib.Omega.{arith}
 use lib.Dec.{T, eqb, ltb, ltb→lt, lt→ltb}
@@ -66,22 +66,22 @@ module _ (address : Address) where
       by false q ih = (λ k. clash (in-names r x k) q, ih)
 
   -- a constant is written somewhere
-  constant_written : (cs : List Code) (r v : ℕ) → constant_in address cs r ≡ some v → Written cs r
+  constant_written : (cs : List Code) (r v : ℕ) → constant_in address cs r ≡ Some v → Written cs r
   unfolding constant_in
   constant_written [] r v q = clash_some q refl
   constant_written (x ∷ cs) r v q = by (names r x.inst) refl q (constant_written cs r v)
     where
-      by : (b : Bool) → names r x.inst ≡ b → cond b (constant_of address x.inst) (constant_in address cs r) ≡ some v
-          → (constant_in address cs r ≡ some v → Written cs r) → Written (x ∷ cs) r
+      by : (b : Bool) → names r x.inst ≡ b → cond b (constant_of address x.inst) (constant_in address cs r) ≡ Some v
+          → (constant_in address cs r ≡ Some v → Written cs r) → Written (x ∷ cs) r
       by true z q ih = inl (names_in r x z)
       by false z q ih = inr (ih q)
 
   -- the v of a Const
-  word_constant : (x : Inst) (v : ℕ) → word_of (fixed_of x) ≡ some v → constant_of address x ≡ some v
+  word_constant : (x : Inst) (v : ℕ) → word_of (fixed_of x) ≡ Some v → constant_of address x ≡ Some v
   unfolding fixed_of constant_of
   word_constant x v q = by (form_of x) (says address x) refl q
     where
-      by : (y : Form) → Says address x y → form_of x ≡ y → word_of (fixed_in y) ≡ some v → constant_of address x ≡ some v
+      by : (y : Form) → Says address x y → form_of x ≡ y → word_of (fixed_in y) ≡ Some v → constant_of address x ≡ Some v
       by (const d w) s z q = rw (z, s.1 [] 0 []) q
       by (const_f d) s z q = clash_some q refl
       by (addr_of d up) s z q = clash_some q refl
@@ -92,17 +92,17 @@ module _ (address : Address) where
       by other s z q = clash_some q refl
 
   -- a Const that writes r
-  pub const-fine : (F : Code → Type 0) (cs : List Code) (r v : ℕ) → Each F cs → const_in cs r ≡ some v
-      → (x : Code) × F x × In r (defs_at x) × (constant_of address x.inst ≡ some v)
+  pub const-fine : (F : Code → Type 0) (cs : List Code) (r v : ℕ) → Each F cs → const_in cs r ≡ Some v
+      → (x : Code) × F x × In r (defs_at x) × (constant_of address x.inst ≡ Some v)
   unfolding const_in
   const-fine F [] r v p q = clash_some q refl
   const-fine F (x ∷ cs) r v p q = by (names r x.inst) refl (word_of (fixed_of x.inst)) refl q (const-fine F cs r v p.1)
     where
-      by : (b : Bool) → names r x.inst ≡ b → (o : Option ℕ) → word_of (fixed_of x.inst) ≡ o → or_else (cond b o none) (const_in cs r) ≡ some v
-          → (const_in cs r ≡ some v → (x : Code) × F x × In r (defs_at x) × (constant_of address x.inst ≡ some v))
-          → (x : Code) × F x × In r (defs_at x) × (constant_of address x.inst ≡ some v)
-      by true z none y q ih = ih q
-      by true z (some w) y q ih = (x, p.0, names_in r x z, word_constant x.inst v (y ∙ q))
+      by : (b : Bool) → names r x.inst ≡ b → (o : Option ℕ) → word_of (fixed_of x.inst) ≡ o → or_else (cond b o None) (const_in cs r) ≡ Some v
+          → (const_in cs r ≡ Some v → (x : Code) × F x × In r (defs_at x) × (constant_of address x.inst ≡ Some v))
+          → (x : Code) × F x × In r (defs_at x) × (constant_of address x.inst ≡ Some v)
+      by true z None y q ih = ih q
+      by true z (Some w) y q ih = (x, p.0, names_in r x z, word_constant x.inst v (y ∙ q))
       by false z o y q ih = ih q
 
 -- a test of an order
@@ -138,18 +138,18 @@ module _ (outside : Outside) (address : Address) (p : Procedure) (whole : Whole 
   written_low (x ∷ c) q r (inl k) = q.0 r (inl k)
   written_low (x ∷ c) q r (inr k) = written_low c q.1 r k
 
-  pub single-one : (r v : ℕ) → single address p r ≡ some v → one r ≡ true
+  pub single-one : (r v : ℕ) → single address p r ≡ Some v → one r ≡ true
   unfolding single_in
   single-one r v q = by (singly cs r) refl q
     where
-      by : (b : Bool) → singly cs r ≡ b → cond b (constant_in address cs r) none ≡ some v → one r ≡ true
+      by : (b : Bool) → singly cs r ≡ b → cond b (constant_in address cs r) None ≡ Some v → one r ≡ true
       by true z q = rw (lt_yes r n (written_low cs (each-joined _ P₀ whole.exist) r (constant_written address cs r v q)), z)
       by false z q = clash_some q refl
 
-  pub single_shared : (r v : ℕ) → single address p r ≡ some v → is_local r ≡ false
+  pub single_shared : (r v : ℕ) → single address p r ≡ Some v → is_local r ≡ false
   single_shared r v q = let t = and_both (ltb r n) (singly cs r) (single-one r v q) in rw (t.0, t.1, q)
 
-  pub one_local : (r : ℕ) → one r ≡ true → single address p r ≡ none → is_local r ≡ true
+  pub one_local : (r : ℕ) → one r ≡ true → single address p r ≡ None → is_local r ≡ true
   one_local r z q = let t = and_both (ltb r n) (singly cs r) z in rw (t.0, t.1, q)
 
   pub one-old : (r : ℕ) → one r ≡ true → r < n
@@ -204,7 +204,7 @@ module _ (outside : Outside) (address : Address) (p : Procedure) (whole : Whole 
       gather [] q = tt
       gather (x ∷ c) q = (λ r k o. (q r o).0 k, gather c (λ r o. (q r o).1))
 
-  varied : (x : Inst) → constant_of address x ≡ none → is_fixed (fixed_of x) ≡ false
+  varied : (x : Inst) → constant_of address x ≡ None → is_fixed (fixed_of x) ≡ false
   varied x q = by (is_fixed (fixed_of x)) refl
     where
       by : (b : Bool) → is_fixed (fixed_of x) ≡ b → b ≡ false
@@ -232,8 +232,8 @@ module _ (outside : Outside) (address : Address) (p : Procedure) (whole : Whole 
                 one_of : singly cs r ≡ true → one r ≡ true
                 one_of i = rw (lt_yes r n low, i)
             from false i = refl
-        by true q (some v) y = single_shared r v y
-        by true q none y =
+        by true q (Some v) y = single_shared r v y
+        by true q None y =
             absurd (inside r low (and_both (ltb r n) (singly cs r) q).1 (each_map _ _ (λ x f k. varied x.inst (sym (f r k q) ∙ y)) cs fine-in) b z)
 
     pub good : Good E n P₀

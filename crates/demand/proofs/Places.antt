@@ -2,7 +2,7 @@
 use Prim.Native.Nat.{ℕ, zero, suc}
 use mathlib.Core.Path.{◌≡◌, refl}
 use mathlib.Core.List.{List, [], ◌∷◌}
-use mathlib.Core.Option.{Option, none, some}
+use Rattle.std.proofs.Common.{Option, None, Some}
 use lib.ListN.{get_or, drop}
 use Rattle.inst.specs.declared.Code.{Code}
 use Rattle.procedure.specs.Procedure.{Procedure}
@@ -24,8 +24,8 @@ module _ (outside : Outside) (address : Address) (p : Procedure) where
 
   answer_stands : (o : Option (List ℕ)) (a : Act) (rs : List ℕ) (c : List Code) (g : Regs) (h : List Act) (w : Place) → Stands (at c g h) w
       → Stands (answered outside address p o a rs c g h) w
-  answer_stands none a rs c g h w q = tt
-  answer_stands (some vs) a rs c g h w q = q
+  answer_stands None a rs c g h w q = tt
+  answer_stands (Some vs) a rs c g h w q = q
 
   after_stands : (e : Effect) (rs : List ℕ) (c : List Code) (g : Regs) (h : List Act) (w : Place) → Stands (at c g h) (onward w)
       → Stands (afterEffect outside address p e rs c g h) (after outside address p e w)

@@ -3,7 +3,7 @@ use Prim.Native.Nat.{ℕ, zero, suc, ◌*◌, ◌≤◌, ◌<◌}
 use mathlib.Core.Path.{◌≡◌, refl, sym, ap, subst, subst₂, ◌∙◌, fun_ext}
 use mathlib.Core.Logic.{◌⊎◌, inl, inr}
 use mathlib.Core.List.{List, [], ◌∷◌, ◌++◌}
-use mathlib.Core.Option.{Option, none, some}
+use Rattle.std.proofs.Common.{Option, None, Some}
 use native.Mathlib.Omega.{arith}
 use native.Mathlib.Decide.{ℕ_discrete}
 use lib.ListN.{length, get_or}
@@ -34,8 +34,8 @@ module _ (E : Setting) where
     pub d : ℕ
     pub v : ℕ
     pub one : defs_at x ≡ d ∷ []
-    pub single : E.single d ≡ some v
-    pub writes_v : constant_of E.address x.inst ≡ some v
+    pub single : E.single d ≡ Some v
+    pub writes_v : constant_of E.address x.inst ≡ Some v
 
   module _ (qs : List ℕ) (Q : List (List Code)) where
     abbrev next : State → State
@@ -53,7 +53,7 @@ module _ (E : Setting) where
         ap (run E.outside E.address (code E qs Q) (length k)) (idle x p.0 (k ++ c) g h l) ∙ idle_run k p.1 c g h l
 
     idle_quiet : (k : List Code) → Each Constant k → (c : List Code) (g : Regs) (h : List Act) → Loaded E g → (j : ℕ) → j ≤ length k
-        → shown (run E.outside E.address (code E qs Q) j (at (k ++ c) g h)) ≡ record { acts = h; end = none }
+        → shown (run E.outside E.address (code E qs Q) j (at (k ++ c) g h)) ≡ record { acts = h; end = None }
     idle_quiet k p c g h l zero n = refl
     idle_quiet [] p c g h l (suc j) n = absurd (omega arith)
     idle_quiet (x ∷ k) p c g h l (suc j) n =
@@ -104,8 +104,8 @@ module _ (E : Setting) where
       answer_on : (o : Option (List ℕ)) (a : Act) → ((vs : List ℕ) → Loaded E (stores (defs_at x) vs g))
           → R (answered E.outside E.address (code E rs P) o a (defs_at x) c g h)
           (answered E.outside E.address (code E rs' P') o a (defs_at x) c g h)
-      answer_on none a n = over _ _
-      answer_on (some vs) a n = ran c _ _ f (n vs)
+      answer_on None a n = over _ _
+      answer_on (Some vs) a n = ran c _ _ f (n vs)
 
       hop : (d : Effect) → does E x g ≡ d → Passes d (defs_at x) (Loaded E) g → Stretch m m' R s₀ s₀
       hop (writes vs) q n = one (writes vs) q (ran c _ h f n)
@@ -162,7 +162,7 @@ module _ (E : Setting) where
     rescued-front (suc b) g l = let e : length k * 0 ≡ 0 = omega arith in rw (e, elsewhere b)
 
     pub rescued_quiet : (b : ℕ) (g : Regs) → Loaded E g → (i : ℕ) → i ≤ length k * into_zero b
-        → shows E.outside E.address (code E rs' P') b g i ≡ record { acts = []; end = none }
+        → shows E.outside E.address (code E rs' P') b g i ≡ record { acts = []; end = None }
     rescued_quiet zero g l i n = rw at_front (idle_quiet rs' P' k constants (get_or P 0 []) g [] l i (omega arith))
     rescued_quiet (suc b) g l zero n = refl
     rescued_quiet (suc b) g l (suc i) n = absurd (omega arith)

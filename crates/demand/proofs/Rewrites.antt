@@ -3,7 +3,7 @@ use Prim.Native.Nat.{ℕ, zero, suc, ◌<◌}
 use mathlib.Core.Path.{◌≡◌, refl, sym, ap, subst, ◌∙◌}
 use mathlib.Core.Logic.{◌⊎◌, inl, inr}
 use mathlib.Core.List.{List, [], ◌∷◌, ◌++◌}
-use mathlib.Core.Option.{some}
+use Rattle.std.proofs.Common.{Some}
 use mathlib.Core.Bool.{Bool, true, false, ◌||◌, cond}
 use native.Mathlib.Omega.{arith}
 use lib.Dec.{eqb}
@@ -135,7 +135,7 @@ module _ (E : Setting) where
             (choose (g c.0) t.0 u.0) end.last []
             (tests.goes_to g) (br_new E _ end.last g' ∙ ap goes (reach (g c.0)))
 
-    module _ (f : Facts) (known : (r v : ℕ) → f.const r ≡ some v → E.single r ≡ some v) where
+    module _ (f : Facts) (known : (r v : ℕ) → f.const r ≡ Some v → E.single r ≡ Some v) where
       abbrev K : Known
       K = notes f nothing pre
 
@@ -147,7 +147,7 @@ module _ (E : Setting) where
           notes_hold E f known pre (each_left (Fine E) pre (end.last ∷ []) (subst (Each (Fine E)) end.is (good.fine a))) nothing g l (nothing-holds g)
 
       -- "A known value makes a Br"
-      pub folds_known : (n : ℕ) → value_of f K source ≡ some n → Edited m m P (set P a (with_end (i.Br (block_of (choose n t.0 u.0))) (get_or P a [])))
+      pub folds_known : (n : ℕ) → value_of f K source ≡ Some n → Edited m m P (set P a (with_end (i.Br (block_of (choose n t.0 u.0))) (get_or P a [])))
       folds_known n q = rewritten x refl (λ r k. absurd k) (Holds K) holding tail
         where
           x : Inst

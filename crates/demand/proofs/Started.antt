@@ -3,7 +3,7 @@ use Prim.Native.Nat.{ℕ, zero, suc, ◌+◌, ◌≤◌, ◌<◌, min}
 use mathlib.Core.Path.{◌≡◌, refl, sym, ap, subst, ◌∙◌}
 use mathlib.Core.Logic.{◌⊎◌, inl, inr}
 use mathlib.Core.List.{List, [], ◌∷◌, append-nil}
-use mathlib.Core.Option.{none, some}
+use Rattle.std.proofs.Common.{None, Some}
 use mathlib.Core.Bool.{Bool, true, false, ◌&&◌, cond}
 use native.Mathlib.Omega.{arith}
 use native.Mathlib.Decide.{ℕ_discrete}
@@ -162,7 +162,7 @@ module _ (outside : Outside) (address : Address) (p : Procedure) (whole : Whole 
   unfolding facts_of
   same-one r = ap (λ b. ltb r n && b) (singly-same r)
 
-  pub known : (r v : ℕ) → counted.const r ≡ some v → E.single r ≡ some v
+  pub known : (r v : ℕ) → counted.const r ≡ Some v → E.single r ≡ Some v
   unfolding facts_of const_of
   known r v q = by (singly (joined P₁) r) refl q
     where
@@ -173,7 +173,7 @@ module _ (outside : Outside) (address : Address) (p : Procedure) (whole : Whole 
           pair [] a b = tt
           pair (x ∷ c) a b = ((a.0, b.0), pair c a.1 b.1)
 
-      by : (b : Bool) → singly (joined P₁) r ≡ b → cond b (const_in (joined P₁) r) none ≡ some v → E.single r ≡ some v
+      by : (b : Bool) → singly (joined P₁) r ≡ b → cond b (const_in (joined P₁) r) None ≡ Some v → E.single r ≡ Some v
       by true z q =
           let t = const-fine address (λ x. Fine E x × Low E n x) (joined P₁) r v both q in
           let l = t.1.1 r (inl t.2) in

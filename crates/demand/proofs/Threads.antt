@@ -2,7 +2,7 @@
 use Prim.Native.Nat.{ℕ, zero, suc, ◌+◌}
 use mathlib.Core.Path.{◌≡◌, refl, subst}
 use mathlib.Core.List.{List, [], ◌++◌}
-use mathlib.Core.Option.{some}
+use Rattle.std.proofs.Common.{Some}
 use mathlib.Core.Bool.{Bool, true, false, ◌&&◌, ◌||◌, not}
 use native.Mathlib.Omega.{arith}
 use lib.Dec.{eqb, ltb}
@@ -54,7 +54,7 @@ module _ (E : Setting) where
 
   -- "Thread."
   module _ (f : Facts) (size_is : length f.registers ≡ E.size)
-      (same-one : (r : ℕ) → (ltb r (length f.registers) && f.single r) ≡ E.one r) (known : (r v : ℕ) → f.const r ≡ some v → E.single r ≡ some v) where
+      (same-one : (r : ℕ) → (ltb r (length f.registers) && f.single r) ≡ E.one r) (known : (r v : ℕ) → f.const r ≡ Some v → E.single r ≡ Some v) where
     pub record Kept (w : Work) : Type 0 where
       pub good : Good E (next_number f w) w.blocks
       pub sparse : AllSparse E f same-one w.blocks

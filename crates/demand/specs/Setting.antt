@@ -1,6 +1,5 @@
 -- What the proof of demand 3 is about: block-local registers, single constants, and what is known after some code.
-use Rattle.std.specs.Prelude.{ℕ, ◌<◌, ◌≡◌, ◌⊎◌, List, [], ◌∷◌, map, Bool, true, false}
-use Rattle.std.proofs.Math.Option.{Option, none, some}
+use Rattle.std.specs.Prelude.{ℕ, ◌<◌, ◌≡◌, ◌⊎◌, List, [], ◌∷◌, map, Bool, true, false, Option, None, Some}
 use Rattle.inst.specs.declared.Code.{Code}
 use Rattle.roles.specs.Roles.{defs_of, reads_of}
 use Rattle.procedure.specs.Procedure.{Table, Procedure}
@@ -38,9 +37,9 @@ pub record Setting : Type 0 where
   pub single : ℕ → Option ℕ
   -- a register that one field writes and that isn't loaded, or a new number
   pub local : ℕ → Bool
-  pub single-one : (r v : ℕ) → single r ≡ some v → one r ≡ true
-  pub single_shared : (r v : ℕ) → single r ≡ some v → local r ≡ false
-  pub one_local : (r : ℕ) → one r ≡ true → single r ≡ none → local r ≡ true
+  pub single-one : (r v : ℕ) → single r ≡ Some v → one r ≡ true
+  pub single_shared : (r v : ℕ) → single r ≡ Some v → local r ≡ false
+  pub one_local : (r : ℕ) → one r ≡ true → single r ≡ None → local r ≡ true
   pub one-old : (r : ℕ) → one r ≡ true → r < size
   pub shared_old : (r : ℕ) → local r ≡ false → r < size
 
@@ -95,7 +94,7 @@ module _ (E : Setting) where
 
   -- the single constants hold their values
   abbrev pub Loaded : Regs → Type 0
-  Loaded g = (r v : ℕ) → E.single r ≡ some v → g r ≡ v
+  Loaded g = (r v : ℕ) → E.single r ≡ Some v → g r ≡ v
 
   -- a fact about the registers after some code, whenever a run gets there
   abbrev pub Behind : (Regs → Type 0) → List Code → Regs → Type 0

@@ -1,10 +1,10 @@
 -- What Emit leaves in lent storage is what `emit` of the steps leaves.
 use Prim.Native.Nat.{ℕ, ◌+◌, ◌*◌, ◌/◌, ◌≤◌, min}
 use native.Mathlib.Omega.{arith}
-use mathlib.Core.Path.{◌≡◌, sym, ap, ◌∙◌}
+use mathlib.Core.Path.{◌≡◌, sym, ap, subst, ◌∙◌}
 use mathlib.Core.Bool.{Bool}
 use mathlib.Core.List.{List, [], ◌++◌, map, append-nil}
-use mathlib.Core.Option.{Option}
+use Rattle.std.proofs.Common.{Option}
 use lib.ListN.{length, take, drop, length-append, length-map, drop_of_length-le}
 use lib.Seq.{take_at}
 use Rattle.records.specs.declared.Record.{Record}
@@ -26,23 +26,25 @@ use Rattle.round_trips.proofs.Bytes.{bytes-length}
 use Rattle.round_trips.proofs.Blocks.{length-blocks}
 use Rattle.step_laws.proofs.Emits.{onto_length, empty_length}
 use Rattle.reach.specs.Reached.{seen_in}
-use Rattle.emit_records.specs.Emitted.{Place, place, puts, rescues_in, empty_in, heads_from}
-use Rattle.emit_records.proofs.Passes.{puts-append, puts-at}
-use Rattle.emit_records.proofs.Bytes.{puts-front}
+use Rattle.emit_records.specs.declared.Writer.{Writer}
+use Rattle.emit_records.specs.Emitted.{place, puts, Wrote, rescues_in, empty_in, heads_from}
+use Rattle.emit_records.proofs.Writing.{wrote_length, wrote_at, wrote_then}
+use Rattle.emit_records.proofs.Bytes.{puts-front, wrote_front}
 use Rattle.procedure_parts.proofs.Laws.{coded_by}
 use Rattle.emit.specs.Stage.{Ready, Emitted}
 use Rattle.emit.proofs.Emitting.{kept_in, left_in, kept-is, code_is, heads-is}
 
--- records put from the first place on, where all have room
-module _ (rs : List Record) (b : List ℕ) {b' : List ℕ} {n : ℕ} (e : place b' n ≡ puts rs (place b 0)) (room : length rs ≤ length b / 32) where
-  put_count : n ≡ length rs
-  put_count = ap (λ (s : Place). s.at) e ∙ puts-at rs (place b 0) (omega arith) ∙ (let z : 0 + length rs ≡ length rs = omega arith in z)
+-- records written from the first place on, where all have room
+module _ (rs : List Record) {w w' : Writer} (e : Wrote w rs w') (begun : w.at ≡ 0) (room : length rs ≤ length w.out.now / 32) where
+  written_count : w'.at ≡ length rs
+  written_count = wrote_at e (omega arith) ∙ omega arith
 
-  put_first : take (32 * n) b' ≡ bytes_of rs
-  put_first =
-      let c = put_count in
+  written_first : take (32 * w'.at) w'.out.now ≡ bytes_of rs
+  written_first =
+      let c = written_count in
       let l = bytes-length rs in
-      ap (take (32 * n)) (ap (λ (s : Place). s.bytes) e ∙ puts-front rs b room) ∙ take_at (bytes_of rs) (drop (length (bytes_of rs)) b) (32 * n) (omega arith)
+      ap (take (32 * w'.at)) (wrote_front e begun room)
+      ∙ take_at (bytes_of rs) (drop (length (bytes_of rs)) w.out.now) (32 * w'.at) (omega arith)
 
 -- and where they have no more
 put_all : (rs : List Record) (b : List ℕ) {b' : List ℕ} → b' ≡ (puts rs (place b 0)).bytes → length b ≡ 32 * length rs → b' ≡ bytes_of rs
@@ -106,50 +108,50 @@ module _ (work table arms facts code heads : List ℕ) (p : Procedure) (w : Work
   kept-count : length (kept_in work table arms facts) ≡ length kept
   kept-count = ap length (kept-is work table arms facts body budget h.few h.numbered-arms h.canonical) ∙ length-map kept record_of
 
-  pub emitted : {seen : List Bool} {code₁ code₂ heads₁ : List ℕ} {n k r t : ℕ} → seen ≡ seen_in work table arms
-      → place code₁ k ≡ puts (rescues_in facts seen R) (place code 0)
-      → r ≡ min k 4294967295
-      → (k + length (joined (empty_in 0 seen R)) ≤ length code₁ / 32 → length table / 32 ≤ length heads / 32
-      → heads₁ ≡ (puts (heads_from 0 (min k 4294967295) (empty_in 0 seen R)) (place heads 0)).bytes)
-      → length code₁ ≡ length code
-      → place code₂ t ≡ puts (joined (empty_in 0 seen R)) (place code₁ k)
-      → n ≡ min t (length code / 32)
-      → Bytes code₂ → Bytes heads₁
+  -- what was rescued and the rest written, and the block records
+  pub emitted : {seen : List Bool} {w₀ w₁ w₂ : Writer} {code₂ heads₁ : List ℕ} {n r : ℕ} → seen ≡ seen_in work table arms
+      → w₀.out.now ≡ code → w₀.at ≡ 0
+      → Wrote w₀ (rescues_in facts seen R) w₁
+      → r ≡ min w₁.at 4294967295
+      → (w₁.at + length (joined (empty_in 0 seen R)) ≤ length w₁.out.now / 32 → length table / 32 ≤ length heads / 32
+      → heads₁ ≡ (puts (heads_from 0 (min w₁.at 4294967295) (empty_in 0 seen R)) (place heads 0)).bytes)
+      → Wrote w₁ (joined (empty_in 0 seen R)) w₂
+      → n ≡ min w₂.at (length code / 32)
+      → code₂ ≡ w₂.out.now → Bytes code₂ → Bytes heads₁
       → Emitted z (record { n = n; rescued = r }) code₂ heads₁
-  emitted {seen} {code₁} {code₂} {heads₁} {n} {k} {r} {t} e a d b long c g bc bh =
+  emitted {seen} {w₀} {w₁} {w₂} {code₂} {heads₁} {n} {r} e is begun a d b c g last bc bh =
       let few = h.well_formed.code in
       let room = h.code-room in
       let s = size in
       let all = count in
       let K = kept_in work table arms facts in
       let L = left_in work table arms facts in
-      let a' : place code₁ k ≡ puts K (place code 0) = a ∙ ap (λ (m : List Bool). puts (rescues_in facts m R) (place code 0)) e in
-      let kc = put_count K code a' (omega arith) in
+      let long = wrote_length a ∙ ap length is in
+      let a' : Wrote w₀ K w₁ = subst (λ (m : List Bool). Wrote w₀ (rescues_in facts m R) w₁) e a in
+      let c' : Wrote w₁ (joined L) w₂ = subst (λ (m : List Bool). Wrote w₁ (joined (empty_in 0 m R)) w₂) e c in
+      let wide : length w₀.out.now ≡ length code = ap length is in
+      let kc = written_count K a' begun (omega arith) in
       let r-is : r ≡ min (length K) 4294967295 = d ∙ ap (λ (k : ℕ). min k 4294967295) kc in
       let hr = h.heads-room in
       let nt = same_blocks in
       let left-size : length (joined (empty_in 0 seen R)) ≡ length (joined L) = ap (λ (m : List Bool). length (joined (empty_in 0 m R))) e in
       let b' : heads₁ ≡ (puts (block_records 0 blocks) (place heads 0)).bytes =
       b (omega arith) (omega arith)
-      ∙ ap (λ (m : List Bool). (puts (heads_from 0 (min k 4294967295) (empty_in 0 m R)) (place heads 0)).bytes) e
+      ∙ ap (λ (m : List Bool). (puts (heads_from 0 (min w₁.at 4294967295) (empty_in 0 m R)) (place heads 0)).bytes) e
       ∙ ap (λ (k : ℕ). (puts (heads_from 0 (min k 4294967295) L) (place heads 0)).bytes) kc
       ∙ ap (λ (l : List Record). (puts l (place heads 0)).bytes)
       (heads-is work table arms facts body budget h.few h.numbered-arms h.canonical (omega arith)) in
-      let c' : place code₂ t ≡ puts (map record_of (joined blocks)) (place code 0) =
-      c
-      ∙ ap (λ (m : List Bool). puts (joined (empty_in 0 m R)) (place code₁ k)) e
-      ∙ ap (puts (joined L)) a'
-      ∙ sym (puts-append K (joined L) (place code 0))
-      ∙ ap (λ (l : List Record). puts l (place code 0)) all-code in
+      let both : Wrote w₀ (map record_of (joined blocks)) w₂ = subst (λ (l : List Record). Wrote w₀ l w₂) all-code (wrote_then a' c') in
       let nc = length-map (joined blocks) record_of in
       let nh = length-blocks 0 blocks in
-      let top = put_count (map record_of (joined blocks)) code c' (omega arith) in
-      let n-is : n ≡ t = omega arith in
+      let top = written_count (map record_of (joined blocks)) both begun (omega arith) in
+      let n-is : n ≡ w₂.at = omega arith in
       let nb = ap length blocks_are in
       record {
         coded = coded_by z.procedure h.well_formed (take (32 * n) code₂) heads₁ (bytes-part (32 * n) 0 code₂ bc) bh
-            (ap (λ (n : ℕ). take (32 * n) code₂) n-is
-            ∙ put_first (map record_of (joined blocks)) code c' (omega arith)
+            (ap (take (32 * n)) last
+            ∙ ap (λ (n : ℕ). take (32 * n) w₂.out.now) n-is
+            ∙ written_first (map record_of (joined blocks)) both begun (omega arith)
             ∙ ap (λ (P : List (List Code)). bytes_of (map record_of (joined P))) blocks_are)
             (put_all (block_records 0 blocks) heads b' (omega arith) ∙ ap (λ (P : List (List Code)). bytes_of (block_records 0 P)) blocks_are);
         rescued = let q = kept-count in let t = rescued-is in omega arith;

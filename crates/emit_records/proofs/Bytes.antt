@@ -4,8 +4,9 @@ use native.Mathlib.Omega.{arith}
 use mathlib.Core.Path.{◌≡◌, sym, ap, ◌∙◌}
 use mathlib.Core.List.{List, [], ◌∷◌, ◌++◌, append_assoc}
 use lib.ListN.{length, take, drop, length-append, take-append-drop}
-use lib.Seq.{paste, take_at, take_all, drop-append-add, drop-drop, length-take-le}
+use lib.Seq.{take_at, take_all, drop-append-add, drop-drop, length-take-le}
 use borrow.Author.Tests.{lt-ltb}
+use borrow.Rule.Slice.PartMut.{put_mid}
 use Rattle.records.specs.declared.Record.{Record}
 use Rattle.records.specs.Record.{records_of}
 use Rattle.records.proofs.Laws.{length_records}
@@ -15,7 +16,8 @@ use Rattle.steps.specs.Write.{bytes_of}
 use Rattle.blocks.proofs.Parts.{records_part}
 use Rattle.blocks.proofs.Bytes.{bytes-part}
 use Rattle.round_trips.proofs.Bytes.{bytes-length, bytes_back}
-use Rattle.emit_records.specs.Emitted.{Place, place, puts}
+use Rattle.emit_records.specs.declared.Writer.{Writer}
+use Rattle.emit_records.specs.Emitted.{Place, place, puts, Wrote}
 use Rattle.emit_records.proofs.Laws.{put_in}
 use Rattle.emit_records.proofs.Passes.{puts-at}
 
@@ -72,21 +74,24 @@ whole_back b h =
     ∙ bytes_back (take (32 * n) b) (omega arith) (bytes-part (32 * n) 0 b h)
 
 -- records copied by their bytes, where all have room
-pub puts-copied : (c b : List ℕ) (at : ℕ) → Bytes c → at + length c / 32 ≤ length b / 32
-    → place (paste b (32 * at) c (32 * (length c / 32))) (at + length c / 32) ≡ puts (records_of c) (place b at)
-puts-copied c b at h i =
+pub puts-copied : (c b : List ℕ) (at : ℕ) {y : List ℕ} {k : ℕ} → Bytes c → at + length c / 32 ≤ length b / 32
+    → y ≡ take (32 * (length c / 32)) c → k ≡ 32 * (length c / 32)
+    → place (put_mid (32 * at) k b y) (at + length c / 32) ≡ puts (records_of c) (place b at)
+puts-copied c b at {y} {k} h i f g =
     let n = length c / 32 in
     let l = length_records c in
     let e : 32 * (at + length (records_of c)) ≡ 32 * at + 32 * n = omega arith in
-    let p = puts-bytes (records_of c) b at (omega arith) in
     let q = puts-at (records_of c) (place b at) (omega arith) in
     let w =
-    p
+    puts-bytes (records_of c) b at (omega arith)
     ∙ ap (λ (x : List ℕ). take (32 * at) b ++ (x ++ drop (32 * (at + length (records_of c))) b)) (whole_back c h)
-    ∙ ap (λ (k : ℕ). take (32 * at) b ++ (take (32 * n) c ++ drop k b)) e
-    ∙ sym (append_assoc (take (32 * at) b) (take (32 * n) c) (drop (32 * at + 32 * n) b))
+    ∙ ap (λ (j : ℕ). take (32 * at) b ++ (take (32 * n) c ++ drop j b)) e
+    ∙ sym
+    (ap (λ (j : ℕ). put_mid (32 * at) j b y) g
+    ∙ ap (put_mid (32 * at) (32 * n) b) f
+    ∙ ap (λ (x : List ℕ). take (32 * at) b ++ (take (32 * n) c ++ x)) (drop-drop (32 * n) (32 * at) b))
     in
-    sym (ap (λ (x : List ℕ). place x (puts (records_of c) (place b at)).at) w ∙ ap (place _) (q ∙ ap (λ (k : ℕ). at + k) l))
+    sym (ap (λ (x : List ℕ). place x (puts (records_of c) (place b at)).at) w ∙ ap (place _) (q ∙ ap (λ (j : ℕ). at + j) l))
 
 -- from the first record on
 pub puts-front : (rs : List Record) (b : List ℕ) → length rs ≤ length b / 32
@@ -94,3 +99,9 @@ pub puts-front : (rs : List Record) (b : List ℕ) → length rs ≤ length b / 
 puts-front rs b h =
     let e : 32 * (0 + length rs) ≡ length (bytes_of rs) = omega (arith, bytes-length rs) in
     puts-bytes rs b 0 (omega arith) ∙ ap (λ (k : ℕ). bytes_of rs ++ drop k b) e
+
+-- the bytes that a writer leaves, if it began with the first record and all had room
+pub wrote_front : {w w' : Writer} {rs : List Record} → Wrote w rs w' → w.at ≡ 0 → length rs ≤ length w.out.now / 32
+    → w'.out.now ≡ bytes_of rs ++ drop (length (bytes_of rs)) w.out.now
+wrote_front {w} {rs = rs} p begun room =
+    ap (λ (s : Place). s.bytes) p.written ∙ ap (λ (n : ℕ). (puts rs (place w.out.now n)).bytes) begun ∙ puts-front rs w.out.now room

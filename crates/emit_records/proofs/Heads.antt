@@ -13,9 +13,11 @@ use Rattle.items.specs.Items.{block_record}
 use Rattle.procedure.specs.Lists.{joined}
 use Rattle.steps.specs.Emit.{onto_front}
 use Rattle.steps.specs.Write.{block_records}
-use Rattle.emit_records.specs.Emitted.{Place, place, put, puts, new_at, empty_in, end_after, heads_from}
+use Rattle.emit_records.specs.Emitted.{Place, place, put, puts, Wrote, new_at, empty_in, end_after, heads_from}
 use Rattle.emit_records.proofs.Laws.{put_in}
-use Rattle.emit_records.proofs.Passes.{empty_cons, empty_none, puts-at}
+use Rattle.emit_records.specs.declared.Writer.{Writer}
+use Rattle.emit_records.proofs.Passes.{empty_cons, empty_none}
+use Rattle.emit_records.proofs.Writing.{wrote_at, wrote_length}
 
 abbrev records_in : List (List Code) → List (List Record)
 records_in P = map (map record_of) P
@@ -28,32 +30,33 @@ module _ (marks : List Bool) (R : List (List Record)) where
   abbrev rest : ℕ → List (List Record)
   rest b = empty_in b (drop b marks) (drop b R)
 
-  pub record Heading (b : ℕ) (code : List ℕ) (top : ℕ) (heads : List ℕ) (start : ℕ) (all : Place) : Type 0 where
-    pub room : top + length (joined (rest b)) ≤ length code / 32
-    pub begun : start ≤ min top 4294967295
-    pub told : puts (heads_from start (min top 4294967295 - start) (rest b)) (place heads b) ≡ all
+  pub record Heading (b : ℕ) (w : Writer) (heads : List ℕ) (start : ℕ) (all : Place) : Type 0 where
+    pub room : w.at + length (joined (rest b)) ≤ length w.out.now / 32
+    pub begun : start ≤ min w.at 4294967295
+    pub told : puts (heads_from start (min w.at 4294967295 - start) (rest b)) (place heads b) ≡ all
 
-  pub heading_start : {at : ℕ} {code heads : List ℕ} → at + length (joined (empty_in 0 marks R)) ≤ length code / 32
-      → Heading 0 code at heads 0 (puts (heads_from 0 (min at 4294967295) (empty_in 0 marks R)) (place heads 0))
-  heading_start {at} {heads = heads} i =
-      let e : min at 4294967295 - 0 ≡ min at 4294967295 = omega arith in
+  pub heading_start : (w : Writer) (heads : List ℕ) → w.at + length (joined (empty_in 0 marks R)) ≤ length w.out.now / 32
+      → Heading 0 w heads 0 (puts (heads_from 0 (min w.at 4294967295) (empty_in 0 marks R)) (place heads 0))
+  heading_start w heads i =
+      let e : min w.at 4294967295 - 0 ≡ min w.at 4294967295 = omega arith in
       record { room = i; begun = omega arith; told = ap (λ (k : ℕ). puts (heads_from 0 k (empty_in 0 marks R)) (place heads 0)) e }
 
   -- a block more, whose end is where its code ends
-  pub heading_one : {b top start top' end : ℕ} {code heads code' heads' : List ℕ} {all : Place} → b < length R
-      → place code' top' ≡ puts (new_at marks R b) (place code top) → length code' ≡ length code → end ≡ min top' 4294967295
+  pub heading_one : {b start end : ℕ} {w w' : Writer} {heads heads' : List ℕ} {all : Place} → b < length R
+      → Wrote w (new_at marks R b) w' → end ≡ min w'.at 4294967295
       → heads' ≡ put_of heads b (block_record (record { start = start; end = end })) → b < length heads / 32
-      → Heading b code top heads start all → Heading (b + 1) code' top' heads' end all
+      → Heading b w heads start all → Heading (b + 1) w' heads' end all
   unfolding puts heads_from
-  heading_one {b} {top} {start} {top'} {end} {code} {heads} {heads' = heads'} h p l e q n g =
+  heading_one {b} {start} {end} {w} {w'} {heads} {heads'} h p e q n g =
       let c = new_at marks R b in
       let one = empty_cons marks R b h in
       let size = ap (λ (r : List (List Record)). length (joined r)) one ∙ length-append c (joined (rest (b + 1))) in
       let i = g.room in
       let j = g.begun in
-      let at = ap (λ (s : Place). s.at) p ∙ puts-at c (place code top) (omega arith) in
-      let ends : end ≡ end_after start (min top 4294967295 - start) (length c) = omega arith in
-      let none : min top' 4294967295 - end ≡ 0 = omega arith in
+      let l = wrote_length p in
+      let at = wrote_at p (omega arith) in
+      let ends : end ≡ end_after start (min w.at 4294967295 - start) (length c) = omega arith in
+      let none : min w'.at 4294967295 - end ≡ 0 = omega arith in
       record {
         room = omega arith;
         begun = omega arith;
@@ -61,17 +64,16 @@ module _ (marks : List Bool) (R : List (List Record)) where
             ∙ ap (puts (heads_from end 0 (rest (b + 1))))
             (ap (λ (x : List ℕ). place x (b + 1)) q ∙ put_in heads b (block_record (record { start = start; end = end })) n)
             ∙ ap (λ (k : ℕ). puts (heads_from k 0 (rest (b + 1))) (put (block_record (record { start = start; end = k })) (place heads b))) ends
-            ∙ sym (ap (λ (r : List (List Record)). puts (heads_from start (min top 4294967295 - start) r) (place heads b)) one)
+            ∙ sym (ap (λ (r : List (List Record)). puts (heads_from start (min w.at 4294967295 - start) r) (place heads b)) one)
             ∙ g.told;
       }
 
   -- no block left
-  pub heading_end : {b top start : ℕ} {code heads : List ℕ} {all : Place} → length R ≤ b → Heading b code top heads start all
-      → heads ≡ all.bytes
+  pub heading_end : {b start : ℕ} {w : Writer} {heads : List ℕ} {all : Place} → length R ≤ b → Heading b w heads start all → heads ≡ all.bytes
   unfolding puts heads_from
-  heading_end {b} {top} {start} {heads = heads} h g =
+  heading_end {b} {start} {w} {heads} h g =
       ap (λ (s : Place). s.bytes)
-      (sym (ap (λ (r : List (List Record)). puts (heads_from start (min top 4294967295 - start) r) (place heads b)) (empty_none marks R b h)) ∙ g.told)
+      (sym (ap (λ (r : List (List Record)). puts (heads_from start (min w.at 4294967295 - start) r) (place heads b)) (empty_none marks R b h)) ∙ g.told)
 
 pub heads-told : (start : ℕ) (P : List (List Code)) → start + length (joined P) ≤ 4294967295 → heads_from start 0 (records_in P) ≡ block_records start P
 unfolding heads_from block_records

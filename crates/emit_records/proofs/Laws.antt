@@ -1,17 +1,16 @@
 -- Laws of the emit step over bytes: which blocks stay, what is rescued, and records written one after the other.
-use Prim.Native.Nat.{ℕ, suc, ◌+◌, ◌/◌, ◌≤◌, ◌<◌}
+use Prim.Native.Nat.{ℕ, ◌+◌, ◌/◌, ◌≤◌, ◌<◌}
 use native.Mathlib.Numerals.{add-one}
 use native.Mathlib.Omega.{arith}
 use mathlib.Core.Path.{◌≡◌, refl, sym, ap, ◌∙◌}
-use mathlib.Core.Bool.{Bool, true, false, ◌&&◌, not, cond, or-false}
+use mathlib.Core.Bool.{Bool, true, false, cond, or-false}
 use mathlib.Core.List.{List, [], ◌∷◌, map}
 use mathlib.Core.Logic.{◌⊎◌, inl, inr}
-use mathlib.Core.Option.{Option}
-use borrow.Author.Tests.{ne_eqb, lt-leb, le-leb, lt-ltb, le-ltb}
-use lib.Dec.{leb}
+use Rattle.std.proofs.Common.{Option}
+use borrow.Author.Tests.{ne_eqb, lt-ltb, le-ltb}
 use lib.ListN.{length, get_or, drop, drop_of_length-le}
 use lib.Seq.{drop-cons}
-use Rattle.general.proofs.Booleans.{either, otherwise, both, neither}
+use Rattle.general.proofs.Booleans.{neither}
 use Rattle.general.proofs.Numbers.{order}
 use Rattle.records.specs.declared.Record.{Record}
 use Rattle.records.specs.Record.{blank}
@@ -21,15 +20,14 @@ use Rattle.inst.specs.declared.Reg.{Reg}
 use Rattle.inst.specs.declared.AddrSpace.{AddrSpace}
 use Rattle.real.specs.declared.Real.{Real}
 use Rattle.inst.specs.declared.Inst.TheVariants as i
-use Rattle.codec.specs.Codec.{inst_of, code_of, record_of, block_of}
+use Rattle.codec.specs.Codec.{inst_of, code_of}
 use Rattle.codec.proofs.Table.{inst-at}
 use Rattle.ends.specs.Forms.{form_of, fixed_of}
-use Rattle.ends.specs.Ends.{end_of}
 use Rattle.ends.proofs.Laws.{fixed_record}
-use Rattle.steps.specs.Emit.{is_jump, is_last, first_stmt, stays, emptied, rescued_of}
+use Rattle.steps.specs.Emit.{is_last, stays, rescued_of}
 use Rattle.procedure.specs.Lists.{any_of}
 use Rattle.facts.specs.Storage.{facts_in, single_in}
-use Rattle.emit_records.specs.Emitted.{rescued_by, rescued_in, stays_by, branch_record, Place, place, put, puts}
+use Rattle.emit_records.specs.Emitted.{rescued_by, rescued_in, stays_by, place, put}
 
 -- each of the three is rescued where its register is single
 module _ (facts : List ℕ) (d : Reg) where
@@ -62,24 +60,7 @@ pub other_record : (facts : List ℕ) (r : Record) → 2 ≤ r.kind → (r.kind 
 other_record facts r h e =
     neither _ refl (fixed_record r ∙ rw (ne_eqb r.kind 0 (omega arith), ne_eqb r.kind 1 (omega arith), ne_eqb r.kind 3 e))
 
--- a block that stays, by the tests in their order
-module _ (mark last : Bool) (c : List Code) where
-  abbrev short : Bool
-  short = leb (length c) 1 && not (is_jump (end_of c))
-
-  pub stays_marked : mark ≡ true → true ≡ stays_by mark last c
-  stays_marked e = either short (sym (either last e))
-
-  pub stays-last : mark ≡ false → last ≡ true → true ≡ stays_by mark last c
-  stays-last e f = either short (sym (otherwise e (sym f)))
-
-  pub stays_long : mark ≡ false → last ≡ false → 1 < length c → false ≡ stays_by mark last c
-  stays_long e f h = otherwise (sym (otherwise e (sym f))) (neither _ refl (lt-leb (length c) 1 h))
-
-  pub stays-short : {x : Bool} → mark ≡ false → last ≡ false → length c ≤ 1 → x ≡ not (is_jump (end_of c)) → x ≡ stays_by mark last c
-  stays-short e f h g = otherwise (sym (otherwise e (sym f))) (both refl (le-leb (length c) 1 h) g)
-
--- the same, of steps
+-- whether a block stays, as steps says it
 pub stays-told : (mark : Bool) (after : List (List Code)) (c : List Code) → stays mark after c ≡ stays_by mark (is_last after) c
 unfolding stays
 stays-told mark after c = refl
@@ -112,15 +93,6 @@ rescued_codes facts body budget (r ∷ rs) = by (rescued_by facts (inst_of r)) (
     by true e = ap (λ (t : List Code). code_of r ∷ t) e
     by false e = e
 
--- an emptied block is the one record
-pub emptied_record : (b : ℕ) (c : List Code) → map record_of (emptied b c) ≡ branch_record (block_of (suc b)) c ∷ []
-emptied_record b c = refl
-
--- its statement
-pub first_stmt_lem : (rs : List Record) → record { 0 = (get_or rs 0 blank).stmt } ≡ first_stmt (map code_of rs)
-first_stmt_lem [] = refl
-first_stmt_lem (r ∷ rs) = refl
-
 -- a record written
 module _ (b : List ℕ) (at : ℕ) (r : Record) where
   pub put_in : at < length b / 32 → place (put_of b at r) (at + 1) ≡ put r (place b at)
@@ -130,33 +102,3 @@ module _ (b : List ℕ) (at : ℕ) (r : Record) where
   pub put_full : length b / 32 ≤ at → place b at ≡ put r (place b at)
   unfolding put
   put_full h = rw (le-ltb at (length b / 32) h)
-
--- one record more
-module _ (rs : List Record) (k : ℕ) (s : Place) where
-  pub puts_one : k < length rs → puts (drop k rs) s ≡ puts (drop (k + 1) rs) (put (get_or rs k blank) s)
-  unfolding puts
-  puts_one h = ap (λ (l : List Record). puts l s) (drop-cons rs k blank h) ∙ rw (add-one k)
-
-  pub puts-end : length rs ≤ k → puts (drop k rs) s ≡ s
-  unfolding puts
-  puts-end h = ap (λ (l : List Record). puts l s) (drop_of_length-le rs h)
-
--- one record more, if it is rescued
-pub puts-rescued : (facts : List ℕ) (rs : List Record) (k : ℕ) (s : Place) → k < length rs
-    → puts (rescued_in facts (drop k rs)) s
-    ≡ puts (rescued_in facts (drop (k + 1) rs)) (cond (rescued_by facts (inst_of (get_or rs k blank))) (put (get_or rs k blank) s) s)
-unfolding puts
-puts-rescued facts rs k s h = by (rescued_by facts (inst_of (get_or rs k blank))) refl
-  where
-    by : (b : Bool) → rescued_by facts (inst_of (get_or rs k blank)) ≡ b
-        → puts (rescued_in facts (drop k rs)) s ≡ puts (rescued_in facts (drop (k + 1) rs)) (cond b (put (get_or rs k blank) s) s)
-    by true e = ap (λ (l : List Record). puts l s) (rescued-one facts rs k h e)
-    by false e = ap (λ (l : List Record). puts l s) (rescued_pass facts rs k h e)
-
--- what is chosen
-module _ {A : Type 0} (x y : A) {b : Bool} where
-  pub chosen : b ≡ true → x ≡ cond b x y
-  chosen e = sym (rw e)
-
-  pub other : b ≡ false → y ≡ cond b x y
-  other e = sym (rw e)

@@ -1,4 +1,5 @@
 pub mod Laws
 pub mod Passes
+pub mod Writing
 pub mod Heads
 pub mod Bytes

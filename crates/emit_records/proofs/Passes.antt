@@ -6,9 +6,9 @@ use mathlib.Core.Path.{◌≡◌, refl, sym, ap, ◌∙◌}
 use mathlib.Core.Bool.{Bool, true, false, cond, true≢false}
 use mathlib.Core.List.{List, [], ◌∷◌, ◌++◌, map, map-append}
 use mathlib.Core.Logic.{◌⊎◌, inl, inr}
-use mathlib.Core.Option.{Option}
+use Rattle.std.proofs.Common.{Option}
 use borrow.Author.Tests.{lt-leb, le-leb}
-use lib.Dec.{leb}
+use lib.Dec.{leb, ltb}
 use lib.ListN.{length, get_or, drop, length-drop, length-map, drop_of_length-le, get_or-map, get_or-eq_default}
 use lib.Seq.{drop-cons}
 use Rattle.general.proofs.Numbers.{order}
@@ -20,7 +20,7 @@ use Rattle.codec.specs.Codec.{code_of, record_of, block_of}
 use Rattle.procedure.specs.Lists.{joined}
 use Rattle.facts.specs.Storage.{facts_in}
 use Rattle.steps.specs.Emit.{is_last, stays, rescues, rescued_of, empty_from, emptied}
-use Rattle.emit_records.specs.Emitted.{stays_by, branch_record, rescued_in, Place, place, puts, codes_in, stays_at, lost_at, new_at, rescues_in, empty_in}
+use Rattle.emit_records.specs.Emitted.{stays_by, branch_record, rescued_in, Place, place, put, puts, codes_in, stays_at, lost_at, new_at, rescues_in, empty_in}
 use Rattle.emit_records.proofs.Laws.{stays-told, rescued_codes, put_in}
 
 pub puts-append : (xs ys : List Record) (s : Place) → puts (xs ++ ys) s ≡ puts ys (puts xs s)
@@ -187,3 +187,17 @@ puts-at (r ∷ rs) s h =
     let p = sym (put_in s.bytes s.at r (omega arith)) in
     let l = put-length s.bytes s.at r in
     ap (λ (t : Place). (puts rs t).at) p ∙ puts-at rs (place (put_of s.bytes s.at r) (s.at + 1)) (rw l (omega arith)) ∙ omega arith
+
+-- and how many bytes there are stays
+put-size : (r : Record) (s : Place) → length (put r s).bytes ≡ length s.bytes
+unfolding put
+put-size r s = by (ltb s.at (length s.bytes / 32))
+  where
+    by : (b : Bool) → length (cond b (place (put_of s.bytes s.at r) (s.at + 1)) s).bytes ≡ length s.bytes
+    by true = put-length s.bytes s.at r
+    by false = refl
+
+pub puts-length : (rs : List Record) (s : Place) → length (puts rs s).bytes ≡ length s.bytes
+unfolding puts
+puts-length [] s = refl
+puts-length (r ∷ rs) s = puts-length rs (put r s) ∙ put-size r s

@@ -1,6 +1,5 @@
 -- Document 01, "Emit", over bytes: which blocks stay, what is rescued, and records written one after the other.
-use Rattle.std.specs.Prelude.{ℕ, suc, ◌+◌, ◌-◌, ◌/◌, min, List, [], ◌∷◌, ◌++◌, map, Bool, true, ◌&&◌, ◌||◌, not, cond, leb, ltb, length, get_or, take}
-use Rattle.std.proofs.Math.Option.{none}
+use Rattle.std.specs.Prelude.{ℕ, suc, ◌+◌, ◌-◌, ◌/◌, min, ◌≡◌, List, [], ◌∷◌, ◌++◌, map, Bool, true, ◌&&◌, ◌||◌, not, cond, leb, ltb, length, get_or, take, None}
 use Rattle.records.specs.declared.Record.{Record}
 use Rattle.put_record.specs.Store.{put_of}
 use Rattle.inst.specs.declared.Inst.{Inst}
@@ -11,11 +10,14 @@ use Rattle.codec.specs.Codec.{inst_of, code_of, record_of, block_of}
 use Rattle.items.specs.Items.{block_record}
 use Rattle.ends.specs.Ends.{end_of}
 use Rattle.steps.specs.Emit.{is_jump, is_rescued, first_stmt, stays}
+use Rattle.blocks.specs.Blocks.{block_records_in}
 use Rattle.facts.specs.Storage.{facts_in}
+use Rattle.emit_records.specs.declared.Left.{Left}
+use Rattle.emit_records.specs.declared.Writer.{Writer}
 
 -- "their singly written Const, ConstF and AddrOf"; the body, the budget and the statement are not asked
 abbrev pub rescued_by : List ℕ → Inst → Bool
-rescued_by facts x = is_rescued (facts_in facts none 0) (record { inst = x; stmt = record { 0 = 0 } })
+rescued_by facts x = is_rescued (facts_in facts None 0) (record { inst = x; stmt = record { 0 = 0 } })
 
 -- the records of a block that are rescued
 unfoldable pub rescued_in : List ℕ → List Record → List Record
@@ -47,6 +49,15 @@ unfoldable pub puts : List Record → Place → Place
 puts [] s = s
 puts (r ∷ rs) s = puts rs (put r s)
 
+-- where a writer is
+abbrev pub place_in : Writer → Place
+place_in w = place w.out.now w.at
+
+-- a writer wrote some records, and is still over the same bytes
+pub record Wrote (w : Writer) (rs : List Record) (w' : Writer) : Type 0 where
+  pub same : w'.out.ghost_name ≡ w.out.ghost_name
+  pub written : place_in w' ≡ puts rs (place_in w)
+
 -- the instructions of some blocks
 abbrev pub codes_in : List (List Record) → List (List Code)
 codes_in R = map (map code_of) R
@@ -54,6 +65,13 @@ codes_in R = map (map code_of) R
 -- the marks of at most 160 blocks
 abbrev pub marks_in : List Bool → List Bool
 marks_in seen = take 160 seen
+
+-- the marks and the records of the blocks that `run` left
+abbrev pub marks : Left → List Bool
+marks l = marks_in l.seen.now
+
+abbrev pub left : Left → List (List Record)
+left l = block_records_in l.blocks.code.now l.blocks.table.now
 
 -- block b stays; one that has no mark does
 abbrev pub stays_at : List Bool → List (List Code) → ℕ → Bool

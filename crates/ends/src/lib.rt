@@ -6,7 +6,7 @@ ghost use Rattle.codec.specs.Codec.{inst_of};
 ghost use Rattle.procedure.specs.Procedure.{codes_of};
 ghost use Rattle.ends.specs.Ends.{code_at, view_of, end_of, lone_of};
 
-use inst::{BlockId, Inst, Reg, kinds};
+use inst::{BlockId, Inst, Kind, Reg};
 use records::Record;
 
 // How a block ends, as the branch steps look at it.
@@ -25,6 +25,7 @@ pub fn inst_at(code: &[u8], k: usize) -> Inst
     codec::inst_of(records::record_at(code, k))
 }
 
+#[tactic(auto, unfolding(crate::specs::Ends::view_of, crate::specs::Forms::form_of))]
 pub fn view_of(i: Inst) -> End
     ensures { result ≡ view_of i }
 {
@@ -37,14 +38,14 @@ pub fn view_of(i: Inst) -> End
 }
 
 // The same for a record: only its kind and the fields of a terminator are read.
+#[tactic(auto, using(codec::proofs::Table::inst_by_kind), unfolding(crate::specs::Ends::view_of, crate::specs::Forms::form_of))]
 pub fn end_in(r: Record) -> End
     ensures { result ≡ view_of (inst_of r) }
 {
-    let kind = r.kind;
-    match kind {
-        kinds::BR => End::Br(BlockId(r.p1)),
-        kinds::COND_BR => End::CondBr(Reg(r.p1), BlockId(r.p2), BlockId(r.p3)),
-        kinds::CASE => End::Case(r.p2),
+    match Kind::from(r.kind) {
+        Kind::Br => End::Br(BlockId(r.p1)),
+        Kind::CondBr => End::CondBr(Reg(r.p1), BlockId(r.p2), BlockId(r.p3)),
+        Kind::Case => End::Case(r.p2),
         _ => End::Other,
     }
 }

@@ -1,7 +1,8 @@
 -- Document 01, "Equal arms", over the bytes of code and block table, for any blocks.
-use Rattle.std.specs.Prelude.{ℕ, zero, suc, ◌/◌, List, [], Bool, true, false, eqb, length, get_or}
+use Rattle.std.specs.Prelude.{ℕ, zero, suc, ◌/◌, List, [], Option, Some, None, Bool, true, false, eqb, length, get_or}
 use Rattle.records.specs.Record.{record_at}
 use Rattle.inst.specs.declared.Inst.TheVariants as i
+use Rattle.inst.specs.declared.BlockId.{BlockId}
 use Rattle.codec.specs.Codec.{block_of}
 use Rattle.ends.specs.declared.End.{End}
 use Rattle.ends.specs.declared.End.TheVariants as e
@@ -9,8 +10,6 @@ use Rattle.ends.specs.Ends.{end_of}
 use Rattle.blocks.specs.Blocks.{blocks_of}
 use Rattle.blocks.specs.Rewrite.{end_rewritten}
 use Rattle.steps.specs.EqualArms.{Arms, reached_from}
-use Rattle.equal_arms.specs.declared.Meeting.{Meeting}
-use Rattle.equal_arms.specs.declared.Meeting.TheVariants as m
 
 -- the code's bytes, and whether some CondBr was replaced
 pub record Joined : Type 0 where
@@ -41,9 +40,9 @@ module _ (table : List ℕ) where
   join_end e.Other k s = s
 
   -- the same, once it is known where the arms meet
-  abbrev pub join_met : Meeting → ℕ → Joined → Joined
-  join_met (m.At to) k s = joined (end_rewritten s.code (record_at table k) (i.Br to)) true
-  join_met m.Apart k s = s
+  abbrev pub join_met : Option BlockId → ℕ → Joined → Joined
+  join_met (Some to) k s = joined (end_rewritten s.code (record_at table k) (i.Br to)) true
+  join_met None k s = s
 
   -- block k
   unfoldable pub join_arms : ℕ → Joined → Joined

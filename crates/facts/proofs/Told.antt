@@ -4,7 +4,7 @@ use native.Mathlib.Omega.{arith}
 use mathlib.Core.Path.{◌≡◌, refl, sym, ap, ◌∙◌}
 use mathlib.Core.Bool.{Bool, true, false, cond, not, ◌&&◌, ◌||◌}
 use mathlib.Core.List.{List, [], ◌∷◌, append-nil}
-use mathlib.Core.Option.{Option, none, some}
+use Rattle.std.proofs.Common.{Option, None, Some}
 use borrow.Author.Tests.{ltb-true, ltb-false}
 use lib.Dec.{eqb, ltb}
 use lib.ListN.{length, get_or, drop_of_length-le}
@@ -32,15 +32,15 @@ facts_eq f g registers single uses const konst body budget =
     }
 
 -- a class and a word say what they were made of
-class-const : (o : Option ℕ) (k : Bool) → cond (eqb (class_of o k) 1) (some (value_or 0 o)) none ≡ o
-class-const (some v) k = refl
-class-const none true = refl
-class-const none false = refl
+class-const : (o : Option ℕ) (k : Bool) → cond (eqb (class_of o k) 1) (Some (value_or 0 o)) None ≡ o
+class-const (Some v) k = refl
+class-const None true = refl
+class-const None false = refl
 
 class-konst : (o : Option ℕ) (k : Bool) → not (eqb (class_of o k) 0) ≡ (present o || k)
-class-konst (some v) k = refl
-class-konst none true = refl
-class-konst none false = refl
+class-konst (Some v) k = refl
+class-konst None true = refl
+class-konst None false = refl
 
 -- who has a constant is a konst
 or_true : (b : Bool) → (b || true) ≡ true
@@ -57,7 +57,7 @@ module _ (r : ℕ) where
   const-bound (x ∷ c) = by (writes r x.inst) (fixed_of x.inst) (const-bound c)
     where
       by : (w : Bool) (f : Fixed) → (present (const_in c r) || any_of bounds c) ≡ any_of bounds c →
-          (present (or_else (cond w (word_of f) none) (const_in c r)) || ((w && bound f) || any_of bounds c)) ≡ ((w && bound f) || any_of bounds c)
+          (present (or_else (cond w (word_of f) None) (const_in c r)) || ((w && bound f) || any_of bounds c)) ≡ ((w && bound f) || any_of bounds c)
       by false f e = e
       by true (word v) e = refl
       by true real e = or_true (present (const_in c r))
@@ -69,7 +69,7 @@ module _ (r : ℕ) where
   unfolding const_of konst_of
   const-konst c = by (singly c r)
     where
-      by : (s : Bool) → (present (cond s (const_in c r) none) || (s && any_of bounds c)) ≡ (s && any_of bounds c)
+      by : (s : Bool) → (present (cond s (const_in c r) None) || (s && any_of bounds c)) ≡ (s && any_of bounds c)
       by true = const-bound c
       by false = refl
 
@@ -77,7 +77,7 @@ module _ (r : ℕ) where
   never_single : (c : List Code) → writes_in c r ≡ 0 → singly c r ≡ false
   never_single c e = rw e
 
-  never_const : (c : List Code) → writes_in c r ≡ 0 → const_of c r ≡ none
+  never_const : (c : List Code) → writes_in c r ≡ 0 → const_of c r ≡ None
   unfolding const_of
   never_const c e = rw (never_single c e)
 
@@ -147,7 +147,7 @@ module _ (t kinds ops : List ℕ) (c : List Code) (long : length t ≡ 5 * lengt
       (λ r h. past r 2 h ∙ sym (unread r h)))
       (each (λ r. const_at table r ≡ const_of c r)
       (λ r h. rw (here r 3 h (omega arith), here r 4 h (omega arith)) (class-const (const_of c r) (konst_of c r)))
-      (λ r h. ap (λ (n : ℕ). cond (eqb n 1) (some (cell table r 4 0)) none) (past r 3 h) ∙ sym (never_const r c (unwritten r h))))
+      (λ r h. ap (λ (n : ℕ). cond (eqb n 1) (Some (cell table r 4 0)) None) (past r 3 h) ∙ sym (never_const r c (unwritten r h))))
       (each (λ r. konst_at table r ≡ konst_of c r)
       (λ r h. ap (λ (n : ℕ). not (eqb n 0)) (here r 3 h (omega arith)) ∙ class-konst (const_of c r) (konst_of c r) ∙ const-konst r c)
       (λ r h. ap (λ (n : ℕ). not (eqb n 0)) (past r 3 h) ∙ sym (never_konst r c (unwritten r h))))

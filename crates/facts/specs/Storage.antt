@@ -1,14 +1,11 @@
 -- Storage, not the paper's: how a slice of words represents the facts that Thread needs about a file.
 -- Five words a register: its kind, its definitions, its uses, its class, and the v of its Const.
-use Rattle.std.specs.Prelude.{ℕ, zero, suc, ◌+◌, ◌*◌, ◌/◌, min, List, [], ◌∷◌, ◌++◌, map, Bool, true, false, not, cond, eqb, ltb, length, get_or, drop}
-use Rattle.std.proofs.Math.Option.{Option, none, some}
+use Rattle.std.specs.Prelude.{ℕ, zero, suc, ◌+◌, ◌*◌, ◌/◌, min, List, [], ◌∷◌, ◌++◌, map, Bool, true, false, not, cond, eqb, ltb, length, get_or, drop, Option, None, Some}
 use Rattle.records.specs.Record.{records_of}
 use Rattle.inst.specs.declared.Code.{Code}
 use Rattle.procedure.specs.Lists.{value_or}
 use Rattle.procedure.specs.Counts.{def_count, use_count}
 use Rattle.steps.specs.Facts.{Facts, const_of, konst_of}
-use Rattle.facts.specs.declared.Word.{Word}
-use Rattle.facts.specs.declared.Word.TheVariants as w
 
 -- f 0, f 1 and so on, n of them
 unfoldable pub tabled : {A : Type 0} → ℕ → (ℕ → A) → List A
@@ -29,9 +26,9 @@ operands_in b = map (λ r. r.p1) (records_of b)
 
 -- 1: singly written, by a Const; 2: by a ConstF or a non-Up AddrOf; else 0
 abbrev pub class_of : Option ℕ → Bool → ℕ
-class_of (some v) konst = 1
-class_of none true = 2
-class_of none false = 0
+class_of (Some v) konst = 1
+class_of None true = 2
+class_of None false = 0
 
 -- the highest count of uses
 abbrev pub cap : ℕ
@@ -67,7 +64,7 @@ unfoldable pub uses_in : List ℕ → ℕ → ℕ
 uses_in t r = cell t r 2 0
 
 unfoldable pub const_at : List ℕ → ℕ → Option ℕ
-const_at t r = cond (eqb (cell t r 3 0) 1) (some (cell t r 4 0)) none
+const_at t r = cond (eqb (cell t r 3 0) 1) (Some (cell t r 4 0)) None
 
 unfoldable pub konst_at : List ℕ → ℕ → Bool
 konst_at t r = not (eqb (cell t r 3 0) 0)
@@ -83,8 +80,3 @@ facts_in t body budget = record {
   body = body;
   budget = budget;
 }
-
--- a word, or none
-abbrev pub word_in : Word → Option ℕ
-word_in (w.Some v) = some v
-word_in w.None = none

@@ -1,12 +1,12 @@
 // The table of facts about a file's registers: kind, definitions, uses, constant.
 #![tactic(auto)]
 
-ghost use Rattle.std.specs.Prelude.{◌≡◌, ◌<◌, length, get_or};
-ghost use Rattle.facts.specs.Storage.{cell, kinds_in, single_in, uses_in, const_at, konst_at, word_in};
+ghost use Rattle.std.specs.Prelude.{◌≡◌, ◌<◌, length, slice_get};
+ghost use Rattle.facts.specs.Storage.{cell, kinds_in, single_in, uses_in, const_at, konst_at};
 
 use inst::Reg;
 
-// A register's row: five words, in this order.
+// A register's row: five words, in this order. The table is words and no structs, since C lends it to the benchmark as words.
 pub const ROW: usize = 5;
 
 pub const KIND: usize = 0;
@@ -25,20 +25,13 @@ pub const BY_CONST: u64 = 1;
 
 pub const BY_OTHER: u64 = 2;
 
-// The kinds that are asked for by name.
+// The kinds that are asked for by name. A kind is a byte, as in the lent storage for the kinds of new registers.
 pub const I64: u8 = 0;
 
 pub const PTR: u8 = 2;
 
-// In place of a kind, for a register that the file doesn't have.
+// A word that is no kind is read as this, since the contracts hold for any words.
 const NO_KIND: u64 = 5;
-
-// A word, or none.
-#[derive(Clone, Copy)]
-pub enum Word {
-    Some(u64),
-    None,
-}
 
 // Word j of a register's row, or a default if it has no row.
 fn cell_of(table: &[u64], r: Reg, j: usize, other: u64) -> u64
@@ -59,15 +52,15 @@ pub fn registers(table: &[u64]) -> usize
     table.len() / ROW
 }
 
-// A register's kind; 5 for a register that the file doesn't have.
-pub fn kind_of(table: &[u64], r: Reg) -> u8
-    ensures { result ≡ get_or (kinds_in table.now) r.0 5 }
+// A register's kind, if the file has the register.
+pub fn kind_of(table: &[u64], r: Reg) -> Option<u8>
+    ensures { result ≡ slice_get (kinds_in table.now) r.0 }
 {
-    let k = cell_of(table, r, KIND, NO_KIND);
-    if k < NO_KIND {
-        return k as u8;
+    let k = r.0 as usize;
+    if registers(table) <= k {
+        return None;
     }
-    NO_KIND as u8
+    Some(u64::min(table[ROW * k + KIND], NO_KIND) as u8)
 }
 
 // Whether exactly one field of the code writes it.
@@ -84,13 +77,13 @@ pub fn uses_of(table: &[u64], r: Reg) -> u64
 }
 
 // The Rust's kc: the v of a register that only a Const writes.
-pub fn const_of(table: &[u64], r: Reg) -> Word
-    ensures { word_in result ≡ const_at table.now r.0 }
+pub fn const_of(table: &[u64], r: Reg) -> Option<u64>
+    ensures { result ≡ const_at table.now r.0 }
 {
     if cell_of(table, r, CLASS, 0) == BY_CONST {
-        return Word::Some(cell_of(table, r, VALUE, 0));
+        return Some(cell_of(table, r, VALUE, 0));
     }
-    Word::None
+    None
 }
 
 // The Rust's kdef: whether only one Const, ConstF or non-Up AddrOf writes the register.

@@ -1,4 +1,4 @@
-ghost use Rattle.std.specs.Prelude.{◌≡◌, ◌<◌, None, length, take};
+ghost use Rattle.std.specs.Prelude.{◌<◌, length, take, IfOk, MatchResult};
 ghost use Rattle.std.specs.Io.KnownBytes.{Consumes, IsAtEnd};
 ghost use Rattle.io.specs.Counts.{IsPrefixLen};
 
@@ -7,10 +7,10 @@ use std::fs;
 use std::io::{Error, Read};
 use std::rt::Files;
 
-// Why the reading ended early, if it did, and how many bytes came.
+// Why the reading ended early, and how many bytes came before.
 #[derive(Clone, Copy)]
-pub struct Input {
-    pub failed: Option<Error>,
+pub struct Cut {
+    pub why: Error,
     pub length: usize,
 }
 
@@ -25,32 +25,22 @@ pub fn open<R: Files>(rt: &R, path: &[u8]) -> Result<R::File, Error> {
     }
 }
 
-// Reads until the buffer is full or the input ends.
-pub fn read_whole<R: Read>(reader: &mut R, buf: &mut [u8]) -> Input
-    ensures in_bounds { IsPrefixLen result.length buf.new }
-    ensures bytes { Consumes (R.remaining reader.old) (R.remaining reader.new) (take result.length buf.new) }
-    ensures whole { result.failed ≡ None → result.length < length buf.new → IsAtEnd (R.remaining reader.new) }
+// Reads until the buffer is full or the input ends, and returns how many bytes came.
+pub fn read_whole<R: Read>(reader: &mut R, buf: &mut [u8]) -> Result<usize, Cut>
+    ensures in_bounds { MatchResult result (λ n. IsPrefixLen n buf.new) (λ cut. IsPrefixLen cut.length buf.new) }
+    ensures bytes { MatchResult result
+        (λ n. Consumes (R.remaining reader.old) (R.remaining reader.new) (take n buf.new))
+        (λ cut. Consumes (R.remaining reader.old) (R.remaining reader.new) (take cut.length buf.new)) }
+    ensures whole { IfOk result (λ n. n < length buf.new → IsAtEnd (R.remaining reader.new)) }
 {
     let mut n = 0;
+    // Each turn adds what was read, so `n` is no index that a `for` could count.
     while n < buf.len() {
         match reader.read(&mut buf[n..]) {
-            Err(error) => {
-                return Input {
-                    failed: Some(error),
-                    length: n,
-                };
-            }
-            Ok(0) => {
-                return Input {
-                    failed: None,
-                    length: n,
-                };
-            }
+            Err(why) => return Err(Cut { why, length: n }),
+            Ok(0) => return Ok(n),
             Ok(more) => n += more,
         }
     }
-    Input {
-        failed: None,
-        length: n,
-    }
+    Ok(n)
 }

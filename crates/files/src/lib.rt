@@ -6,16 +6,14 @@ mod name;
 mod reason;
 mod replacement;
 
-pub use input::{Input, open, read_whole};
+pub use input::{Cut, open, read_whole};
 pub use reason::fail;
 pub use replacement::replace;
 use std::io::ErrorKind;
 
-// What became of a text for standard output.
-#[derive(Clone, Copy, PartialEq)]
-pub enum Output {
-    // All of it was written.
-    Written,
+// Why a text for standard output wasn't written.
+#[derive(Clone, Copy, Debug, PartialEq, Eq)]
+pub enum Unsaid {
     // Nobody reads on, as where `head` has had enough.
     Closed,
     // The reason is on standard error.
@@ -24,15 +22,12 @@ pub enum Output {
 
 // Writes a text to standard output. If that fails, the reason goes to standard error, unless it is
 // that nobody reads on.
-pub fn say(rt: &impl Print, text: &[u8]) -> Output {
-    match rt.write_all(text) {
-        Ok(()) => Output::Written,
-        Err(error) => {
-            if error.kind() == ErrorKind::BrokenPipe {
-                return Output::Closed;
-            }
-            fail(b"standard output", error);
-            Output::Failed
+pub fn say(rt: &impl Print, text: &[u8]) -> Result<(), Unsaid> {
+    rt.write_all(text).map_err(|error| {
+        if error.kind() == ErrorKind::BrokenPipe {
+            return Unsaid::Closed;
         }
-    }
+        fail(b"standard output", error);
+        Unsaid::Failed
+    })
 }

@@ -9,24 +9,17 @@ const ENOENT: i32 = 2;
 
 // A name that is not UTF-8 can't be passed on.
 pub fn text_of(path: &[u8]) -> Result<&str, Error> {
-    match str::from_utf8(path) {
-        Ok(text) => Ok(text),
-        Err(_) => Err(Error::new(ErrorKind::InvalidFilename, "the name is not UTF-8")),
-    }
+    str::from_utf8(path).map_err(|_| Error::new(
+        ErrorKind::InvalidFilename,
+        "the name is not UTF-8",
+    ))
 }
 
 // Where the name after the last slash starts.
 pub fn name_start(path: &[u8]) -> usize
     ensures { IsPrefixLen result path.now }
 {
-    let mut i = path.len();
-    while i > 0 {
-        if path[i - 1] == b'/' {
-            return i;
-        }
-        i -= 1;
-    }
-    i
+    path.iter().rposition(|b| *b == b'/').map_or(0, |i| i + 1)
 }
 
 // The folder that the name after the last slash is in.

@@ -1,12 +1,13 @@
 -- Laws of the gate: one block more.
-use Prim.Native.Nat.{ℕ, suc, ◌+◌, ◌≤◌, ◌<◌}
-use native.Mathlib.Numerals.{add-one}
-use mathlib.Core.Path.{◌≡◌, refl, sym, ap, ◌∙◌}
+use Prim.Native.Nat.{ℕ, suc}
+use native.Mathlib.Omega.{arith}
+use Rattle.std.specs.List.{list_any, range_with_len}
+use Rattle.small.proofs.Places.{any_along}
+use mathlib.Core.Path.{◌≡◌, refl, ap}
 use mathlib.Core.Bool.{Bool, true, false, not}
 use mathlib.Core.List.{List, []}
 use lib.Dec.{leb}
-use lib.ListN.{length, get_or, drop, drop_of_length-le}
-use lib.Seq.{drop-cons}
+use lib.ListN.{length, get_or}
 use Rattle.general.proofs.Booleans.{both, neither}
 use Rattle.inst.specs.declared.Code.{Code}
 use Rattle.procedure.specs.Lists.{any_of}
@@ -19,33 +20,20 @@ use Rattle.steps.specs.Gate as g
 abbrev pub back : ℕ → End → Bool
 back b e = any_of (λ t. leb t b) (targets e)
 
--- a search along the blocks, whose test knows the block's number
-module _ (P : List (List Code)) (k : ℕ) where
-  pub back_pass : k < length P → back k (end_of (get_or P k [])) ≡ false → g.back_edge_from (k + 1) (drop (k + 1) P) ≡ g.back_edge_from k (drop k P)
+-- a search over the blocks' numbers is the search along the blocks
+module _ (P : List (List Code)) where
+  pub back_places : list_any (λ k. back k (end_of (get_or P k []))) (range_with_len 0 (length P)) ≡ g.has_back_edge P
   unfolding g.back_edge_from
-  back_pass h e = sym (ap (g.back_edge_from k) (drop-cons P k [] h) ∙ rw (e, add-one k))
+  back_places =
+      any_along [] g.back_edge_from (λ k x. back k (end_of x)) (λ k. back k (end_of (get_or P k []))) (λ k. refl) (λ k x l. refl) P 0
+      (λ k j h e. let i : k ≡ j = omega arith in ap (λ (n : ℕ). back k (end_of (get_or P n []))) i)
 
-  pub back_stop : k < length P → back k (end_of (get_or P k [])) ≡ true → true ≡ g.back_edge_from k (drop k P)
-  unfolding g.back_edge_from
-  back_stop h e = sym (ap (g.back_edge_from k) (drop-cons P k [] h) ∙ rw e)
-
-  pub back_end : length P ≤ k → false ≡ g.back_edge_from k (drop k P)
-  unfolding g.back_edge_from
-  back_end h = sym (ap (g.back_edge_from k) (drop_of_length-le P h))
-
-  module _ (wide : Bool) (Q : List (List Code)) where
-    pub hop_pass : k < length P → g.may_hop wide Q k (end_of (get_or P k [])) ≡ false
-        → g.may_thread_from wide Q (k + 1) (drop (k + 1) P) ≡ g.may_thread_from wide Q k (drop k P)
-    unfolding g.may_thread_from
-    hop_pass h e = sym (ap (g.may_thread_from wide Q k) (drop-cons P k [] h) ∙ rw (e, add-one k))
-
-    pub hop_stop : k < length P → g.may_hop wide Q k (end_of (get_or P k [])) ≡ true → true ≡ g.may_thread_from wide Q k (drop k P)
-    unfolding g.may_thread_from
-    hop_stop h e = sym (ap (g.may_thread_from wide Q k) (drop-cons P k [] h) ∙ rw e)
-
-    pub hop-end : length P ≤ k → false ≡ g.may_thread_from wide Q k (drop k P)
-    unfolding g.may_thread_from
-    hop-end h = sym (ap (g.may_thread_from wide Q k) (drop_of_length-le P h))
+  pub hop_places : (wide : Bool) → list_any (λ k. g.may_hop wide P k (end_of (get_or P k []))) (range_with_len 0 (length P)) ≡ g.may_thread wide P
+  unfolding g.may_thread_from
+  hop_places wide =
+      any_along [] (g.may_thread_from wide P) (λ k x. g.may_hop wide P k (end_of x)) (λ k. g.may_hop wide P k (end_of (get_or P k [])))
+      (λ k. refl) (λ k x l. refl) P 0
+      (λ k j h e. let i : k ≡ j = omega arith in ap (λ (n : ℕ). g.may_hop wide P k (end_of (get_or P n []))) i)
 
 -- a block that is copied, by its tests in their order
 module _ (wide : Bool) (P : List (List Code)) (l : ℕ) where
@@ -53,6 +41,6 @@ module _ (wide : Bool) (P : List (List Code)) (l : ℕ) where
   unfolding g.copied
   not_small e = neither _ refl e
 
-  pub small-block : {x : Bool} → small (get_or P l []) ≡ true → x ≡ not (latch (get_or P l []) (get_or P (suc l) []) l wide) → x ≡ g.copied wide P l
+  pub small_block : {x : Bool} → small (get_or P l []) ≡ true → x ≡ not (latch (get_or P l []) (get_or P (suc l) []) l wide) → x ≡ g.copied wide P l
   unfolding g.copied
-  small-block e f = both refl e f
+  small_block e f = both refl e f

@@ -26,20 +26,6 @@ module _ {A : Type 0} where
   drop-take (suc m) (suc n) [] = sym (take-nil (suc n - suc m))
   drop-take (suc m) (suc n) (x ∷ l) = let e : n - m ≡ suc n - suc m = omega arith in drop-take m n l ∙ ap (λ (k : ℕ). take k (drop m l)) e
 
-  pub snoc_replicate : (n : ℕ) (x : A) → replicate n x ++ (x ∷ []) ≡ replicate (suc n) x
-  snoc_replicate zero x = refl
-  snoc_replicate (suc n) x = ap (λ (l : List A). x ∷ l) (snoc_replicate n x)
-
-  pub take-replicate : (m n : ℕ) (x : A) → m ≤ n → take m (replicate n x) ≡ replicate m x
-  take-replicate zero n x h = refl
-  take-replicate (suc m) zero x h = absurd (omega arith)
-  take-replicate (suc m) (suc n) x h = ap (λ (l : List A). x ∷ l) (take-replicate m n x (omega arith))
-
-  pub drop-replicate : (m n : ℕ) (x : A) → drop m (replicate n x) ≡ replicate (n - m) x
-  drop-replicate zero n x = let e : n ≡ n - 0 = omega arith in ap (λ (k : ℕ). replicate k x) e
-  drop-replicate (suc m) zero x = let e : 0 ≡ 0 - suc m = omega arith in ap (λ (k : ℕ). replicate k x) e
-  drop-replicate (suc m) (suc n) x = let e : n - m ≡ suc n - suc m = omega arith in drop-replicate m n x ∙ ap (λ (k : ℕ). replicate k x) e
-
 module _ {A B : Type 0} (f : A → B) where
   pub map-take : (n : ℕ) (l : List A) → map f (take n l) ≡ take n (map f l)
   map-take zero l = refl

@@ -1,13 +1,14 @@
 // What the program says about itself: on standard output if asked to, else on standard error.
+use crate::arguments;
 use crate::status::Status;
-use crate::{arguments, status};
-use files::Output;
+use files::Unsaid;
+use line::Line;
 use std::env::Env;
 
 // The descriptor of standard error.
 pub const STDERR: i32 = 2;
 
-fn say_usage(rt: &impl Print, asked: bool) -> Output {
+fn say_usage(rt: &impl Print, asked: bool) -> Result<(), Unsaid> {
     let text = b"usage: halivomue read|tidy [--words] [--] [FILE..]
        halivomue list [--words] [--only PART] [--] [FILE..]
        halivomue shorten [--words] [--] IN OUT
@@ -17,27 +18,24 @@ fn say_usage(rt: &impl Print, asked: bool) -> Output {
         return files::say(rt, text);
     }
     if io::write_all(STDERR, text) {
-        Output::Written
+        Ok(())
     } else {
-        Output::Failed
+        Err(Unsaid::Failed)
     }
 }
 
 pub fn usage(rt: &impl Print) -> Status {
-    say_usage(rt, false);
+    let _ = say_usage(rt, false);
     Status::Usage
 }
 
 pub fn version(rt: &impl Print) -> Status {
-    status::of(files::say(rt, b"halivomue 0.4\n"), true)
+    Status::from(files::say(rt, b"halivomue 0.4\n").map(|()| true))
 }
 
-pub fn help(rt: &impl Print) -> Status {
-    let usage = say_usage(rt, true);
-    if usage != Output::Written {
-        return status::of(usage, true);
-    }
-    let rest = files::say(
+pub fn help(rt: &impl Print) -> Result<bool, Unsaid> {
+    say_usage(rt, true)?;
+    files::say(
         rt,
         b"  read      of each file: accepted, or refused, number and record
   tidy      of each file: yes, or no and the lowest offending register, or refused
@@ -49,8 +47,8 @@ pub fn help(rt: &impl Print) -> Status {
   --        what follows are names, even with a dash in front
 Without a name the bare answer of standard input; the name - is standard input. OUT is a file.
 ",
-    );
-    status::of(rest, true)
+    )?;
+    Ok(true)
 }
 
 // `shorten` with anything but two names.
@@ -73,15 +71,12 @@ pub fn no_part() -> Status {
 }
 
 pub fn wrong_part(word: &[u8]) -> Status {
-    let mut text = [0u8; 1024];
-    let n = line::put(
-        &mut text,
-        0,
-        b"halivomue: --only wants counts, registers, blocks or code, not '",
-    );
-    let n = quote::put_name(&mut text, n, word);
-    let n = line::put(&mut text, n, b"'\n");
-    io::write_all(STDERR, &text[..n]);
+    let mut room = [0u8; 1024];
+    let mut line = Line::new(&mut room);
+    line.put(b"halivomue: --only wants counts, registers, blocks or code, not '");
+    quote::put_name(&mut line, word);
+    line.put(b"'\n");
+    io::write_all(STDERR, line.text());
     Status::Usage
 }
 
@@ -92,18 +87,18 @@ pub fn only_for_list() -> Status {
 
 // A word that isn't a command, or isn't an option.
 pub fn unknown(rt: &impl Print, what: &[u8], word: &[u8]) -> Status {
-    let mut text = [0u8; 1024];
-    let n = quote::put_name(&mut text, 0, word);
+    let mut room = [0u8; 1024];
+    let mut line = Line::new(&mut room);
+    quote::put_name(&mut line, word);
     io::write_all(STDERR, b"halivomue: unknown ");
     io::write_all(STDERR, what);
     io::write_all(STDERR, b" ");
-    io::write_all(STDERR, &text[..n]);
+    io::write_all(STDERR, line.text());
     io::write_all(STDERR, b"\n");
     usage(rt)
 }
 
 pub fn unknown_option(rt: &(impl Env + Print), i: usize) -> Status {
-    let mut word = io::buffer();
-    let n = arguments::put_word(rt, i, &mut word);
-    unknown(rt, b"option", &word[..n])
+    let mut room = io::buffer();
+    unknown(rt, b"option", arguments::text(rt, i, &mut room))
 }

@@ -1,9 +1,9 @@
 // The program: read, tidy, list and shorten, over files and standard input.
 #![tactic(auto)]
 
-use arguments::Options;
+use arguments::{Only, Options};
+use replies::Question;
 use replies::list::Part;
-use replies::{Ask, Question};
 use status::Status;
 
 mod arguments;
@@ -12,85 +12,62 @@ mod help;
 mod shortened;
 mod status;
 
-fn ask(rt: &HostRuntime, o: Options, question: Question) -> Status {
-    let all = Ask {
-        question: question,
-        part: Part::All,
-        words: o.words,
-    };
-    each_file::answer_all(rt, o, all)
+fn ask(rt: &HostRuntime, o: &Options, question: Question) -> Status {
+    Status::from(each_file::answer_all(rt, o, question))
 }
 
-fn list_only(rt: &HostRuntime, o: Options, part: Part) -> Status {
-    let some = Ask {
-        question: Question::List,
-        part: part,
-        words: o.words,
-    };
-    each_file::answer_all(rt, o, some)
-}
-
-fn list_named(rt: &HostRuntime, o: Options, name: &[u8]) -> Status {
-    let part = replies::list::part_named(name);
-    match part {
-        Part::Unknown => help::wrong_part(name),
-        _ => list_only(rt, o, part),
+// The part that starts at this byte of argument `at`.
+fn list_only(rt: &HostRuntime, o: &Options, at: usize, from: usize) -> Status {
+    let mut room = io::buffer();
+    let word = arguments::text(rt, at, &mut room);
+    let name = &word[from.min(word.len())..];
+    match replies::list::part_named(name) {
+        Some(part) => ask(rt, o, Question::List(part)),
+        None => help::wrong_part(name),
     }
 }
 
-fn list(rt: &HostRuntime, o: Options) -> Status {
-    if o.only.at == 0 {
-        return ask(rt, o, Question::List);
+fn list(rt: &HostRuntime, o: &Options) -> Status {
+    match o.only {
+        Only::Given { at, from } => list_only(rt, o, at, from),
+        _ => ask(rt, o, Question::List(Part::All)),
     }
-    let mut word = io::buffer();
-    let n = arguments::put_word(rt, o.only.at, &mut word);
-    let from = line::front(&word[..n], o.only.from);
-    list_named(rt, o, &word[from..n])
 }
 
-fn command(rt: &HostRuntime, o: Options) -> Status {
-    let mut word = io::buffer();
-    let n = arguments::put_word(rt, o.command, &mut word);
-    if check::same(&word[..n], b"list") {
-        return list(rt, o);
+fn command(rt: &HostRuntime, o: &Options, at: usize) -> Status {
+    let mut room = io::buffer();
+    match arguments::text(rt, at, &mut room) {
+        b"list" => list(rt, o),
+        _ if o.only != Only::Nothing => help::only_for_list(),
+        b"read" => ask(rt, o, Question::Read),
+        b"tidy" => ask(rt, o, Question::Tidy),
+        b"shorten" => shortened::shorten_file(rt, o),
+        word => help::unknown(rt, b"command", word),
     }
-    if o.only.at != 0 {
-        return help::only_for_list();
-    }
-    if check::same(&word[..n], b"read") {
-        return ask(rt, o, Question::Read);
-    }
-    if check::same(&word[..n], b"tidy") {
-        return ask(rt, o, Question::Tidy);
-    }
-    if check::same(&word[..n], b"shorten") {
-        return shortened::shorten_file(rt, o);
-    }
-    help::unknown(rt, b"command", &word[..n])
 }
 
-fn run(rt: &HostRuntime, o: Options) -> Status {
-    if o.unknown != 0 {
-        return help::unknown_option(rt, o.unknown);
+fn run(rt: &HostRuntime, o: &Options) -> Status {
+    if let Some(at) = o.unknown {
+        return help::unknown_option(rt, at);
     }
     if o.help {
-        return help::help(rt);
+        return Status::from(help::help(rt));
     }
     if o.version {
         return help::version(rt);
     }
-    if o.wants {
+    if o.only == Only::Waiting {
         return help::no_part();
     }
-    if o.command == 0 {
-        return help::usage(rt);
+    match o.command {
+        Some(at) => command(rt, o, at),
+        None => help::usage(rt),
     }
-    command(rt, o)
 }
 
 fn main(rt: HostRuntime) {
     let o = arguments::scan(&rt);
-    let status = run(&rt, o);
+    let status = run(&rt, &o);
     if o.status {
         status::tell(status);
     }

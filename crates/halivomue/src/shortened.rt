@@ -1,70 +1,96 @@
 // The command `shorten`.
+ghost use Rattle.std.specs.Prelude.{IfOk};
+ghost use Rattle.io.specs.Counts.{IsPrefixLen};
+
 use crate::arguments::Options;
 use crate::status::Status;
-use crate::{arguments, help, status};
+use crate::{arguments, help};
+use files::Unsaid;
+use line::Line;
 use std::env::Env;
 use std::io::{Error, Input, Read};
 use std::random::RandomSource;
 use std::rt::Files;
 
-// Says why the file whose name is the first n bytes of the text failed.
-fn fail(text: &mut [u8], n: usize, what: &[u8], why: Error) {
-    let end = line::put(text, n, what);
-    files::fail(&text[..end], why);
+// What couldn't be done with a file, and why.
+struct Failure {
+    what: &'static [u8],
+    why: Error,
 }
 
-// How many bytes came, if all was read.
-fn read_open(file: &mut impl Read, text: &mut [u8], n: usize, bytes: &mut [u8]) -> Option<usize> {
-    let got = files::read_whole(file, bytes);
-    if let Some(why) = got.failed {
-        fail(text, n, b": cannot be read", why);
-        return None;
+impl Failure {
+    // Says it of the file whose name the line has.
+    fn say(self, line: &mut Line<'_>) -> Status {
+        let Failure { what, why } = self;
+        line.put(what);
+        files::fail(line.text(), why);
+        Status::Failed
     }
-    Some(got.length)
 }
 
-fn read_named(
-    rt: &(impl Files + Input),
-    path: &[u8],
-    text: &mut [u8],
-    n: usize,
-    bytes: &mut [u8],
-) -> Option<usize> {
-    if check::same(path, b"-") {
-        let mut input = rt.reader();
-        return read_open(&mut input, text, n, bytes);
+// How many bytes came.
+fn read_open(file: &mut impl Read, bytes: &mut [u8]) -> Result<usize, Failure>
+    ensures { IfOk result (λ n. IsPrefixLen n bytes.new) }
+{
+    match files::read_whole(file, bytes) {
+        Ok(n) => Ok(n),
+        Err(cut) => Err(Failure {
+            what: b": cannot be read",
+            why: cut.why,
+        }),
+    }
+}
+
+fn read_named(rt: &(impl Files + Input), path: &[u8], bytes: &mut [u8]) -> Result<usize, Failure>
+    ensures { IfOk result (λ n. IsPrefixLen n bytes.new) }
+{
+    if matches!(path, b"-") {
+        return read_open(&mut rt.reader(), bytes);
     }
     match files::open(rt, path) {
-        Ok(mut file) => read_open(&mut file, text, n, bytes),
-        Err(why) => {
-            fail(text, n, b": cannot be opened", why);
-            None
-        }
+        Ok(mut file) => read_open(&mut file, bytes),
+        Err(why) => Err(Failure {
+            what: b": cannot be opened",
+            why,
+        }),
     }
 }
 
-// Says how the file whose name is the first n bytes of the text was shortened.
+fn unwritten(to: &[u8], why: Error) -> Status {
+    let mut room = [0u8; quote::ROOM];
+    let mut line = Line::new(&mut room);
+    quote::put_name(&mut line, to);
+    let failure = Failure {
+        what: b": cannot be written",
+        why,
+    };
+    failure.say(&mut line)
+}
+
+// Says how the file whose name the line has was shortened.
 fn shorten_read(
     rt: &(impl Files + Print + RandomSource),
     bytes: &[u8],
-    text: &mut [u8],
-    n: usize,
+    line: &mut Line<'_>,
     to: &[u8],
     words: bool,
 ) -> Status {
     let mut result = [0u8; replies::list::ROOM];
-    let a = shorten::shorten(bytes, &mut result);
-    let at = line::put(text, n, b": ");
-    if a.number != 0 {
-        let end = reasons::put_refusal(text, at, words, a.number, a.place);
-        return status::of(files::say(rt, &text[..end]), false);
+    line.put(b": ");
+    match shorten::shorten(bytes, &mut result) {
+        Ok(s) => {
+            let end = s.length.min(result.len());
+            if let Err(why) = files::replace(rt, to, &result[..end]) {
+                return unwritten(to, why);
+            }
+            listing::put_counts(line, s);
+            Status::from(files::say(rt, line.text()).map(|()| true))
+        }
+        Err(refusal) => {
+            reasons::put_refusal(line, words, refusal);
+            Status::from(files::say(rt, line.text()).map(|()| false))
+        }
     }
-    let m = line::front(&result, a.length);
-    if !files::replace(rt, to, &result[..m]) {
-        return Status::Failed;
-    }
-    let end = listing::put_counts(text, at, a);
-    status::of(files::say(rt, &text[..end]), true)
 }
 
 fn shorten_named(
@@ -74,21 +100,22 @@ fn shorten_named(
     words: bool,
 ) -> Status {
     let mut bytes = [0u8; 65537];
-    let mut text = [0u8; quote::ROOM];
-    let n = quote::put_name(&mut text, 0, from);
-    let Some(length) = read_named(rt, from, &mut text, n, &mut bytes) else {
-        return Status::Failed;
-    };
-    let m = line::front(&bytes, length);
-    shorten_read(rt, &bytes[..m], &mut text, n, to, words)
+    let mut room = [0u8; quote::ROOM];
+    let mut line = Line::new(&mut room);
+    quote::put_name(&mut line, from);
+    match read_named(rt, from, &mut bytes) {
+        Ok(n) => shorten_read(rt, &bytes[..n], &mut line, to, words),
+        Err(failure) => failure.say(&mut line),
+    }
 }
 
 // An argument that is longer than any path.
 fn too_long(rt: &impl Env, i: usize) -> Status {
-    let mut text = [0u8; 80];
-    let n = line::put_numbered(&mut text, 0, b"argument ", arguments::typed(rt, i));
-    let n = line::put(&mut text, n, b": File name too long\n");
-    io::write_all(help::STDERR, &text[..n]);
+    let mut room = [0u8; 80];
+    let mut line = Line::new(&mut room);
+    line.put_numbered(b"argument ", arguments::typed(rt, i));
+    line.put(b": File name too long\n");
+    io::write_all(help::STDERR, line.text());
     Status::Failed
 }
 
@@ -100,23 +127,19 @@ fn shorten_to(
 ) -> Status {
     let mut to = io::buffer();
     match rt.arg(i, &mut to) {
-        Ok(n) => {
-            if check::same(&to[..n], b"-") {
-                return help::wrong_names(rt);
-            }
-            shorten_named(rt, from, &to[..n], words)
-        }
+        Ok(n) if matches!(&to[..n], b"-") => help::wrong_names(rt),
+        Ok(n) => shorten_named(rt, from, &to[..n], words),
         Err(_) => too_long(rt, i),
     }
 }
 
-pub fn shorten_file(rt: &(impl Env + Files + Input + Print + RandomSource), o: Options) -> Status {
-    if o.names != 2 {
+pub fn shorten_file(rt: &(impl Env + Files + Input + Print + RandomSource), o: &Options) -> Status {
+    let [first, second] = o.names.as_slice() else {
         return help::wrong_names(rt);
-    }
+    };
     let mut from = io::buffer();
-    match rt.arg(o.first, &mut from) {
-        Ok(n) => shorten_to(rt, &from[..n], o.last, o.words),
-        Err(_) => too_long(rt, o.first),
+    match rt.arg(*first, &mut from) {
+        Ok(n) => shorten_to(rt, &from[..n], *second, o.words),
+        Err(_) => too_long(rt, *first),
     }
 }

@@ -1,13 +1,20 @@
-// The C interface of include/halivomue.h. Each member of an answer is stated to be that of the
-// definition.
+// The C interface of include/halivomue.h, in numbers and flags: C has no Result. Each member of an
+// answer is stated to be that of the definition. Each answer is made in one function: a `From` would
+// only state its members twice.
 #![tactic(auto)]
 
 ghost use Rattle.std.specs.Prelude.{◌≡◌, ◌++◌, ◌+◌, ◌/◌, ◌≤◌, length, take, drop};
 ghost use Rattle.read.specs.Reading.{reading, answer};
 ghost use Rattle.tidy.specs.Tidy.{tidiness, Tidy};
+ghost use Rattle.tidy.specs.Told.{tidiness_of};
 ghost use Rattle.steps.specs.Shorten.{shorten, instructions};
+ghost use Rattle.steps.specs.Told.{told};
 ghost use Rattle.machine.specs.Demand.{Demand3};
 ghost use Rattle.promise.specs.Promise.{held};
+
+use inst::Reg;
+use read::Refusal;
+use steps::Shortening;
 
 // The version is 0.4.
 const MAJOR: u32 = 0;
@@ -34,10 +41,15 @@ pub extern "C" fn halivomue_read(bytes: &[u8]) -> HalivomueReading
     ensures number { result.number ≡ (reading bytes.now).number }
     ensures place { result.place ≡ (reading bytes.now).place }
 {
-    let r = read::read(bytes);
-    HalivomueReading {
-        number: r.number,
-        place: r.place,
+    match read::read(bytes) {
+        Ok(()) => HalivomueReading {
+            number: 0,
+            place: 0,
+        },
+        Err(e) => HalivomueReading {
+            number: e.reason.number(),
+            place: e.place,
+        },
     }
 }
 
@@ -51,6 +63,32 @@ pub struct HalivomueTidiness {
     pub reg: u32,
 }
 
+// Its members in order, as numbers for C.
+fn tidiness_with(number: u32, place: u32, tidy: u32, reg: u32) -> HalivomueTidiness
+    ensures { result ≡ record { number = number; place = place; tidy = tidy; reg = reg } }
+{
+    HalivomueTidiness {
+        number,
+        place,
+        tidy,
+        reg,
+    }
+}
+
+// The members that tell an answer of Tidy.
+fn members(t: Result<Option<Reg>, Refusal>) -> HalivomueTidiness
+    ensures number { result.number ≡ (tidiness_of t).number }
+    ensures place { result.place ≡ (tidiness_of t).place }
+    ensures tidy { result.tidy ≡ (tidiness_of t).tidy }
+    ensures reg { result.reg ≡ (tidiness_of t).reg }
+{
+    match t {
+        Ok(None) => tidiness_with(0, 0, 1, 0),
+        Ok(Some(r)) => tidiness_with(0, 0, 0, r.0),
+        Err(e) => tidiness_with(e.reason.number(), e.place, 0, 0),
+    }
+}
+
 #[unsafe(no_mangle)]
 pub extern "C" fn halivomue_tidy(bytes: &[u8]) -> HalivomueTidiness
     ensures number { result.number ≡ (tidiness bytes.now).number }
@@ -58,13 +96,7 @@ pub extern "C" fn halivomue_tidy(bytes: &[u8]) -> HalivomueTidiness
     ensures tidy { result.tidy ≡ (tidiness bytes.now).tidy }
     ensures reg { result.reg ≡ (tidiness bytes.now).reg }
 {
-    let t = tidy::tidy(bytes);
-    HalivomueTidiness {
-        number: t.number,
-        place: t.place,
-        tidy: t.tidy,
-        reg: t.reg,
-    }
+    members(tidy::tidy(bytes))
 }
 
 // struct halivomue_shortening of include/halivomue.h: `place` is its member `record`.
@@ -78,6 +110,38 @@ pub struct HalivomueShortening {
     pub grown: u32,
     pub fresh: u32,
     pub rescued: u32,
+}
+
+// The members that tell a result of Shorten.
+fn answer_of(r: Result<Shortening, Refusal>) -> HalivomueShortening
+    ensures number { result.number ≡ (told r).number }
+    ensures place { result.place ≡ (told r).place }
+    ensures length { result.length ≡ (told r).length }
+    ensures moved { result.moved ≡ (told r).moved }
+    ensures grown { result.grown ≡ (told r).grown }
+    ensures fresh { result.fresh ≡ (told r).fresh }
+    ensures rescued { result.rescued ≡ (told r).rescued }
+{
+    match r {
+        Ok(s) => HalivomueShortening {
+            number: 0,
+            place: 0,
+            length: s.length,
+            moved: s.moved as u32,
+            grown: s.grown,
+            fresh: s.fresh,
+            rescued: s.rescued,
+        },
+        Err(refusal) => HalivomueShortening {
+            number: refusal.reason.number(),
+            place: refusal.place,
+            length: 0,
+            moved: 0,
+            grown: 0,
+            fresh: 0,
+            rescued: 0,
+        },
+    }
 }
 
 #[unsafe(no_mangle)]
@@ -99,16 +163,7 @@ pub extern "C" fn halivomue_shorten(bytes: &[u8], out: &mut [u8]) -> HalivomueSh
     ensures demand3 { result.number ≡ 0 → Tidy (held bytes.now)
         → Demand3 (held bytes.now) (held (take result.length out.new)) result.rescued }
 {
-    let s = shorten::shorten(bytes, out);
-    HalivomueShortening {
-        number: s.number,
-        place: s.place,
-        length: s.length,
-        moved: s.moved,
-        grown: s.grown,
-        fresh: s.fresh,
-        rescued: s.rescued,
-    }
+    answer_of(shorten::shorten(bytes, out))
 }
 
 // struct halivomue_provisioning of include/halivomue.h: `place` is its member `record`.
@@ -150,15 +205,17 @@ pub extern "C" fn halivomue_provision(bytes: &[u8], out: &mut [u8]) -> Halivomue
         → Demand3 (held bytes.now) (held (take result.length out.new)) result.rescued }
 {
     let p = shorten::tidy_and_shorten(bytes, out);
+    let t = members(p.tidiness);
+    let a = answer_of(p.shortening);
     HalivomueProvisioning {
-        number: p.shortening.number,
-        place: p.shortening.place,
-        tidy: p.tidiness.tidy,
-        reg: p.tidiness.reg,
-        length: p.shortening.length,
-        moved: p.shortening.moved,
-        grown: p.shortening.grown,
-        fresh: p.shortening.fresh,
-        rescued: p.shortening.rescued,
+        number: a.number,
+        place: a.place,
+        tidy: t.tidy,
+        reg: t.reg,
+        length: a.length,
+        moved: a.moved,
+        grown: a.grown,
+        fresh: a.fresh,
+        rescued: a.rescued,
     }
 }

@@ -1,24 +1,24 @@
 -- Laws of the kinds written one by one, and of a join by its parts.
-use Prim.Native.Nat.{ℕ, suc, ◌+◌, ◌≤◌, ◌<◌, min}
+use Prim.Native.Nat.{ℕ, suc, ◌+◌, ◌≤◌, ◌<◌}
 use native.Mathlib.Numerals.{add-one}
 use native.Mathlib.Omega.{arith}
 use mathlib.Core.Path.{◌≡◌, refl, sym, ap, ◌∙◌}
 use mathlib.Core.List.{List, [], ◌∷◌, ◌++◌, map, append-nil}
-use mathlib.Core.Option.{Option}
-use lib.ListN.{length, get_or, take, drop, set, length-set, length-map, length-take, drop_of_length-le, get_or-map}
-use lib.Seq.{drop-cons, get_or-take, length-take-le, take-suc-set, append_snoc, set_out}
+use Rattle.std.proofs.Common.{Option}
+use lib.ListN.{length, get_or, take, drop, set, length-set, length-map, drop_of_length-le, get_or-map}
+use lib.Seq.{drop-cons, take-suc-set, append_snoc, set_out}
 use Rattle.inst.specs.declared.Reg.{Reg}
 use Rattle.inst.specs.declared.Code.{Code}
-use Rattle.roles.specs.Roles.{numbers_of, reg_of}
-use Rattle.roles.proofs.Laws.{numbers-length, number_at}
+use Rattle.roles.specs.Roles.{reg_of}
 use Rattle.procedure.specs.Procedure.{codes_of}
 use Rattle.blocks.specs.Blocks.{block_bytes}
 use Rattle.steps.specs.Copy.{copy_of, kinds_of}
 use Rattle.facts.specs.Storage.{kinds_in, facts_in}
-use Rattle.arena.specs.Arena.{Arena, arena, Topped, topped, to_end, pop, push_all}
-use Rattle.copy.specs.declared.Copied.{Copied}
+use Rattle.arena.specs.Arena.{Arena, arena, arena_in, Topped, topped_in, to_end, pop, push_all}
+use Rattle.arena.specs.declared.Space.{Space}
+use Rattle.copy.specs.declared.copied.Copied.{Copied}
 use Rattle.copy.specs.Storage.{codes_in, olds_in, CopyOf}
-use Rattle.hop_br.specs.Storage.{kinds_put, next_in, target_in, copy_in, given_in, cut, replaced, left, join_of}
+use Rattle.hop_br.specs.Storage.{kinds_put, next_in, target_in, copy_in, given_in, fresh_to, cut, replaced, left, join_of}
 
 pub kinds-past : (b : List ℕ) (at : ℕ) (ks : List ℕ) → length b ≤ at → kinds_put b at ks ≡ b
 unfolding kinds_put
@@ -48,13 +48,17 @@ module _ (b : List ℕ) (at : ℕ) (ks : List ℕ) (k : ℕ) where
   unfolding kinds_put
   kinds-end h = ap (kinds_put b at) (drop_of_length-le ks {i = k} h)
 
--- the kinds of the first n registers of some
-module _ (g : ℕ → ℕ) (reg : List Reg) (n : ℕ) where
-  pub kinds-count : length (map g (take n (numbers_of reg))) ≡ min n (length reg)
-  kinds-count = length-map (take n (numbers_of reg)) g ∙ length-take n (numbers_of reg) ∙ ap (min n) (numbers-length reg)
+-- the kinds of the registers that got a new number
+module _ (g : ℕ → ℕ) (given : List (Reg × Reg)) where
+  abbrev pub kinds_for : List ℕ
+  kinds_for = map g (map (λ x. x.0.0) given)
 
-  pub kind_nth : (k : ℕ) → k < n → get_or (map g (take n (numbers_of reg))) k (g 0) ≡ g (get_or reg k (reg_of 0)).0
-  kind_nth k h = get_or-map g (take n (numbers_of reg)) k 0 ∙ ap g (get_or-take n (numbers_of reg) k 0 h ∙ number_at reg k 0)
+  pub kinds-count : length kinds_for ≡ length given
+  kinds-count = length-map (map (λ (x : Reg × Reg). x.0.0) given) g ∙ length-map given (λ (x : Reg × Reg). x.0.0)
+
+  pub kind_nth : (k : ℕ) → get_or kinds_for k (g 0) ≡ g (get_or given k (reg_of 0, reg_of 0)).0.0
+  kind_nth k =
+      get_or-map g (map (λ (x : Reg × Reg). x.0.0) given) k 0 ∙ ap g (get_or-map (λ (x : Reg × Reg). x.0.0) given k (reg_of 0, reg_of 0))
 
 left-same : {t t' : Arena} {k k' : List ℕ} {n n' f f' : ℕ} → t ≡ t' → k ≡ k' → n ≡ n' → f ≡ f' → left t k n f ≡ left t' k' n' f'
 left-same {t' = t'} {k = k} {k' = k'} {n = n} {n' = n'} {f = f} e₁ e₂ e₃ e₄ =
@@ -64,15 +68,17 @@ left-same {t' = t'} {k = k} {k' = k'} {n = n} {n' = n'} {f = f} e₁ e₂ e₃ e
     ∙ ap (λ (x : ℕ). left t' k' n' x) e₄
 
 -- a block made the last, then cut, then grown
-pub replaced_by : (a : ℕ) (c : List Code) (s : Arena) {work table table' : List ℕ} {last top : ℕ} {t : Arena}
-    → arena work table last ≡ to_end a s
-    → topped table' top ≡ pop a (topped table last)
-    → t ≡ push_all a c (arena work table' top)
+pub replaced_by : (a : ℕ) (c : List Code) (s : Arena) (p q : Space) {t : Arena}
+    → arena_in p ≡ to_end a s
+    → q.work.now ≡ p.work.now
+    → topped_in q ≡ pop a (topped_in p)
+    → t ≡ push_all a c (arena_in q)
     → t ≡ replaced a c s
 unfolding cut replaced
-replaced_by a c s {work} moved popped pushed =
+replaced_by a c s p q moved code popped pushed =
     pushed
-    ∙ ap (λ (x : Topped). push_all a c (arena work x.table x.top)) popped
+    ∙ ap (λ (w : List ℕ). push_all a c (arena w q.table.now q.top)) code
+    ∙ ap (λ (x : Topped). push_all a c (arena p.work.now x.table x.top)) popped
     ∙ ap (λ (x : Arena). push_all a c (cut a x)) moved
 
 module _ (facts : List ℕ) (body : Option ℕ) (budget l fresh : ℕ) (s : Arena) (z : Copied) {m : ℕ} {b : List ℕ} (next : m ≡ next_in facts fresh)
@@ -87,19 +93,16 @@ module _ (facts : List ℕ) (body : Option ℕ) (budget l fresh : ℕ) (s : Aren
     pub kinds_are : map (λ (d : ℕ). get_or (kinds_in facts) d 0) (olds_in z) ≡ given_in facts body budget (target_in s l)
     kinds_are = copy.kinds body budget ∙ ap (λ (x : List ℕ). kinds_of (facts_in facts body budget) (take 4 (codes_of x))) bytes
 
-    n-is : z.n ≡ length (copy_in facts body budget fresh (target_in s l))
-    n-is = sym (length-take-le z.n z.code (rw copy.four.code copy.n_le)) ∙ ap length code_is
+    n-is : length z.code.items ≡ length (copy_in facts body budget fresh (target_in s l))
+    n-is = ap length code_is
 
-    few : z.fresh ≤ length (numbers_of z.old)
-    few = omega (arith, copy.fresh_le, copy.n_le, copy.four.old, numbers-length z.old)
+    fresh-is : length z.given.items ≡ length (given_in facts body budget (target_in s l))
+    fresh-is = sym (kinds-count (λ d. get_or (kinds_in facts) d 0) z.given.items) ∙ ap length kinds_are
 
-    fresh-is : z.fresh ≡ length (given_in facts body budget (target_in s l))
-    fresh-is =
-        sym (length-map (olds_in z) (λ (d : ℕ). get_or (kinds_in facts) d 0) ∙ length-take-le z.fresh (numbers_of z.old) few)
-        ∙ ap length kinds_are
-
-    pub joins : (a : ℕ) (kinds : List ℕ) {kinds' : List ℕ} {t : Arena} → t ≡ replaced a (codes_in z) s
+    pub joins : (a : ℕ) (kinds : List ℕ) {kinds' : List ℕ} {t : Arena} {f : ℕ} → t ≡ replaced a (codes_in z) s
         → kinds' ≡ kinds_put kinds fresh (map (λ (d : ℕ). get_or (kinds_in facts) d 0) (olds_in z))
-        → left t kinds' z.n z.fresh ≡ join_of facts body budget a l fresh s kinds
-    joins a kinds grown put =
-        left-same (grown ∙ ap (λ (c : List Code). replaced a c s) code_is) (put ∙ ap (kinds_put kinds fresh) kinds_are) n-is fresh-is
+        → f ≡ fresh_to fresh (length z.given.items)
+        → left t kinds' (length z.code.items) f ≡ join_of facts body budget a l fresh s kinds
+    joins a kinds grown put count =
+        left-same (grown ∙ ap (λ (c : List Code). replaced a c s) code_is) (put ∙ ap (kinds_put kinds fresh) kinds_are) n-is
+        (count ∙ ap (fresh_to fresh) fresh-is)

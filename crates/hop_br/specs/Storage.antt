@@ -1,6 +1,5 @@
 -- Storage, not the paper's: what a hop of a Br gets, and how it leaves code, block table and the new registers' kinds.
-use Rattle.std.specs.Prelude.{ℕ, suc, ◌+◌, min, List, [], ◌∷◌, false, length, take, set}
-use Rattle.std.proofs.Math.Option.{Option}
+use Rattle.std.specs.Prelude.{ℕ, suc, ◌+◌, min, List, [], ◌∷◌, false, length, take, set, Option}
 use Rattle.inst.specs.declared.Code.{Code}
 use Rattle.procedure.specs.Procedure.{codes_of}
 use Rattle.blocks.specs.Blocks.{block_bytes}
@@ -21,6 +20,10 @@ kinds_put b at (k ∷ ks) = kinds_put (set b at k) (suc at) ks
 -- the number of the next new register, at most 16 bits
 abbrev pub next_in : List ℕ → ℕ → ℕ
 next_in facts fresh = min (length (kinds_in facts) + fresh) 65535
+
+-- the new registers, at most 65535
+abbrev pub fresh_to : ℕ → ℕ → ℕ
+fresh_to fresh n = min (fresh + n) 65535
 
 -- the first four instructions of block l
 abbrev pub target_in : Arena → ℕ → List Code
@@ -44,7 +47,7 @@ cut a s =
 unfoldable pub replaced : ℕ → List Code → Arena → Arena
 replaced a c s = push_all a c (cut a (to_end a s))
 
--- the arena and the kinds afterwards, and how many instructions and new registers were added
+-- the arena and the kinds afterwards, how many instructions were added, and how many new registers were given so far
 pub record Left : Type 0 where
   pub blocks : Arena
   pub kinds : List ℕ
@@ -60,4 +63,4 @@ join_of facts body budget a l fresh s kinds =
     let c = target_in s l in
     let new = copy_in facts body budget fresh c in
     let given = given_in facts body budget c in
-    left (replaced a new s) (kinds_put kinds fresh given) (length new) (length given)
+    left (replaced a new s) (kinds_put kinds fresh given) (length new) (fresh_to fresh (length given))

@@ -1,20 +1,19 @@
 // A hop over a Br: whether it stays, or is replaced by its target's code.
 #![tactic(auto)]
 
-ghost use Rattle.std.specs.Prelude.{◌≡◌, map, ◌&&◌, ℕ, get_or, take};
-ghost use Rattle.std.proofs.Math.Option.{Option};
-ghost use Rattle.roles.specs.Roles.{numbers_of};
+ghost use Rattle.std.specs.Prelude.{◌≡◌, ◌<◌, ◌^◌, false, map, ◌&&◌, ℕ, length, get_or, Option};
 ghost use Rattle.procedure.specs.Procedure.{codes_of};
 ghost use Rattle.blocks.specs.Blocks.{blocks_of};
 ghost use Rattle.steps.specs.Small as small;
 ghost use Rattle.steps.specs.Thread as steps;
 ghost use Rattle.facts.specs.Storage.{konst_at, kinds_in, facts_in};
 ghost use Rattle.pause.specs.Storage.{body_in};
-ghost use Rattle.hop_br.specs.Storage.{grown_to, next_in, kinds_put, left, join_of};
-ghost use Rattle.arena.specs.Arena.{arena};
+ghost use Rattle.hop_br.specs.Storage.{grown_to, next_in, fresh_to, kinds_put, left, join_of};
+ghost use Rattle.arena.specs.Arena.{arena_in, SameSlices};
 
+use arena::Space;
 use inst::{BlockId, Reg};
-use pause::Pause;
+use pause::Facts;
 
 // Whether there is a body and the code reads or writes a register that only one constant writes.
 fn binds(code: &[u8], facts: &[u64], wide: bool) -> bool
@@ -23,108 +22,110 @@ fn binds(code: &[u8], facts: &[u64], wide: bool) -> bool
     wide && reads_konst::reads_konst(code, facts)
 }
 
+fn budget_of(facts: &Facts) -> u32
+    ensures { result ≡ facts.now.budget }
+{
+    facts.budget
+}
+
 // Whether a Br of block a to block l stays: l is a or the body, `binds` holds, enough was copied,
 // or l can't be copied.
-pub fn stops(
-    code: &[u8],
-    table: &[u8],
-    facts: &[u64],
-    pause: Pause,
-    budget: u32,
-    grown: u64,
-    a: BlockId,
-    l: BlockId,
-) -> bool
-    ensures { result ≡ steps.stops (facts_in facts.now (body_in pause) budget)
-        (grown_to (blocks_of code.now table.now) grown) a.0 l.0 }
+pub fn stops(space: &Space, facts: &Facts, grown: u64, a: BlockId, l: BlockId) -> bool
+    ensures stops { result ≡ steps.stops (facts_in facts.now.table.now (body_in facts.now.pause) facts.now.budget)
+        (grown_to (blocks_of space.now.work.now space.now.table.now) grown) a.0 l.0 }
+    ensures few { result ≡ false → grown < 2 ^ 32 }
 {
-    if l.0 == a.0 {
+    if l == a {
         return true;
     }
-    if pause::is_pause(pause, l) {
+    if pause::is_pause(facts.pause, l) {
         return true;
     }
-    let wide = pause::has_pause(pause);
-    if binds(blocks::block(code, table, l), facts, wide) {
+    let wide = pause::has_pause(facts.pause);
+    let blocks = space.blocks();
+    if binds(blocks.block(l), facts.table, wide) {
         return true;
     }
+    let budget = budget_of(facts);
     if (budget as u64) < grown {
         return true;
     }
-    !gate::copied(code, table, l, wide)
+    !gate::copied(blocks, l, wide)
 }
 
-// What a join leaves: the new top, and how many instructions and new registers were added.
-#[derive(Clone, Copy)]
-pub struct Joined {
-    pub top: usize,
-    pub n: usize,
+// What threading adds: the new registers' kinds and how many were given, how many instructions were
+// appended by copying, and whether a block was edited.
+#[derive(Drop)]
+pub struct Added<'a> {
+    pub kinds: &'a mut [u8],
     pub fresh: usize,
-}
-
-// The number of the next new register.
-fn next_number(facts: &[u64], fresh: usize) -> Reg
-    ensures { result.0 ≡ next_in facts.now fresh }
-{
-    let m = general::least(facts::registers(facts), 65535);
-    Reg((m + general::least(fresh, 65535 - m)) as u32)
+    pub grown: u64,
+    pub edited: bool,
 }
 
 // A register's kind; 0 for a register that the file doesn't have.
 fn kind_at(facts: &[u64], r: Reg) -> u8
     ensures { result ≡ get_or (kinds_in facts.now) r.0 0 }
 {
-    if facts::registers(facts) <= r.0 as usize {
-        return 0;
-    }
-    facts::kind_of(facts, r)
+    facts::kind_of(facts, r).unwrap_or(0)
 }
 
-// Writes the kinds of the first n of some registers from a place on.
-fn put_kinds(kinds: &mut [u8], facts: &[u64], old: [Reg; 4], n: usize, from: usize)
+// Writes the kinds of some old registers from a place on, as far as there is room.
+fn put_kinds(kinds: &mut [u8], facts: &[u64], given: &[(Reg, Reg)], from: usize)
     ensures { kinds.new ≡ kinds_put kinds.old from
-        (map (λ (d : ℕ). get_or (kinds_in facts.now) d 0) (take n (numbers_of old))) }
+        (map (λ (d : ℕ). get_or (kinds_in facts.now) d 0) (map (λ x. x.0.0) given.now)) }
 {
-    let end = general::least(n, 4);
     let mut at = from;
-    let mut k = 0;
-    while k < end {
+    for p in given {
         if kinds.len() <= at {
             return;
         }
-        let r = old[k];
-        kinds[at] = kind_at(facts, r);
+        kinds[at] = kind_at(facts, p.0);
         at += 1;
-        k += 1;
     }
 }
 
-// Replaces the Br at the end of block a by the code of block l.
-pub fn join(
-    work: &mut [u8],
-    table: &mut [u8],
-    kinds: &mut [u8],
-    facts: &[u64],
-    a: BlockId,
-    l: BlockId,
-    top: usize,
-    fresh: usize,
-) -> Joined
-    ensures { (body : Option ℕ) (budget : ℕ)
-        → left (arena work.new table.new result.top) kinds.new result.n result.fresh
-        ≡ join_of facts.now body budget a.0 l.0 fresh (arena work.old table.old top) kinds.old }
-{
-    let m = next_number(facts, fresh);
-    let z = copy::copy_of(blocks::block(work, table, l), facts, m);
-    let code = z.code;
-    let old = z.old;
-    put_kinds(kinds, facts, old, z.fresh, fresh);
-    let last = arena::to_end(work, table, a, top);
-    let cut = arena::pop(table, a, last);
-    let end = arena::append(work, table, a, cut, code, z.n);
-    Joined {
-        top: end,
-        n: z.n,
-        fresh: z.fresh,
+impl Added<'_> {
+    // The number of the next new register.
+    fn next(&self, facts: &[u64]) -> Reg
+        ensures { result.0 ≡ next_in facts.now self.now.fresh }
+    {
+        Reg(
+            facts::registers(facts)
+                .saturating_add(self.fresh)
+                .min(65535) as u32,
+        )
     }
+
+    // Gives new registers, with the kinds of the old ones. 65535 at most are given.
+    fn give(&mut self, facts: &[u64], given: &[(Reg, Reg)])
+        ensures same { self.new.kinds.ghost_name ≡ self.old.kinds.ghost_name }
+        ensures kinds { self.new.kinds.now ≡ kinds_put self.old.kinds.now self.old.fresh
+            (map (λ (d : ℕ). get_or (kinds_in facts.now) d 0) (map (λ x. x.0.0) given.now)) }
+        ensures fresh { self.new.fresh ≡ fresh_to self.old.fresh (length given.now) }
+        ensures rest { (self.new.grown ≡ self.old.grown) × (self.new.edited ≡ self.old.edited) }
+    {
+        put_kinds(self.kinds, facts, given, self.fresh);
+        self.fresh = self.fresh.saturating_add(given.len()).min(65535);
+    }
+}
+
+// Replaces the Br at the end of block a by the code of block l; returns how many instructions that
+// added.
+pub fn join(space: &mut Space, added: &mut Added, facts: &[u64], a: BlockId, l: BlockId) -> usize
+    ensures same { SameSlices space.old space.new }
+    ensures same_kinds { added.new.kinds.ghost_name ≡ added.old.kinds.ghost_name }
+    ensures rest { (added.new.grown ≡ added.old.grown) × (added.new.edited ≡ added.old.edited) }
+    ensures joined { (body : Option ℕ) (budget : ℕ)
+        → left (arena_in space.new) added.new.kinds.now result added.new.fresh
+        ≡ join_of facts.now body budget a.0 l.0 added.old.fresh (arena_in space.old) added.old.kinds.now }
+{
+    let m = added.next(facts);
+    let blocks = space.blocks();
+    let z = copy::copy_of(blocks.block(l), facts, m);
+    added.give(facts, z.given.as_slice());
+    space.to_end(a);
+    space.pop(a);
+    space.append(a, z.code.as_slice());
+    z.code.len()
 }

@@ -4,7 +4,7 @@ use native.Mathlib.Nat.{add-zero}
 use mathlib.Core.Path.{◌≡◌, refl, sym, ap, ◌∙◌}
 use mathlib.Core.Bool.{Bool, true, false, ◌&&◌}
 use mathlib.Core.List.{List, [], ◌++◌, append-nil}
-use mathlib.Core.Option.{Option, none, some}
+use Rattle.std.proofs.Common.{Option, None, Some}
 use borrow.Author.Tests.{lt-ltb}
 use lib.Dec.{eqb}
 use lib.ListN.{length}
@@ -53,8 +53,8 @@ module _
       keep_if false c t e h g k = q (i.CondBr (reg_of c) (block_of t) (block_of e)) (cond_br_range c t e h g k)
 
       keep_decide : (o : Option ℕ) (c' : ℕ) → c' < 2 ^ 32 → Q (decide_in table a code body c t e c' o).code
-      keep_decide (some v) c' h = q (i.Br (block_of (choose v t e))) (br_range (choose v t e) (choose-range v t e ht he))
-      keep_decide none c' h =
+      keep_decide (Some v) c' h = q (i.Br (block_of (choose v t e))) (br_range (choose v t e) (choose-range v t e ht he))
+      keep_decide None c' h =
           let t' = arm_in table a code body c' true t in
           let e' = arm_in table a code body c' false e in
           keep_if (eqb c' c && eqb t' t && eqb e' e) c' t' e' h
@@ -94,8 +94,8 @@ module _
         hop-decide : (f : Facts) → f.body ≡ body → (o : Option ℕ) (c' : ℕ) → c' < 2 ^ 32
             → decide f w a c t e c' o ≡ hop_in table kinds grown (decide_in table a code body c t e c' o)
         unfolding arm_of
-        hop-decide f b (some v) c' r = ap next (edit-end (i.Br (block_of (choose v t e))) (br_range (choose v t e) (choose-range v t e ht he)))
-        hop-decide f b none c' r =
+        hop-decide f b (Some v) c' r = ap next (edit-end (i.Br (block_of (choose v t e))) (br_range (choose v t e) (choose-range v t e ht he)))
+        hop-decide f b None c' r =
             let t' = arm_in table a code body c' true t in
             let e' = arm_in table a code body c' false e in
             rw b

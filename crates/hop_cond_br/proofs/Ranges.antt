@@ -3,7 +3,7 @@ use Prim.Native.Nat.{ℕ, zero, suc, ◌<◌, ◌^◌}
 use mathlib.Core.Path.{◌≡◌}
 use mathlib.Core.Bool.{Bool, true, false, cond, ◌||◌}
 use mathlib.Core.List.{List, [], ◌∷◌, ◌++◌}
-use mathlib.Core.Option.{Option, none, some}
+use Rattle.std.proofs.Common.{Option, None, Some}
 use borrow.Author.Tests.{ltb-true}
 use lib.Dec.{eqb, ltb}
 use lib.ListN.{get_or}
@@ -46,7 +46,7 @@ one_more : (l : List (ℕ × ℕ)) (d s : ℕ) → s < 2 ^ 32 → Sources l → 
 one_more [] d s h w = (h, tt)
 one_more (x ∷ l) d s h w = (w.0, one_more l d s h w.1)
 
-first : (r : ℕ) (z : Bool) (y : ℕ) (o : Option ℕ) → y < 2 ^ 32 → value_or r o < 2 ^ 32 → value_or r (cond z (some y) o) < 2 ^ 32
+first : (r : ℕ) (z : Bool) (y : ℕ) (o : Option ℕ) → y < 2 ^ 32 → value_or r o < 2 ^ 32 → value_or r (cond z (Some y) o) < 2 ^ 32
 first r true y o h w = h
 first r false y o h w = w
 
@@ -64,8 +64,8 @@ forgotten (d ∷ (e ∷ [])) k s = without e (copies_without d k.copies) (withou
 forgotten (d ∷ (e ∷ (g ∷ ds))) k s = tt
 
 with_value_lem : (d : ℕ) (o : Option ℕ) (k : Known) → Sources k.copies → Sources (with_value_if d o k).copies
-with_value_lem d none k s = s
-with_value_lem d (some v) k s = s
+with_value_lem d None k s = s
+with_value_lem d (Some v) k s = s
 
 with_copy_lem : (z : Bool) (d s : ℕ) (k : Known) → s < 2 ^ 32 → Sources k.copies → Sources (cond z (with_copy d s k) k).copies
 with_copy_lem true d s k h w = one_more k.copies d s h w

@@ -4,7 +4,7 @@ use native.Mathlib.Omega.{arith}
 use mathlib.Core.Path.{◌≡◌, refl, sym, ap, ◌∙◌}
 use mathlib.Core.Bool.{Bool, true, false, ◌&&◌, cond}
 use mathlib.Core.List.{List, []}
-use mathlib.Core.Option.{Option, none, some, none-ne-some, some-injective}
+use Rattle.std.proofs.Common.{Option, None, Some, option_map}
 use borrow.Author.Tests.{eq-eqb, ne_eqb}
 use lib.Dec.{eqb}
 use lib.ListN.{length, get_or}
@@ -22,17 +22,13 @@ use Rattle.blocks.specs.Blocks.{blocks_of, block_bytes}
 use Rattle.blocks.specs.Rewrite.{front_bytes, end_rewritten}
 use Rattle.blocks.proofs.Parts.{block_codes}
 use Rattle.blocks.proofs.Rewrites.{front_codes}
-use Rattle.steps.specs.Note.{Known, nothing, notes, source_of, value_of}
+use Rattle.steps.specs.Note.{Known, nothing, notes}
 use Rattle.steps.specs.Thread.{matching, arm_of}
 use Rattle.facts.specs.Storage.{facts_in}
-use Rattle.note_entries.specs.declared.Held.{Held}
-use Rattle.note_entries.specs.Storage.{held_in}
-use Rattle.note.specs.declared.Noted.{Noted}
-use Rattle.note.specs.declared.Noted.TheVariants as v
-use Rattle.note.specs.Noted.{enough, noted_in}
+use Rattle.note.specs.Noted.{enough}
 use Rattle.note.proofs.Gathered.{notes_any}
 use Rattle.hop_cond_br.specs.declared.Turn.TheVariants as u
-use Rattle.hop_cond_br.specs.Storage.{Turned, turned, arm_in, turn_if, turn_in, decide_in, decide_from_in, before, room_in, turned_in}
+use Rattle.hop_cond_br.specs.Storage.{Turned, turned, arm_in, turn_if, turn_in, decide_in, tested_in, before, room_in, turned_in}
 
 -- an arm
 module _ (table : List ℕ) (a : ℕ) (code : List ℕ) (body : Option ℕ) (c : ℕ) (truth : Bool) (l : BlockId) where
@@ -49,6 +45,11 @@ module _ (table : List ℕ) (a : ℕ) (code : List ℕ) (body : Option ℕ) (c :
         → block_of (matching truth c l.0 x) ≡ block_of (arm_in table a code body c truth l.0)
     unfolding arm_of
     arm-past h e = ap (λ (x : End). block_of (matching truth c l.0 x)) e ∙ sym (rw (ne_eqb l.0 a n, h))
+
+-- an arm under another name
+pub arm-named : (table : List ℕ) (a : ℕ) (code : List ℕ) (body : Option ℕ) (c : ℕ) (truth : Bool) {l m r : BlockId} → l ≡ m
+    → r ≡ block_of (arm_in table a code body c truth l.0) → r ≡ block_of (arm_in table a code body c truth m.0)
+arm-named table a code body c truth e h = h ∙ ap (λ (x : BlockId). block_of (arm_in table a code body c truth x.0)) e
 
 -- the CondBr, by whether something differs
 module _
@@ -86,53 +87,36 @@ module _
 
 -- by what is known before it
 module _ (table : List ℕ) (a : ℕ) (facts : List ℕ) (body : Option ℕ) (code : List ℕ) (c t e : ℕ) where
-  by_value : (k : Known) {d : ℕ} {o : Option ℕ} → d ≡ source_of k c → o ≡ value_of (facts_in facts body 0) k d
-      → decide_in table a code body c t e d o ≡ decide_from_in table a (facts_in facts body 0) code body c t e k
-  by_value k {d} p q =
-      ap (decide_in table a code body c t e d) q
-      ∙ ap (λ (r : ℕ). decide_in table a code body c t e r (value_of (facts_in facts body 0) k r)) p
+  abbrev pub decided : Option (ℕ × Option ℕ) → Turned
+  decided (Some x) = decide_in table a code body c t e x.0 x.1
+  decided None = turned code u.Stay
 
   abbrev gathered : Known
   gathered = notes (facts_in facts body 0) nothing (before table a code)
 
-  full : (z : Bool) → none ≡ cond z (some gathered) none → turned code u.Stay ≡ turned_in table a facts body code c t e z
+  by_room : (z : Bool) → decided (option_map (tested_in facts c) (cond z (Some gathered) None)) ≡ turned_in table a facts body code c t e z
   unfolding turned_in
-  full true n = absurd (none-ne-some gathered n)
-  full false n = refl
-
-  at : (z : Bool) (k : Known) → some k ≡ cond z (some gathered) none
-      → decide_from_in table a (facts_in facts body 0) code body c t e k ≡ turned_in table a facts body code c t e z
-  unfolding turned_in
-  at true k n = ap (decide_from_in table a (facts_in facts body 0) code body c t e) (some-injective k gathered n)
-  at false k n = absurd (none-ne-some k (sym n))
+  by_room true = refl
+  by_room false = refl
 
   -- in slices with room or none
   module _ (known copy : List ℕ) {b p : List ℕ} (block : p ≡ block_bytes code table a) (fore : b ≡ front_bytes p) where
     codes : codes_of b ≡ before table a code
     codes = ap codes_of fore ∙ front_codes p ∙ ap front (ap codes_of block ∙ block_codes code table a)
 
-    noted : (o : Option Known) → o ≡ cond (enough (length b / 32) known copy) (some (notes (facts_in facts none 0) nothing (codes_of b))) none
-        → o ≡ cond (room_in table a code known copy) (some gathered) none
-    noted o h =
-        let none_of = facts_in facts none 0 in
+    abbrev noted : Option Known
+    noted = cond (enough (length b / 32) known copy) (Some (notes (facts_in facts None 0) nothing (codes_of b))) None
+
+    noted-is : noted ≡ cond (room_in table a code known copy) (Some gathered) None
+    noted-is =
+        let none_of = facts_in facts None 0 in
         let k = ap (notes none_of nothing) codes ∙ notes_any facts body 0 nothing (before table a code) in
-        h
-        ∙ ap (λ (m : ℕ). cond (enough m known copy) (some (notes none_of nothing (codes_of b))) none) (sym (length_codes b) ∙ ap length codes)
-        ∙ ap (λ (k : Known). cond (room_in table a code known copy) (some k) none) k
+        ap (λ (m : ℕ). cond (enough m known copy) (Some (notes none_of nothing (codes_of b))) None) (sym (length_codes b) ∙ ap length codes)
+        ∙ ap (λ (k : Known). cond (room_in table a code known copy) (Some k) None) k
 
-    module _ {n : Noted} (known' copy' : List ℕ)
-        (g : noted_in n known' copy' ≡ cond (enough (length b / 32) known copy) (some (notes (facts_in facts none 0) nothing (codes_of b))) none)
-      where
-        pub turned_full : n ≡ v.Full → turned code u.Stay ≡ turned_in table a facts body code c t e (room_in table a code known copy)
-        turned_full i = full (room_in table a code known copy) (noted none (sym (ap (λ (x : Noted). noted_in x known' copy') i) ∙ g))
-
-        pub turned-at : {d : ℕ} {o : Option ℕ} (h : Held) → n ≡ v.At h
-            → d ≡ source_of (held_in h [] copy') c → o ≡ value_of (facts_in facts none 0) (held_in h known' []) d
-            → decide_in table a code body c t e d o ≡ turned_in table a facts body code c t e (room_in table a code known copy)
-        turned-at h i p q =
-            let k = held_in h known' copy' in
-            by_value k p q
-            ∙ at (room_in table a code known copy) k (noted (some k) (sym (ap (λ (x : Noted). noted_in x known' copy') i) ∙ g))
+    pub turned-by : {n : Option (ℕ × Option ℕ)} → n ≡ option_map (tested_in facts c) noted
+        → decided n ≡ turned_in table a facts body code c t e (room_in table a code known copy)
+    turned-by e = ap decided (e ∙ ap (option_map (tested_in facts c)) noted-is) ∙ by_room (room_in table a code known copy)
 
 -- the arm that a known value takes
 pub taken : (v : ℕ) (t e : BlockId) → (v ≡ 0 → ⊥) → t ≡ block_of (choose v t.0 e.0)

@@ -1,6 +1,5 @@
 -- Storage, not the paper's: what a hop of a CondBr answers and the bytes that it leaves, over the bytes of code and block table, for any blocks.
-use Rattle.std.specs.Prelude.{ℕ, List, [], Bool, true, false, ◌&&◌, eqb, length, get_or}
-use Rattle.std.proofs.Math.Option.{Option, none, some}
+use Rattle.std.specs.Prelude.{ℕ, List, [], Bool, true, false, ◌&&◌, eqb, length, get_or, Option, None, Some}
 use Rattle.records.specs.Record.{record_at}
 use Rattle.inst.specs.declared.Inst.TheVariants as i
 use Rattle.inst.specs.declared.Code.{Code}
@@ -25,6 +24,10 @@ pub record Turned : Type 0 where
 abbrev pub turned : List ℕ → Turn → Turned
 turned code turn = record { code = code; turn = turn }
 
+-- of what is known: what register c copies, and the value of that
+abbrev pub tested_in : List ℕ → ℕ → Known → ℕ × Option ℕ
+tested_in facts c k = (source_of k c, value_of (facts_in facts None 0) k (source_of k c))
+
 -- block a of a table
 module _ (table : List ℕ) (a : ℕ) where
   -- an arm after passing over a lone CondBr, by the current blocks
@@ -48,8 +51,8 @@ module _ (table : List ℕ) (a : ℕ) where
 
   -- by what is known before it
   abbrev pub decide_in : List ℕ → Option ℕ → ℕ → ℕ → ℕ → ℕ → Option ℕ → Turned
-  decide_in code body c t e c' (some v) = fold_in code v t e
-  decide_in code body c t e c' none = turn_in code body c t e c'
+  decide_in code body c t e c' (Some v) = fold_in code v t e
+  decide_in code body c t e c' None = turn_in code body c t e c'
 
   abbrev pub decide_from_in : Facts → List ℕ → Option ℕ → ℕ → ℕ → ℕ → Known → Turned
   decide_from_in f code body c t e k = decide_in code body c t e (source_of k c) (value_of f k (source_of k c))

@@ -1,26 +1,54 @@
 // A hop over a CondBr: it is decided by a known value, or skips a block that tests the same register.
 #![tactic(auto)]
 
-ghost use Rattle.std.specs.Prelude.{◌≡◌, ◌&&◌, eqb};
+ghost use Rattle.std.specs.Prelude.{◌≡◌, ◌&&◌, ◌/◌, eqb, cond, length, option_map};
 ghost use Rattle.codec.specs.Codec.{block_of};
+ghost use Rattle.procedure.specs.Procedure.{codes_of};
 ghost use Rattle.word.specs.Word as word;
 ghost use Rattle.steps.specs.Thread as steps;
+ghost use Rattle.steps.specs.Note.{nothing, notes};
+ghost use Rattle.facts.specs.Storage.{facts_in};
+ghost use Rattle.note.specs.Noted.{enough};
 ghost use Rattle.pause.specs.Storage.{body_in};
-ghost use Rattle.hop_cond_br.specs.Storage.{turned, arm_in, turn_in, fold_in, room_in, turned_in};
+ghost use Rattle.hop_cond_br.specs.Storage.{turned, arm_in, turn_in, fold_in, tested_in, room_in, turned_in};
+ghost use Rattle.hop_cond_br.specs.Kept.{Recoded, SameRoom};
 
+use arena::Space;
 use ends::End;
-use facts::Word;
 use inst::{BlockId, Inst, Reg};
-use note::Noted;
-use pause::Pause;
+use pause::{Facts, Pause};
+
+// A CondBr: the register that it tests, and its arms.
+#[derive(Clone, Copy, PartialEq, Eq)]
+pub struct CondBr {
+    pub c: Reg,
+    pub t: BlockId,
+    pub f: BlockId,
+}
+
+// The words for known values and for copies.
+#[derive(Drop)]
+pub struct Room<'a> {
+    pub known: &'a mut [u64],
+    pub copy: &'a mut [u32],
+}
 
 // Nothing was written; or the block's last instruction was, and no more hops follow; or it was, and
 // the next hop follows.
-#[derive(Clone, Copy)]
+#[derive(Clone, Copy, Debug, PartialEq, Eq)]
 pub enum Turn {
     Stay,
     Last,
     Next,
+}
+
+impl CondBr {
+    // The arm of a true or of a false register.
+    fn arm(self, truth: bool) -> BlockId
+        ensures { result ≡ cond truth self.t self.f }
+    {
+        if truth { self.t } else { self.f }
+    }
 }
 
 // The arm that a lone CondBr takes if it tests c again; else l.
@@ -28,72 +56,49 @@ fn matching(truth: bool, c: Reg, l: BlockId, e: End) -> BlockId
     ensures { result ≡ block_of (steps.matching truth c.0 l.0 e) }
 {
     match e {
-        End::Br(_) => l,
-        End::CondBr(d, t, f) => {
-            if d.0 != c.0 {
-                return l;
-            }
-            if truth { t } else { f }
-        }
-        End::Case(_) => l,
-        End::Other => l,
+        End::CondBr(d, t, f) if d == c => { if truth { t } else { f } }
+        _ => l,
     }
 }
 
-// An arm, with the block l passed over if it only tests c again.
-fn arm_of(
-    code: &[u8],
-    table: &[u8],
-    pause: Pause,
-    a: BlockId,
-    c: Reg,
-    truth: bool,
-    l: BlockId,
-) -> BlockId
-    ensures { result ≡ block_of (arm_in table.now a.0 code.now (body_in pause) c.0 truth l.0) }
+// An arm of b, with its block passed over if it only tests the same register again.
+fn arm_of(space: &Space, pause: Pause, a: BlockId, b: CondBr, truth: bool) -> BlockId
+    ensures { result ≡ block_of
+        (arm_in space.now.table.now a.0 space.now.work.now (body_in pause) b.c.0 truth (cond truth b.t b.f).0) }
 {
-    if l.0 == a.0 {
+    let l = b.arm(truth);
+    if l == a {
         return l;
     }
     if pause::is_pause(pause, l) {
         return l;
     }
-    matching(truth, c, l, gate::lone_at(code, table, l))
+    let blocks = space.blocks();
+    matching(truth, b.c, l, gate::lone_at(blocks, l))
 }
 
 // Whether register and arms are all the same.
-fn same(c: Reg, t: BlockId, e: BlockId, d: Reg, x: BlockId, y: BlockId) -> bool
-    ensures { result ≡ (eqb d.0 c.0 && eqb x.0 t.0 && eqb y.0 e.0) }
+fn same(b: CondBr, x: CondBr) -> bool
+    ensures { result ≡ (eqb x.c.0 b.c.0 && eqb x.t.0 b.t.0 && eqb x.f.0 b.f.0) }
 {
-    if d.0 != c.0 {
-        return false;
-    }
-    if x.0 != t.0 {
-        return false;
-    }
-    y.0 == e.0
+    x == b
 }
 
-// Rewrites CondBr c t e of block a to test d, with the arms that `arm_of` gives.
-fn rewrite(
-    code: &mut [u8],
-    table: &[u8],
-    pause: Pause,
-    a: BlockId,
-    c: Reg,
-    t: BlockId,
-    e: BlockId,
-    d: Reg,
-) -> Turn
-    ensures { turned code.new result
-        ≡ turn_in table.now a.0 code.old (body_in pause) c.0 t.0 e.0 d.0 }
+// Rewrites the CondBr b of block a to test d, with the arms that `arm_of` gives.
+fn rewrite(space: &mut Space, pause: Pause, a: BlockId, b: CondBr, d: Reg) -> Turn
+    ensures same { Recoded space.old space.new }
+    ensures turned { turned space.new.work.now result
+        ≡ turn_in space.old.table.now a.0 space.old.work.now (body_in pause) b.c.0 b.t.0 b.f.0 d.0 }
 {
-    let x = arm_of(code, table, pause, a, d, true, t);
-    let y = arm_of(code, table, pause, a, d, false, e);
-    if same(c, t, e, d, x, y) {
+    let r = CondBr { c: d, ..b };
+    let t = arm_of(space, pause, a, r, true);
+    let f = arm_of(space, pause, a, r, false);
+    if same(b, CondBr { c: d, t, f }) {
         return Turn::Stay;
     }
-    blocks::rewrite_end(code, table, a, Inst::CondBr { c: d, t: x, f: y });
+    let blocks = space.blocks();
+    let at = blocks.record(a.0 as usize);
+    blocks::rewrite_end(space.work, at, Inst::CondBr { c: d, t, f });
     Turn::Last
 }
 
@@ -103,46 +108,61 @@ fn choose(v: u64, t: BlockId, e: BlockId) -> BlockId
     if v != 0 { t } else { e }
 }
 
-// Turns the CondBr into a Br, by a known value.
-fn fold(code: &mut [u8], table: &[u8], a: BlockId, v: u64, t: BlockId, e: BlockId) -> Turn
-    ensures { turned code.new result ≡ fold_in table.now a.0 code.old v t.0 e.0 }
+// Turns the CondBr b of block a into a Br, by a known value.
+fn fold(space: &mut Space, a: BlockId, b: CondBr, v: u64) -> Turn
+    ensures same { Recoded space.old space.new }
+    ensures turned { turned space.new.work.now result
+        ≡ fold_in space.old.table.now a.0 space.old.work.now v b.t.0 b.f.0 }
 {
-    blocks::rewrite_br(code, table, a, choose(v, t, e));
+    let blocks = space.blocks();
+    let at = blocks.record(a.0 as usize);
+    blocks::rewrite_br(space.work, at, choose(v, b.t, b.f));
     Turn::Next
 }
 
-// A hop of block a, which ends with CondBr c t e.
-pub fn hop_cond_br(
-    code: &mut [u8],
-    table: &[u8],
+// What is known of register c after some code: what it copies, and the value of that. None if there
+// is no room to note it. The slices stand apart, since only so a caller learns that they stay as long.
+fn tested(
+    code: &[u8],
     known: &mut [u64],
     copy: &mut [u32],
     facts: &[u64],
-    pause: Pause,
-    a: BlockId,
     c: Reg,
-    t: BlockId,
-    e: BlockId,
-) -> Turn
-    ensures { turned code.new result
-        ≡ turned_in table.now a.0 facts.now (body_in pause) code.old c.0 t.0 e.0
-        (room_in table.now a.0 code.old known.old copy.old) }
+) -> Option<(Reg, Option<u64>)>
+    ensures { option_map (λ x. (x.0.0, x.1)) result
+        ≡ option_map (tested_in facts.now c.0)
+        (cond (enough (length code.now / 32) known.old copy.old)
+        (Some (notes (facts_in facts.now None 0) nothing (codes_of code.now)))
+        None) }
 {
-    let n = note::notes(
-        blocks::front(blocks::block(code, table, a)),
-        known,
-        copy,
-        facts,
-    );
+    let n = note::notes(code, known, copy, facts);
     match n {
-        Noted::At(h) => {
-            let d = note_entries::source_of(copy, h, c);
-            let v = note_entries::value_of(known, h, facts, d);
-            match v {
-                Word::Some(x) => fold(code, table, a, x, t, e),
-                Word::None => rewrite(code, table, pause, a, c, t, e, d),
-            }
+        Some(k) => {
+            let d = k.source_of(c);
+            let v = k.value_of(facts, d);
+            Some((d, v))
         }
-        Noted::Full => Turn::Stay,
+        None => None,
+    }
+}
+
+// A hop of block a, which ends with b.
+pub fn hop_cond_br(space: &mut Space, room: &mut Room, facts: &Facts, a: BlockId, b: CondBr) -> Turn
+    ensures same { Recoded space.old space.new }
+    ensures same_room { SameRoom room.old room.new }
+    ensures turned { turned space.new.work.now result
+        ≡ turned_in space.old.table.now a.0 facts.now.table.now (body_in facts.now.pause) space.old.work.now
+        b.c.0 b.t.0 b.f.0
+        (room_in space.old.table.now a.0 space.old.work.now room.old.known.now room.old.copy.now) }
+{
+    let blocks = space.blocks();
+    let front = blocks::front(blocks.block(a));
+    let n = tested(front, room.known, room.copy, facts.table, b.c);
+    match n {
+        Some((d, v)) => match v {
+            Some(x) => fold(space, a, b, x),
+            None => rewrite(space, facts.pause, a, b, d),
+        },
+        None => Turn::Stay,
     }
 }

@@ -3,35 +3,27 @@
 
 ghost use Rattle.std.specs.Prelude.{◌≡◌};
 ghost use Rattle.inst.specs.Inst.{kind_of};
+ghost use Rattle.inst.specs.Kinds.{kind_at, number_of};
 
 use real::Real;
 
-pub mod kinds;
-
-#[derive(Clone, Copy)]
+#[derive(Clone, Copy, Debug, Default, PartialEq, Eq)]
 pub struct Reg(pub u32);
 
-#[derive(Clone, Copy)]
+#[derive(Clone, Copy, Debug, PartialEq, Eq)]
 pub struct BlockId(pub u32);
 
-#[derive(Clone, Copy)]
+#[derive(Clone, Copy, Debug, Default, PartialEq, Eq)]
 pub struct StmtId(pub u32);
 
-// The Rust's Option<Reg>.
-#[derive(Clone, Copy)]
-pub enum OptReg {
-    Some(Reg),
-    None,
-}
-
 // A part of the operands: where it starts, and its length.
-#[derive(Clone, Copy)]
+#[derive(Clone, Copy, Debug, PartialEq, Eq)]
 pub struct Regs {
     pub start: u32,
     pub len: u32,
 }
 
-#[derive(Clone, Copy)]
+#[derive(Clone, Copy, Debug, PartialEq, Eq)]
 pub enum RegTy {
     I64,
     F64,
@@ -40,7 +32,7 @@ pub enum RegTy {
     Handle,
 }
 
-#[derive(Clone, Copy)]
+#[derive(Clone, Copy, Debug, PartialEq, Eq)]
 pub enum Width {
     B1,
     B4,
@@ -48,7 +40,7 @@ pub enum Width {
     Sig,
 }
 
-#[derive(Clone, Copy)]
+#[derive(Clone, Copy, Debug, PartialEq, Eq)]
 pub enum AddrSpace {
     Frame,
     Up(u8),
@@ -58,7 +50,7 @@ pub enum AddrSpace {
     Shared,
 }
 
-#[derive(Clone, Copy)]
+#[derive(Clone, Copy, Debug, PartialEq, Eq)]
 pub enum IntOp {
     Add,
     Sub,
@@ -69,7 +61,7 @@ pub enum IntOp {
     Pow,
 }
 
-#[derive(Clone, Copy)]
+#[derive(Clone, Copy, Debug, PartialEq, Eq)]
 pub enum CmpOp {
     Eq,
     Ne,
@@ -79,7 +71,7 @@ pub enum CmpOp {
     Ge,
 }
 
-#[derive(Clone, Copy)]
+#[derive(Clone, Copy, Debug, PartialEq, Eq)]
 pub enum BoolOp {
     And,
     Or,
@@ -87,7 +79,7 @@ pub enum BoolOp {
     Not,
 }
 
-#[derive(Clone, Copy)]
+#[derive(Clone, Copy, Debug, PartialEq, Eq)]
 pub enum CheckKind {
     Range,
     Index,
@@ -96,8 +88,79 @@ pub enum CheckKind {
     Null,
 }
 
+// The kinds of instructions, with their numbers in a record.
+#[derive(Clone, Copy, Debug, PartialEq, Eq)]
+pub enum Kind {
+    Const,
+    ConstF,
+    Move,
+    AddrOf,
+    Select,
+    Cmp,
+    Bool,
+    Bin,
+    BinRange,
+    Load,
+    Store,
+    Check,
+    MakeDope,
+    DopeLen,
+    BoundsLen,
+    Alloc,
+    TakeBounds,
+    CallNative,
+    Br,
+    CondBr,
+    Case,
+    Ret,
+    Unreachable,
+    Stmt,
+}
+
+// A number past the last is read as Stmt.
+impl From<u32> for Kind {
+    ghost from_gives = { λ n k. k ≡ kind_at n };
+
+    fn from(number: u32) -> Kind {
+        match number {
+            0 => Kind::Const,
+            1 => Kind::ConstF,
+            2 => Kind::Move,
+            3 => Kind::AddrOf,
+            4 => Kind::Select,
+            5 => Kind::Cmp,
+            6 => Kind::Bool,
+            7 => Kind::Bin,
+            8 => Kind::BinRange,
+            9 => Kind::Load,
+            10 => Kind::Store,
+            11 => Kind::Check,
+            12 => Kind::MakeDope,
+            13 => Kind::DopeLen,
+            14 => Kind::BoundsLen,
+            15 => Kind::Alloc,
+            16 => Kind::TakeBounds,
+            17 => Kind::CallNative,
+            18 => Kind::Br,
+            19 => Kind::CondBr,
+            20 => Kind::Case,
+            21 => Kind::Ret,
+            22 => Kind::Unreachable,
+            _ => Kind::Stmt,
+        }
+    }
+}
+
+impl From<Kind> for u32 {
+    ghost from_gives = { λ k n. n ≡ number_of k };
+
+    fn from(kind: Kind) -> u32 {
+        kind as u32
+    }
+}
+
 // The 24 kinds, in the file's order.
-#[derive(Clone, Copy)]
+#[derive(Clone, Copy, Default)]
 pub enum Inst {
     Const {
         dst: Reg,
@@ -193,7 +256,7 @@ pub enum Inst {
     CallNative {
         native: u32,
         args: Regs,
-        dst: OptReg,
+        dst: Option<Reg>,
     },
     Br {
         to: BlockId,
@@ -208,23 +271,24 @@ pub enum Inst {
         table: u32,
     },
     Ret {
-        v: OptReg,
+        v: Option<Reg>,
     },
     Unreachable {
         what: u32,
     },
+    #[default]
     Stmt,
 }
 
 // An instruction with its statement.
-#[derive(Clone, Copy)]
+#[derive(Clone, Copy, Default)]
 pub struct Code {
     pub inst: Inst,
     pub stmt: StmtId,
 }
 
 // Where a block starts and ends in the code; the end is exclusive.
-#[derive(Clone, Copy)]
+#[derive(Clone, Copy, Debug, PartialEq, Eq)]
 pub struct Block {
     pub start: u32,
     pub end: u32,
@@ -232,7 +296,7 @@ pub struct Block {
 
 // An arm as its record has it: with its table, and whether it is the default (then its bounds are
 // zero).
-#[derive(Clone, Copy)]
+#[derive(Clone, Copy, Debug, PartialEq, Eq)]
 pub struct ArmEntry {
     pub table: u32,
     pub low: u64,
@@ -241,33 +305,35 @@ pub struct ArmEntry {
     pub default: bool,
 }
 
-pub fn kind(i: Inst) -> u32
-    ensures { result ≡ kind_of i }
-{
-    match i {
-        Inst::Const { .. } => kinds::CONST,
-        Inst::ConstF { .. } => kinds::CONST_F,
-        Inst::Move { .. } => kinds::MOVE,
-        Inst::AddrOf { .. } => kinds::ADDR_OF,
-        Inst::Select { .. } => kinds::SELECT,
-        Inst::Cmp { .. } => kinds::CMP,
-        Inst::Bool { .. } => kinds::BOOL,
-        Inst::Bin { .. } => kinds::BIN,
-        Inst::BinRange { .. } => kinds::BIN_RANGE,
-        Inst::Load { .. } => kinds::LOAD,
-        Inst::Store { .. } => kinds::STORE,
-        Inst::Check { .. } => kinds::CHECK,
-        Inst::MakeDope { .. } => kinds::MAKE_DOPE,
-        Inst::DopeLen { .. } => kinds::DOPE_LEN,
-        Inst::BoundsLen { .. } => kinds::BOUNDS_LEN,
-        Inst::Alloc { .. } => kinds::ALLOC,
-        Inst::TakeBounds { .. } => kinds::TAKE_BOUNDS,
-        Inst::CallNative { .. } => kinds::CALL_NATIVE,
-        Inst::Br { .. } => kinds::BR,
-        Inst::CondBr { .. } => kinds::COND_BR,
-        Inst::Case { .. } => kinds::CASE,
-        Inst::Ret { .. } => kinds::RET,
-        Inst::Unreachable { .. } => kinds::UNREACHABLE,
-        Inst::Stmt => kinds::STMT,
+impl Inst {
+    pub fn kind(self) -> Kind
+        ensures { number_of result ≡ kind_of self }
+    {
+        match self {
+            Inst::Const { .. } => Kind::Const,
+            Inst::ConstF { .. } => Kind::ConstF,
+            Inst::Move { .. } => Kind::Move,
+            Inst::AddrOf { .. } => Kind::AddrOf,
+            Inst::Select { .. } => Kind::Select,
+            Inst::Cmp { .. } => Kind::Cmp,
+            Inst::Bool { .. } => Kind::Bool,
+            Inst::Bin { .. } => Kind::Bin,
+            Inst::BinRange { .. } => Kind::BinRange,
+            Inst::Load { .. } => Kind::Load,
+            Inst::Store { .. } => Kind::Store,
+            Inst::Check { .. } => Kind::Check,
+            Inst::MakeDope { .. } => Kind::MakeDope,
+            Inst::DopeLen { .. } => Kind::DopeLen,
+            Inst::BoundsLen { .. } => Kind::BoundsLen,
+            Inst::Alloc { .. } => Kind::Alloc,
+            Inst::TakeBounds { .. } => Kind::TakeBounds,
+            Inst::CallNative { .. } => Kind::CallNative,
+            Inst::Br { .. } => Kind::Br,
+            Inst::CondBr { .. } => Kind::CondBr,
+            Inst::Case { .. } => Kind::Case,
+            Inst::Ret { .. } => Kind::Ret,
+            Inst::Unreachable { .. } => Kind::Unreachable,
+            Inst::Stmt => Kind::Stmt,
+        }
     }
 }

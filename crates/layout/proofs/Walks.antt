@@ -1,15 +1,19 @@
 -- Laws of a walk: one step more, and where it ends.
-use Prim.Native.Nat.{ℕ, suc, ◌+◌, ◌≤◌, ◌<◌}
+use Prim.Native.Nat.{ℕ, zero, suc, ◌+◌, ◌-◌, ◌/◌, ◌≤◌, ◌<◌}
 use native.Mathlib.Nat.{add-zero}
-use native.Mathlib.Numerals.{add-one}
+use native.Mathlib.Numerals.{add-one, one-add}
 use native.Mathlib.Omega.{arith}
-use mathlib.Core.Path.{◌≡◌, sym, ap, ◌∙◌}
+use mathlib.Core.Path.{◌≡◌, refl, sym, ap, ◌∙◌}
 use mathlib.Core.Bool.{Bool, true, false, cond}
 use mathlib.Core.List.{List, [], ◌∷◌}
 use mathlib.Core.Logic.{⊎_elim}
-use lib.ListN.{length, get_or, drop, drop_of_length-le}
-use lib.Seq.{drop-cons}
+use lib.ListN.{length, get_or, take, drop, length-drop, drop_of_length-le}
+use lib.Seq.{drop-cons, take_all}
+use Rattle.std.specs.List.{prefix_len, range_with_len}
 pub use Rattle.general.proofs.Booleans.{cases, told}
+use Rattle.records.specs.declared.Record.{Record}
+use Rattle.records.specs.Record.{records_of, record_at, blank}
+use Rattle.records.proofs.Laws.{length_records}
 use Rattle.layout.specs.Walk.{walk, lead}
 
 module _ {S R : Type 0} (ok : S → R → Bool) (next : S → R → S) where
@@ -66,3 +70,25 @@ module _ {R : Type 0} (p : R → Bool) where
 
   pub lead_le : (l : List R) → lead p l ≤ length l
   lead_le l = walk_le (λ s r. p r) (λ s r. s) (tt {0}) l
+
+-- the places of n records from `first` on, up to the first that fails the test
+module _ (p : Record → Bool) (b : List ℕ) where
+  pub run_range :
+      (first n : ℕ) → n ≤ length b / 32 - first →
+      prefix_len (λ k. p (record_at b k)) (range_with_len first n) ≡ lead p (take n (drop first (records_of b)))
+  unfolding walk
+  run_range first zero h = refl
+  run_range first (suc n) h =
+      let i : first < length (records_of b) = rw (length_records b) (omega arith) in
+      ap (λ (k : ℕ). cond (p (record_at b first)) k 0)
+      (one-add _
+      ∙ ap suc (run_range (first + 1) n (omega arith) ∙ ap (λ (k : ℕ). lead p (take n (drop k (records_of b)))) (add-one first)))
+      ∙ sym (ap (λ (rs : List Record). lead p (take (suc n) rs)) (drop-cons (records_of b) first blank i))
+
+  -- the same to the end of the file
+  pub run_rest :
+      (first n : ℕ) → n ≡ length b / 32 - first →
+      prefix_len (λ k. p (record_at b k)) (range_with_len first n) ≡ lead p (drop first (records_of b))
+  run_rest first n e =
+      run_range first n (omega arith)
+      ∙ ap (lead p) (take_all n (drop first (records_of b)) (omega (arith, length-drop first (records_of b), length_records b)))

@@ -11,10 +11,10 @@ use lib.Dec.{eqb, lit≤}
 use borrow.Author.Tests.{lt-ltb, le-ltb, le-leb, eqb-true, ne_eqb}
 use lib.ListN.{length, get_or, take, set, length-set, length-append}
 use lib.Seq.{sets, set_out, length-sets, take-suc, take_all}
-use Rattle.io.proofs.Counting.{prefix_len_of_le}
 use Rattle.io.specs.Digits.{last_digits, hex_digit_ascii, IsDigitCount}
 use Rattle.general.proofs.Booleans.{and_first, and_second}
 use Rattle.general.proofs.Numbers.{order}
+use Rattle.line.specs.declared.Line.{Line}
 use Rattle.line.specs.Line.{written, Put, decimal_in, decimal, Numbered, is_plain, plain, Added, Ended}
 
 past : (text line : List ℕ) (at : ℕ) → length line ≤ at → sets line at text ≡ line
@@ -33,49 +33,43 @@ cut t line at =
     ⊎_elim (λ h. let e : min at (length line) ≡ at = omega arith in ap (λ (k : ℕ). sets line k t) e)
     (λ h. past t line (min at (length line)) (omega arith) ∙ sym (past t line at h)) (order at (length line))
 
-module _ {line line' line'' : List ℕ} {at at' at'' : ℕ} {s t : List ℕ} where
-  pub then : Put line at s line' at' → Put line' at' t line'' at'' → Put line at (s ++ t) line'' at''
+module _ {line line' line'' : Line} {s t : List ℕ} where
+  pub then : Put line s line' → Put line' t line'' → Put line (s ++ t) line''
   unfolding written
   then p q =
-      let n : length line' ≡ length line = ap length p.bytes ∙ length-sets line at s in
-      let e : at' ≡ min (at + length s) (length line') = omega arith in
+      let room : length line'.bytes.now ≡ length line.bytes.now = ap length p.bytes ∙ length-sets line.bytes.now line.at s in
+      let here : line'.at ≡ min (line.at + length s) (length line'.bytes.now) = omega arith in
       let l = length-append s t in
       record {
-        fits = q.fits;
-        counted = q.counted;
+        same = q.same ∙ p.same;
         bytes =
-            q.bytes ∙ ap (λ (k : ℕ). sets line' k t) e ∙ cut t line' (at + length s) ∙ ap (λ (l : List ℕ). sets l (at + length s) t) p.bytes
-            ∙ joined s t line at;
+            q.bytes ∙ ap (λ (k : ℕ). sets line'.bytes.now k t) here ∙ cut t line'.bytes.now (line.at + length s)
+            ∙ ap (λ (l : List ℕ). sets l (line.at + length s) t) p.bytes ∙ joined s t line.bytes.now line.at;
         place = omega arith;
       }
 
 -- nothing put, and one byte
-pub put-none : (line : List ℕ) (at next : ℕ) → next ≡ min at (length line) → Put line at [] line next
+pub put-none : (line : Line) → Put line [] line
 unfolding written
-put-none line at next e =
-    let c = prefix_len_of_le next line (omega arith) in
-    record { fits = c.0; counted = c.1; bytes = refl; place = omega arith }
+put-none line = let fits : line.at ≤ length line.bytes.now = line.fits in record { same = refl; bytes = refl; place = omega arith }
 
-pub put_one : (line : List ℕ) (at b next : ℕ) → next ≡ min (at + 1) (length (set line at b)) → Put line at (b ∷ []) (set line at b) next
+pub put_one : {line line' : Line} {b : ℕ} → line'.bytes.ghost_name ≡ line.bytes.ghost_name → line'.bytes.now ≡ set line.bytes.now line.at b
+    → line'.at ≡ line.at + 1 → line.at < length line.bytes.now → Put line (b ∷ []) line'
 unfolding written
-put_one line at b next e =
-    let n = length-set line at b in
-    let c = prefix_len_of_le next (set line at b) (omega arith) in
-    record { fits = c.0; counted = c.1; bytes = refl; place = omega arith }
+put_one same bytes next room = record { same = same; bytes = bytes; place = omega arith }
 
-pub put-past : (line : List ℕ) (at b next : ℕ) → length line ≤ at → next ≡ min at (length line) → Put line at (b ∷ []) line next
+pub put-past : {line : Line} {b : ℕ} → length line.bytes.now ≤ line.at → Put line (b ∷ []) line
 unfolding written
-put-past line at b next h e =
-    let c = prefix_len_of_le next line (omega arith) in
-    record { fits = c.0; counted = c.1; bytes = sym (set_out line at b h); place = omega arith }
+put-past {line} {b} full =
+    let fits : line.at ≤ length line.bytes.now = line.fits in
+    record { same = refl; bytes = sym (set_out line.bytes.now line.at b full); place = omega arith }
 
 -- one byte more of a text
-pub put_next : {line line' line'' : List ℕ} {at next next' : ℕ} (text : List ℕ) (i : ℕ) → Put line at (take i text) line' next
-    → Put line' next (get_or text i 0 ∷ []) line'' next' → i < length text → Put line at (take (i + 1) text) line'' next'
+pub put_next : {line line' line'' : Line} (text : List ℕ) (i : ℕ) → Put line (take i text) line' → Put line' (get_or text i 0 ∷ []) line'' → i < length text
+    → Put line (take (i + 1) text) line''
 put_next text i p q h = rw (add-one, take-suc text i 0 h) (then p q)
 
-pub put_all : {line line' : List ℕ} {at next : ℕ} (text : List ℕ) (i : ℕ) → Put line at (take i text) line' next → length text ≤ i
-    → Put line at text line' next
+pub put_all : {line line' : Line} (text : List ℕ) (i : ℕ) → Put line (take i text) line' → length text ≤ i → Put line text line'
 put_all text i p h = rw (take_all i text h) at p
 
 powers_positive : (k : ℕ) → 0 < 10 ^ k
@@ -109,8 +103,8 @@ decimal-is zero (suc (suc k)) n h f = absurd (omega (arith, ten k n f))
 decimal-is (suc fuel) (suc (suc k)) n h f =
     rw (le-ltb n 10 (ten k n f), decimal-is fuel (suc k) (n / 10) (omega (arith, pow-succ' 10 (suc fuel))) (tenth k n f))
 
-pub put-decimal : {line line' : List ℕ} {at next : ℕ} (out : List ℕ) (k n : ℕ) → Put line at (take k out) line' next → take k out ≡ last_digits 10 k n
-    → IsDigitCount 10 1 n k → n < 2 ^ 64 → Put line at (decimal n) line' next
+pub put-decimal : {line line' : Line} (out : List ℕ) (k n : ℕ) → Put line (take k out) line' → take k out ≡ last_digits 10 k n → IsDigitCount 10 1 n k
+    → n < 2 ^ 64 → Put line (decimal n) line'
 put-decimal out k n p e f h =
     let l : 2 ^ 64 ≤ 10 ^ 20 = lit≤ tt in
     rw (e, decimal-is 19 k n (omega arith) f) at p
@@ -156,26 +150,26 @@ plain-front (b ∷ []) e = refl
 plain-front (b ∷ c ∷ text) e =
     rw (and_first (is_plain b) (is_line (c ∷ text)) e) (plain-front (c ∷ text) (and_second (is_plain b) (is_line (c ∷ text)) e))
 
-module _ {line line' : List ℕ} {at next : ℕ} where
+module _ {line line' : Line} where
   -- what is put is added, where it is plain
-  pub added : {text : List ℕ} → Put line at text line' next → plain text ≡ true → Added line at line' next
+  pub added : {text : List ℕ} → Put line text line' → plain text ≡ true → Added line line'
   added {text} p e = record { text = text; put = p; clean = e }
 
-  pub added-numbered : {text : List ℕ} {n : ℕ} → Numbered line at text n line' next → plain text ≡ true → Added line at line' next
+  pub added-numbered : {text : List ℕ} {n : ℕ} → Numbered line text n line' → plain text ≡ true → Added line line'
   added-numbered {text} {n} p e = record { text = text ++ decimal n; put = p.put; clean = plain_both text (decimal n) e (plain-decimal 20 n) }
 
-  pub ended : {text : List ℕ} → Put line at text line' next → is_line text ≡ true → Ended line at line' next
+  pub ended : {text : List ℕ} → Put line text line' → is_line text ≡ true → Ended line line'
   ended {text} p e = record { text = front_of text; put = rw (whole text e) at p; clean = plain-front text e }
 
-module _ {line line' line'' : List ℕ} {at at' at'' : ℕ} where
-  pub both : Added line at line' at' → Added line' at' line'' at'' → Added line at line'' at''
+module _ {line line' line'' : Line} where
+  pub both : Added line line' → Added line' line'' → Added line line''
   both p q = record {
     text = p.text ++ q.text;
     put = then p.put q.put;
     clean = plain_both p.text q.text p.clean q.clean;
   }
 
-  pub last : Added line at line' at' → Ended line' at' line'' at'' → Ended line at line'' at''
+  pub last : Added line line' → Ended line' line'' → Ended line line''
   last p q = record {
     text = p.text ++ q.text;
     put = rw append_assoc (then p.put q.put);

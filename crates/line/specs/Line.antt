@@ -1,18 +1,18 @@
 -- What it means to put a text into a line; a number's decimal digits; texts without control bytes.
-use Rattle.std.specs.Prelude.{ℕ, zero, suc, ◌+◌, ◌≤◌, ◌/◌, ◌%◌, min, ◌≡◌, Bool, true, not, cond, ◌&&◌, List, [], ◌∷◌, ◌++◌, leb, ltb, eqb, length, take}
+use Rattle.std.specs.Prelude.{ℕ, zero, suc, ◌+◌, ◌/◌, ◌%◌, min, ◌≡◌, Bool, true, not, cond, ◌&&◌, List, [], ◌∷◌, ◌++◌, leb, ltb, eqb, length}
 use Rattle.std.proofs.lemmas.List.Edits.{sets}
 use Rattle.io.specs.Digits.{hex_digit_ascii}
+use Rattle.line.specs.declared.Line.{Line}
 
--- the line with a text written over it at a place; what doesn't fit is left out
+-- the buffer with a text written over it at a place; what doesn't fit is left out
 unfoldable pub written : List ℕ → ℕ → List ℕ → List ℕ
-written line at text = sets line at text
+written bytes at text = sets bytes at text
 
--- putting a text at a place turned one line into another, and next is the place after it
-pub record Put (line : List ℕ) (at : ℕ) (text line' : List ℕ) (next : ℕ) : Type 0 where
-  pub fits : next ≤ length line'
-  pub counted : next ≡ length (take next line')
-  pub bytes : line' ≡ written line at text
-  pub place : next ≡ min (at + length text) (length line)
+-- a text was put into a line, and the place is now the one after it
+pub record Put (line : Line) (text : List ℕ) (line' : Line) : Type 0 where
+  pub same : line'.bytes.ghost_name ≡ line.bytes.ghost_name
+  pub bytes : line'.bytes.now ≡ written line.bytes.now line.at text
+  pub place : line'.at ≡ min (line.at + length text) (length line.bytes.now)
 
 -- the decimal digits of a number that has at most so many
 unfoldable pub decimal_in : ℕ → ℕ → List ℕ
@@ -23,8 +23,8 @@ abbrev pub decimal : ℕ → List ℕ
 decimal n = decimal_in 20 n
 
 -- a text was put, and a number after it
-pub record Numbered (line : List ℕ) (at : ℕ) (text : List ℕ) (n : ℕ) (line' : List ℕ) (next : ℕ) : Type 0 where
-  pub put : Put line at (text ++ decimal n) line' next
+pub record Numbered (line : Line) (text : List ℕ) (n : ℕ) (line' : Line) : Type 0 where
+  pub put : Put line (text ++ decimal n) line'
 
 -- no control byte is in it
 abbrev pub is_plain : ℕ → Bool
@@ -35,13 +35,13 @@ plain [] = true
 plain (b ∷ text) = is_plain b && plain text
 
 -- some text was put that is plain
-pub record Added (line : List ℕ) (at : ℕ) (line' : List ℕ) (next : ℕ) : Type 0 where
+pub record Added (line line' : Line) : Type 0 where
   pub text : List ℕ
-  pub put : Put line at text line' next
+  pub put : Put line text line'
   pub clean : plain text ≡ true
 
 -- and one line, with its end
-pub record Ended (line : List ℕ) (at : ℕ) (line' : List ℕ) (next : ℕ) : Type 0 where
+pub record Ended (line line' : Line) : Type 0 where
   pub text : List ℕ
-  pub put : Put line at (text ++ (10 ∷ [])) line' next
+  pub put : Put line (text ++ (10 ∷ [])) line'
   pub clean : plain text ≡ true

@@ -1,55 +1,88 @@
-// Puts a line together in a lent buffer. What doesn't fit is left out.
+// A line of text that is put together in a lent buffer. What doesn't fit is left out.
 #![tactic(auto)]
 
-ghost use Rattle.std.specs.Prelude.{min, ◌≡◌, [], ◌∷◌, length};
-ghost use Rattle.io.specs.Counts.{IsPrefixLen};
-ghost use Rattle.line.specs.Line.{Put, Numbered, decimal};
+ghost use Rattle.std.specs.Prelude.{◌≤◌, ◌≡◌, [], ◌∷◌, length, take};
 
-// `at`, or the end of the line if that comes first.
-pub fn front(line: &[u8], at: usize) -> usize
-    ensures prefix_len { IsPrefixLen result line.now }
-    ensures value { result ≡ min at (length line.now) }
-{
-    if at < line.len() { at } else { line.len() }
+use std::fmt;
+
+// The buffer, and the place in it that the next text goes to.
+#[derive(Drop)]
+pub struct Line<'a> {
+    pub bytes: &'a mut [u8],
+    pub at: usize,
+    ghost fits: { at ≤ length bytes.now },
 }
 
-// Puts a byte at `at` and returns the place after it.
-pub fn put_byte(line: &mut [u8], at: usize, b: u8) -> usize
-    ensures { Put line.old at (b ∷ []) line.new result }
-{
-    if at < line.len() {
-        line[at] = b;
-        return front(line, at + 1);
+impl<'a> Line<'a> {
+    ghost use Rattle.line.specs.Line.{Put, Numbered, decimal};
+
+    // An empty line.
+    pub fn new(bytes: &'a mut [u8]) -> Line<'a>
+        ensures same { result.bytes.ghost_name ≡ bytes.entry.ghost_name }
+        ensures kept { result.bytes.now ≡ bytes.old }
+        ensures empty { result.at ≡ 0 }
+    {
+        Line { bytes, at: 0 }
     }
-    front(line, at)
-}
 
-// Puts a text at `at` and returns the place after it.
-pub fn put(line: &mut [u8], at: usize, text: &[u8]) -> usize
-    ensures { Put line.old at text.now line.new result }
-{
-    let mut n = front(line, at);
-    let mut i = 0;
-    while i < text.len() {
-        n = put_byte(line, n, text[i]);
-        i += 1;
+    // Begins again.
+    pub fn clear(&mut self)
+        ensures same { self.new.bytes.ghost_name ≡ self.old.bytes.ghost_name }
+        ensures kept { self.new.bytes.now ≡ self.old.bytes.now }
+        ensures empty { self.new.at ≡ 0 }
+    {
+        self.at = 0;
     }
-    n
+
+    // What was put.
+    pub fn text(&self) -> &[u8]
+        ensures { result.now ≡ take self.now.at self.now.bytes.now }
+    {
+        &self.bytes[..self.at]
+    }
+
+    pub fn put_byte(&mut self, b: u8)
+        ensures { Put self.old (b ∷ []) self.new }
+    {
+        if self.at < self.bytes.len() {
+            self.bytes[self.at] = b;
+            self.at += 1;
+        }
+    }
+
+    pub fn put(&mut self, text: &[u8])
+        ensures { Put self.old text.now self.new }
+    {
+        for b in text {
+            self.put_byte(*b);
+        }
+    }
+
+    // Puts a number in decimal; `write!` says what is written only where it is known to succeed.
+    pub fn put_number(&mut self, number: usize)
+        ensures { Put self.old (decimal number) self.new }
+    {
+        let mut digits = [0u8; 20];
+        let k = io::decimal(number as u64, &mut digits);
+        self.put(&digits[..k]);
+    }
+
+    // Puts a text and a number after it.
+    pub fn put_numbered(&mut self, text: &[u8], number: usize)
+        ensures { Numbered self.old text.now number self.new }
+    {
+        self.put(text);
+        self.put_number(number);
+    }
 }
 
-// Puts a number in decimal.
-pub fn put_number(line: &mut [u8], at: usize, number: usize) -> usize
-    ensures { Put line.old at (decimal number) line.new result }
-{
-    let mut digits = [0u8; 20];
-    let k = io::decimal(number as u64, &mut digits);
-    put(line, at, &digits[..k])
-}
+impl fmt::Write for Line<'_> {
+    ghost use Rattle.line.specs.Line.{Put};
 
-// Puts a text and a number after it.
-pub fn put_numbered(line: &mut [u8], at: usize, text: &[u8], number: usize) -> usize
-    ensures { Numbered line.old at text.now number line.new result }
-{
-    let n = put(line, at, text);
-    put_number(line, n, number)
+    ghost write_str_gives = { Put };
+
+    fn write_str(&mut self, s: &str) -> fmt::Result {
+        self.put(s.as_bytes());
+        Ok(())
+    }
 }

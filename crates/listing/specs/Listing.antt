@@ -2,7 +2,7 @@
 use Rattle.std.specs.Prelude.{ℕ, List, [], ◌∷◌, ◌++◌}
 use Rattle.records.specs.declared.Record.{Record}
 use Rattle.inst.specs.declared.Block.{Block}
-use Rattle.steps.specs.declared.Answer.{Answer}
+use Rattle.steps.specs.Shorten.{Answer}
 use Rattle.line.specs.Line.{decimal}
 
 -- a word and a number

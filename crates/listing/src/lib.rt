@@ -2,81 +2,83 @@
 #![tactic(auto)]
 
 ghost use Rattle.std.specs.Prelude.{◌≡◌, ◌++◌};
+ghost use Rattle.steps.specs.Told.{told};
 ghost use Rattle.line.specs.Line.{Put};
 ghost use Rattle.listing.specs.Listing.{pair, counts_line, moved_text, fresh_text, reg_line, block_line, code_line, code_text, places_text};
 
 use inst::Block;
+use line::Line;
 use records::Record;
-use steps::Answer;
+use steps::Shortening;
 
-fn put_pair(line: &mut [u8], at: usize, a: u32, b: u32) -> usize
-    ensures { Put line.old at (pair a b) line.new result }
+fn put_pair(line: &mut Line<'_>, a: u32, b: u32)
+    ensures { Put line.old (pair a b) line.new }
 {
-    let n = line::put_numbered(line, at, b" ", a as usize);
-    line::put_numbered(line, n, b" ", b as usize)
+    line.put_numbered(b" ", a as usize);
+    line.put_numbered(b" ", b as usize);
 }
 
-fn put_moved(line: &mut [u8], at: usize, a: Answer) -> usize
-    ensures { Put line.old at (moved_text a) line.new result }
+fn put_moved(line: &mut Line<'_>, s: Shortening)
+    ensures { Put line.old (moved_text (told (Ok s))) line.new }
 {
-    let n = line::put_numbered(line, at, b"moved ", a.moved as usize);
-    line::put_numbered(line, n, b" grown ", a.grown as usize)
+    line.put_numbered(b"moved ", s.moved as usize);
+    line.put_numbered(b" grown ", s.grown as usize);
 }
 
-fn put_fresh(line: &mut [u8], at: usize, a: Answer) -> usize
-    ensures { Put line.old at (fresh_text a) line.new result }
+fn put_fresh(line: &mut Line<'_>, s: Shortening)
+    ensures { Put line.old (fresh_text (told (Ok s))) line.new }
 {
-    let n = line::put_numbered(line, at, b" fresh ", a.fresh as usize);
-    line::put_numbered(line, n, b" rescued ", a.rescued as usize)
+    line.put_numbered(b" fresh ", s.fresh as usize);
+    line.put_numbered(b" rescued ", s.rescued as usize);
 }
 
-pub fn put_counts(line: &mut [u8], at: usize, a: Answer) -> usize
-    ensures { Put line.old at (counts_line a) line.new result }
+pub fn put_counts(line: &mut Line<'_>, s: Shortening)
+    ensures { Put line.old (counts_line (told (Ok s))) line.new }
 {
-    let n = put_moved(line, at, a);
-    let n = put_fresh(line, n, a);
-    line::put_byte(line, n, b'\n')
+    put_moved(line, s);
+    put_fresh(line, s);
+    line.put_byte(b'\n');
 }
 
 // Register i.
-pub fn put_reg(line: &mut [u8], at: usize, i: usize, kind: u32) -> usize
-    ensures { Put line.old at (reg_line i kind) line.new result }
+pub fn put_reg(line: &mut Line<'_>, i: usize, kind: u32)
+    ensures { Put line.old (reg_line i kind) line.new }
 {
-    let n = line::put_numbered(line, at, b"reg ", i);
-    let n = line::put_numbered(line, n, b" ", kind as usize);
-    line::put_byte(line, n, b'\n')
+    line.put_numbered(b"reg ", i);
+    line.put_numbered(b" ", kind as usize);
+    line.put_byte(b'\n');
 }
 
 // Block i.
-pub fn put_block(line: &mut [u8], at: usize, i: usize, b: Block) -> usize
-    ensures { Put line.old at (block_line i b) line.new result }
+pub fn put_block(line: &mut Line<'_>, i: usize, b: Block)
+    ensures { Put line.old (block_line i b) line.new }
 {
-    let n = line::put_numbered(line, at, b"block ", i);
-    let n = put_pair(line, n, b.start, b.end);
-    line::put_byte(line, n, b'\n')
+    line.put_numbered(b"block ", i);
+    put_pair(line, b.start, b.end);
+    line.put_byte(b'\n');
 }
 
-fn put_places(line: &mut [u8], at: usize, r: Record) -> usize
-    ensures { Put line.old at (places_text r) line.new result }
+fn put_places(line: &mut Line<'_>, r: Record)
+    ensures { Put line.old (places_text r) line.new }
 {
-    let n = put_pair(line, at, r.p1, r.p2);
-    let n = put_pair(line, n, r.p3, r.p4);
-    put_pair(line, n, r.p5, r.p6)
+    put_pair(line, r.p1, r.p2);
+    put_pair(line, r.p3, r.p4);
+    put_pair(line, r.p5, r.p6);
 }
 
-fn put_kind(line: &mut [u8], at: usize, i: usize, r: Record) -> usize
-    ensures { Put line.old at (code_text i r) line.new result }
+fn put_kind(line: &mut Line<'_>, i: usize, r: Record)
+    ensures { Put line.old (code_text i r) line.new }
 {
-    let n = line::put_numbered(line, at, b"code ", i);
-    let n = put_pair(line, n, r.kind, r.op);
-    line::put_numbered(line, n, b" ", r.stmt as usize)
+    line.put_numbered(b"code ", i);
+    put_pair(line, r.kind, r.op);
+    line.put_numbered(b" ", r.stmt as usize);
 }
 
 // Instruction i.
-pub fn put_code(line: &mut [u8], at: usize, i: usize, r: Record) -> usize
-    ensures { Put line.old at (code_line i r) line.new result }
+pub fn put_code(line: &mut Line<'_>, i: usize, r: Record)
+    ensures { Put line.old (code_line i r) line.new }
 {
-    let n = put_kind(line, at, i, r);
-    let n = put_places(line, n, r);
-    line::put_byte(line, n, b'\n')
+    put_kind(line, i, r);
+    put_places(line, r);
+    line.put_byte(b'\n');
 }

@@ -2,7 +2,7 @@
 use Prim.Native.Nat.{ℕ, ◌+◌, ◌-◌, ◌*◌, ◌^◌}
 use mathlib.Core.Path.{◌≡◌, refl}
 use mathlib.Core.List.{List, [], ◌∷◌, map}
-use mathlib.Core.Option.{none, some}
+use Rattle.std.proofs.Common.{None, Some}
 use Rattle.real.specs.Real.{real_of, bits_of}
 use Rattle.ops.specs.Ops.{space_num, space_arg}
 use Rattle.codec.specs.Codec.{code_of, inst_of, with_stmt, row_of}
@@ -18,14 +18,14 @@ abbrev address : Address
 address space off = 10000 * space_num space + 100 * space_arg space + off
 
 abbrev outside : Outside
-outside h a = none
+outside h a = None
 
 -- operands r5, r6, r7; a table with arms -1..104, 104..104 and a default
 abbrev p : Procedure
 p = record {
   registers = [];
   blocks = [];
-  body = none;
+  body = None;
   operands = 5 ∷ 6 ∷ 7 ∷ [];
   tables = record {
     arms = record { low = 2 ^ 64 - 1; high = 104; target = 8 } ∷ record { low = 104; high = 104; target = 9 } ∷ [];
@@ -106,8 +106,8 @@ ending : does 18 0 3 0 0 0 0 0
     ∷ goes 3
     ∷ goes 8
     ∷ goes 7
-    ∷ ends (returned none 50)
-    ∷ ends (returned (some 102) 50)
+    ∷ ends (returned None 50)
+    ∷ ends (returned (Some 102) 50)
     ∷ ends (unreachable 81 50)
     ∷ []
 unfolding effect op_of compares inst_of

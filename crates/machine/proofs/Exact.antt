@@ -3,7 +3,7 @@ use Prim.Native.Nat.{ℕ, zero, suc, ◌≤◌, zero-le}
 use mathlib.Core.Path.{◌≡◌, refl, sym, ap, ◌∙◌}
 use mathlib.Core.Logic.{◌⊎◌, inl, inr}
 use mathlib.Core.List.{List, [], ◌∷◌, ◌++◌}
-use mathlib.Core.Option.{Option, none, some}
+use Rattle.std.proofs.Common.{Option, None, Some}
 use native.Mathlib.Omega.{arith}
 use Rattle.inst.specs.declared.Code.{Code}
 use Rattle.procedure.specs.Procedure.{Procedure}
@@ -43,11 +43,11 @@ snoc_inj (x ∷ xs) (y ∷ ys) a b e = let t = snoc_inj xs ys a b (cc) in (cc t.
 
 -- the acts h are done and the run goes on, or the outside ends any run on the last of them
 abbrev Stands : Outside → List Act → Shown → Type 0
-Stands outside h o = (o ≡ record { acts = h; end = none }) ⊎ ((h₀ : List Act) × (a : Act) × (h ≡ h₀ ++ (a ∷ [])) × (outside h₀ a ≡ none))
+Stands outside h o = (o ≡ record { acts = h; end = None }) ⊎ ((h₀ : List Act) × (a : Act) × (h ≡ h₀ ++ (a ∷ [])) × (outside h₀ a ≡ None))
 
 -- a run that goes on was answered on its last act
 abbrev Fed : Outside → State → Type 0
-Fed outside s = (h₀ : List Act) (a : Act) → (shown s).end ≡ none → (shown s).acts ≡ h₀ ++ (a ∷ []) → outside h₀ a ≡ none → ⊥
+Fed outside s = (h₀ : List Act) (a : Act) → (shown s).end ≡ None → (shown s).acts ≡ h₀ ++ (a ∷ []) → outside h₀ a ≡ None → ⊥
 
 module _ (outside : Outside) (address : Address) (p : Procedure) where
   answered_stands : (o : Option (List ℕ)) (a : Act) (rs : List ℕ) (cs : List Code) (g : Regs) (h h' : List Act) → outside h' a ≡ o
@@ -57,13 +57,13 @@ module _ (outside : Outside) (address : Address) (p : Procedure) where
       by : (o : Option (List ℕ)) → outside h' a ≡ o → Prefix h h' ⊎ (h ≡ h' ++ (a ∷ []))
           → Prefix h h' ⊎ Stands outside h (shown (answered outside address p o a rs cs g h'))
       by o e (inl y) = inl y
-      by none e (inr y) = inr (inr (h', a, y, e))
-      by (some vs) e (inr y) = inr (inl (cc))
+      by None e (inr y) = inr (inr (h', a, y, e))
+      by (Some vs) e (inr y) = inr (inl (cc))
 
   acts_of : (o : Option (List ℕ)) (a : Act) (rs : List ℕ) (cs : List Code) (g : Regs) (h : List Act)
       → (shown (answered outside address p o a rs cs g h)).acts ≡ h ++ (a ∷ [])
-  acts_of none a rs cs g h = refl
-  acts_of (some vs) a rs cs g h = refl
+  acts_of None a rs cs g h = refl
+  acts_of (Some vs) a rs cs g h = refl
 
   after_stands : (x : Effect) (rs : List ℕ) (cs : List Code) (g : Regs) (h h' : List Act) → Prefix h (shown (after outside address p x rs cs g h')).acts
       → Prefix h h' ⊎ Stands outside h (shown (after outside address p x rs cs g h'))
@@ -84,8 +84,8 @@ module _ (outside : Outside) (address : Address) (p : Procedure) where
 
   answered_fed : (o : Option (List ℕ)) (a : Act) (rs : List ℕ) (cs : List Code) (g : Regs) (h : List Act) → outside h a ≡ o
       → Fed outside (answered outside address p o a rs cs g h)
-  answered_fed none a rs cs g h e h₀ b x y z = let w : ◌≡◌ {A = ℕ} 0 1 = cc in omega arith
-  answered_fed (some vs) a rs cs g h e h₀ b x y z =
+  answered_fed None a rs cs g h e h₀ b x y z = let w : ◌≡◌ {A = ℕ} 0 1 = cc in omega arith
+  answered_fed (Some vs) a rs cs g h e h₀ b x y z =
       let t = snoc_inj h h₀ a b y in
       let i = t.0 in
       let j = t.1 in
@@ -124,7 +124,7 @@ module _ (outside : Outside) (address : Address) (p : Procedure) where
         → (M : ℕ) × (M ≤ n) × Stands outside h (shows outside address p block g M)
     reach zero h y = (0, zero-le, inl (by h y.rest y.joins))
       where
-        by : (h rest : List Act) → h ++ rest ≡ [] → shown s₀ ≡ record { acts = h; end = none }
+        by : (h rest : List Act) → h ++ rest ≡ [] → shown s₀ ≡ record { acts = h; end = None }
         by [] rest e = refl
         by (a ∷ h) rest e = let w : ◌≡◌ {A = ℕ} 0 1 = cc in absurd (omega arith)
     reach (suc n) h y = by (step_stands (run outside address p n s₀) h (rw run_suc at y)) (reach n h)
@@ -145,21 +145,21 @@ module _ (outside : Outside) (address : Address) (p q : Procedure) (block : ℕ)
   pub exact : Reads bound P Q → Alike bound P Q
   exact r = record { there = λ N. forth N _ refl; back = λ M. back M _ refl }
     where
-      stood : (N : ℕ) → (P N).end ≡ none → {o : Shown} → Stands outside (P N).acts o → o ≡ P N
+      stood : (N : ℕ) → (P N).end ≡ None → {o : Shown} → Stands outside (P N).acts o → o ≡ P N
       stood N x (inl e) = e ∙ ap (λ z. record { acts = (P N).acts; end = z }) (sym x)
       stood N x (inr (h₀, a, e, z)) = absurd (fed outside address p block g N h₀ a x e z)
 
-      stood' : (M : ℕ) → (Q M).end ≡ none → {o : Shown} → Stands outside (Q M).acts o → o ≡ Q M
+      stood' : (M : ℕ) → (Q M).end ≡ None → {o : Shown} → Stands outside (Q M).acts o → o ≡ Q M
       stood' M x (inl e) = e ∙ ap (λ z. record { acts = (Q M).acts; end = z }) (sym x)
       stood' M x (inr (h₀, a, e, z)) = absurd (fed outside address q block g' M h₀ a x e z)
 
       forth : (N : ℕ) (o : Option End) → (P N).end ≡ o → (M : ℕ) × (M ≤ bound N) × (Q M ≡ P N)
-      forth N (some e) x = (bound N, omega arith, r.ends_if N e x)
-      forth N none x = let t = reach outside address q block g' (bound N) (P N).acts (r.does N) in (t.0, t.1, stood N x t.2)
+      forth N (Some e) x = (bound N, omega arith, r.ends_if N e x)
+      forth N None x = let t = reach outside address q block g' (bound N) (P N).acts (r.does N) in (t.0, t.1, stood N x t.2)
 
       back : (M : ℕ) (o : Option End) → (Q M).end ≡ o → (N : ℕ) × (Q M ≡ P N)
-      back M (some e) x = let t = r.ends_only_if M e x in (t.0, sym t.1)
-      back M none x =
+      back M (Some e) x = let t = r.ends_only_if M e x in (t.0, sym t.1)
+      back M None x =
           let t = r.no_other M in
           let u = reach outside address p block g t.0 (Q M).acts t.1 in
           (u.0, sym (stood' M x u.2))

@@ -2,7 +2,7 @@
 use Prim.Native.Nat.{ℕ}
 use mathlib.Core.Path.{◌≡◌, refl}
 use mathlib.Core.List.{List}
-use Rattle.inst.specs.declared.OptReg.TheVariants as o
+use Rattle.std.specs.Prelude.{Some, None}
 use Rattle.inst.specs.declared.Inst.{Inst}
 use Rattle.inst.specs.declared.Inst.TheVariants as i
 use Rattle.procedure.specs.Procedure.{Table}
@@ -31,8 +31,8 @@ module _ (σ τ : ℕ → ℕ) where
     effect-exchanged (i.BoundsLen d l r e) = refl
     effect-exchanged (i.Alloc d s) = refl
     effect-exchanged (i.TakeBounds l r e) = refl
-    effect-exchanged (i.CallNative n a (o.Some r)) = refl
-    effect-exchanged (i.CallNative n a o.None) = refl
+    effect-exchanged (i.CallNative n a (Some r)) = refl
+    effect-exchanged (i.CallNative n a None) = refl
     effect-exchanged (i.Br t) = refl
     effect-exchanged (i.CondBr c t f) = refl
     effect-exchanged (i.Case v t) = refl

@@ -2,7 +2,7 @@
 use Prim.Native.Nat.{ℕ, zero, suc, ◌≤◌}
 use mathlib.Core.Path.{◌≡◌, refl, sym, ◌∙◌}
 use mathlib.Core.List.{List, [], ◌∷◌}
-use mathlib.Core.Option.{Option, none, some}
+use Rattle.std.proofs.Common.{Option, None, Some}
 use native.Mathlib.Omega.{arith}
 use lib.Dec.{lit<}
 use Rattle.inst.specs.declared.Inst.TheVariants as i
@@ -36,15 +36,15 @@ module _ (outside : Outside) (address : Address) where
 
   acted : (o : Option (List ℕ)) (a : Act) (k : ℕ) (g g' : Regs) (h : List Act) → g 0 ≡ g' 0
       → R (answered outside address printed o a [] (br 2 k ∷ []) g h) (answered outside address printed' o a [] (cond_br 0 1 3 14 ∷ []) g' h)
-  acted none a k g g' h e = over _ _
-  acted (some vs) a k g g' h e = branch k g g' _ e
+  acted None a k g g' h e = over _ _
+  acted (Some vs) a k g g' h e = branch k g g' _ e
 
   lands : (v : ℕ) (g g' : Regs) (h : List Act) → g 0 ≡ g' 0
       → R (enter outside address printed (choose v 1 3) g h) (enter outside address printed' (choose v 1 3) g' h)
   lands zero g g' h e = last g g' h
   lands (suc v) g g' h e = act 12 13 g g' h e
 
-  quiet : (k : ℕ) (g : Regs) (h : List Act) (j : ℕ) → j ≤ 1 → seen m j (at (br 2 k ∷ []) g h) ≡ record { acts = h; end = none }
+  quiet : (k : ℕ) (g : Regs) (h : List Act) (j : ℕ) → j ≤ 1 → seen m j (at (br 2 k ∷ []) g h) ≡ record { acts = h; end = None }
   unfolding effect op_of
   quiet k g h zero l = refl
   quiet k g h (suc zero) l = refl
@@ -100,27 +100,27 @@ module _ (outside : Outside) (address : Address) where
 
   acted₀ : (o : Option (List ℕ)) (a : Act) (g g' : Regs) (h : List Act) → g 0 ≡ g' 0
       → Q (answered outside address looping o a [] (cond_br 0 0 1 31 ∷ []) g h) (answered outside address looping' o a [] (cond_br 0 0 1 31 ∷ []) g' h)
-  acted₀ none a g g' h e = over _ _
-  acted₀ (some vs) a g g' h e = branch₀ g g' _ e
+  acted₀ None a g g' h e = over _ _
+  acted₀ (Some vs) a g g' h e = branch₀ g g' _ e
 
   acted₁ : (o : Option (List ℕ)) (a : Act) (g g' : Regs) (h : List Act) → g 0 ≡ g' 0
       → Q (answered outside address looping o a [] (br 2 33 ∷ []) g h) (answered outside address looping' o a [] (cond_br 0 1 3 35 ∷ []) g' h)
-  acted₁ none a g g' h e = over _ _
-  acted₁ (some vs) a g g' h e = branch₁ g g' _ e
+  acted₁ None a g g' h e = over _ _
+  acted₁ (Some vs) a g g' h e = branch₁ g g' _ e
 
   lands₁ : (v : ℕ) (g g' : Regs) (h : List Act) → g 0 ≡ g' 0
       → Q (enter outside address looping (choose v 1 3) g h) (enter outside address looping' (choose v 1 3) g' h)
   lands₁ zero g g' h e = last g g' h
   lands₁ (suc v) g g' h e = act₁ g g' h e
 
-  quiet₁ : (g : Regs) (h : List Act) (j : ℕ) → j ≤ 2 → seen l j (at (br 2 33 ∷ []) g h) ≡ record { acts = h; end = none }
+  quiet₁ : (g : Regs) (h : List Act) (j : ℕ) → j ≤ 2 → seen l j (at (br 2 33 ∷ []) g h) ≡ record { acts = h; end = None }
   unfolding effect op_of
   quiet₁ g h zero x = refl
   quiet₁ g h (suc zero) x = refl
   quiet₁ g h (suc (suc zero)) x = refl
   quiet₁ g h (suc (suc (suc j))) x = absurd (omega arith)
 
-  quiet₀ : (g : Regs) (h : List Act) (v : ℕ) → g 0 ≡ suc v → (j : ℕ) → j ≤ 1 → seen l' j (at (cond_br 0 0 1 31 ∷ []) g h) ≡ record { acts = h; end = none }
+  quiet₀ : (g : Regs) (h : List Act) (v : ℕ) → g 0 ≡ suc v → (j : ℕ) → j ≤ 1 → seen l' j (at (cond_br 0 0 1 31 ∷ []) g h) ≡ record { acts = h; end = None }
   unfolding effect op_of
   quiet₀ g h v a zero x = refl
   quiet₀ g h v a (suc zero) x = refl

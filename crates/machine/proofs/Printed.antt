@@ -3,11 +3,10 @@ use Prim.Native.Nat.{ℕ, zero, suc}
 use mathlib.Core.Path.{◌≡◌, refl}
 use mathlib.Core.Bool.{true, false}
 use mathlib.Core.List.{List, [], ◌∷◌, ◌++◌, map}
-use mathlib.Core.Option.{none, some}
+use Rattle.std.proofs.Common.{None, Some}
 use lib.Dec.{eqb}
 use lib.ListN.{length}
 use Rattle.inst.specs.declared.Code.{Code}
-use Rattle.inst.specs.declared.OptReg.TheVariants as o
 use Rattle.inst.specs.declared.Inst.{Inst}
 use Rattle.inst.specs.declared.Inst.TheVariants as i
 use Rattle.codec.specs.Codec.{reg_of, block_of}
@@ -29,11 +28,11 @@ abbrev pub cond_br : ℕ → ℕ → ℕ → ℕ → Code
 cond_br c t f n = code (i.CondBr (reg_of c) (block_of t) (block_of f)) n
 
 abbrev pub ret : ℕ → Code
-ret n = code (i.Ret o.None) n
+ret n = code (i.Ret None) n
 
 -- no body, operands or tables
 abbrev pub procedure : List ℕ → List (List Code) → Procedure
-procedure registers blocks = record { registers = registers; blocks = blocks; body = none; operands = []; tables = [] }
+procedure registers blocks = record { registers = registers; blocks = blocks; body = None; operands = []; tables = [] }
 
 -- "one I64; blocks 0-2, 2-4, 4-5, 5-6; Stmt, Br 2, Stmt, Br 2, CondBr 0 1 3, Ret; statements 10 to 15"
 abbrev pub printed : Procedure
@@ -58,10 +57,10 @@ nowhere space off = 0
 
 -- an outside that never ends the run, and one that ends it on the act after two
 abbrev pub willing : Outside
-willing h a = some []
+willing h a = Some []
 
 abbrev pub impatient : Outside
-impatient h a = elim (eqb (length h) 2) [ true ↦ none | false ↦ some [] ]
+impatient h a = elim (eqb (length h) 2) [ true ↦ None | false ↦ Some [] ]
 
 abbrev pub all : ℕ → Regs
 all v = λ r. v
@@ -81,7 +80,7 @@ module _ (outside : Outside) (v : ℕ) where
   shortened = shows outside nowhere printed' 0 (all v)
 
 -- register 0 holds 0: both return after one act
-returns : original willing 0 4 ≡ record { acts = stmt_act 10 ∷ []; end = some (returned none 15) }
+returns : original willing 0 4 ≡ record { acts = stmt_act 10 ∷ []; end = Some (returned None 15) }
 unfolding effect op_of
 returns = refl
 
@@ -103,7 +102,7 @@ unfolding effect op_of
 rounds_back = refl
 
 -- the outside ends both on the third act
-stops : original impatient 1 7 ≡ record { acts = stmt_act 10 ∷ stmt_act 12 ∷ stmt_act 12 ∷ []; end = some (stopped (stmt_act 12)) }
+stops : original impatient 1 7 ≡ record { acts = stmt_act 10 ∷ stmt_act 12 ∷ stmt_act 12 ∷ []; end = Some (stopped (stmt_act 12)) }
 unfolding effect op_of
 stops = refl
 

@@ -2,7 +2,7 @@
 use Prim.Native.Nat.{ℕ, zero, suc, ◌+◌, ◌-◌, ◌≤◌}
 use mathlib.Core.Path.{◌≡◌, refl, sym, ap, subst, ◌∙◌}
 use mathlib.Core.List.{List, [], ◌∷◌, ◌++◌, append_assoc, append-nil}
-use mathlib.Core.Option.{Option, none, some}
+use Rattle.std.proofs.Common.{Option, None, Some}
 use native.Mathlib.Omega.{arith}
 use native.Mathlib.Nat.{zero-add, suc-add}
 use Rattle.inst.specs.declared.Code.{Code}
@@ -32,15 +32,15 @@ pub record Reads (bound : ℕ → ℕ) (original shortened : ℕ → Shown) : Ty
   -- it does no other act
   pub no_other : (M : ℕ) → (N : ℕ) × Prefix (shortened M).acts (original N).acts
   -- it ends if the original does, within the bound, and alike
-  pub ends_if : (N : ℕ) (e : End) → (original N).end ≡ some e → shortened (bound N) ≡ original N
+  pub ends_if : (N : ℕ) (e : End) → (original N).end ≡ Some e → shortened (bound N) ≡ original N
   -- and only if the original does, and alike
-  pub ends_only_if : (M : ℕ) (e : End) → (shortened M).end ≡ some e → (N : ℕ) × (original N ≡ shortened M)
+  pub ends_only_if : (M : ℕ) (e : End) → (shortened M).end ≡ Some e → (N : ℕ) × (original N ≡ shortened M)
 
 module _ (outside : Outside) (address : Address) (p : Procedure) where
   answered-grows : (o : Option (List ℕ)) (a : Act) (rs : List ℕ) (cs : List Code) (g : Regs) (h : List Act)
       → Prefix h (shown (answered outside address p o a rs cs g h)).acts
-  answered-grows none a rs cs g h = record { rest = a ∷ []; joins = refl }
-  answered-grows (some vs) a rs cs g h = record { rest = a ∷ []; joins = refl }
+  answered-grows None a rs cs g h = record { rest = a ∷ []; joins = refl }
+  answered-grows (Some vs) a rs cs g h = record { rest = a ∷ []; joins = refl }
 
   after-grows : (x : Effect) (rs : List ℕ) (cs : List Code) (g : Regs) (h : List Act) → Prefix h (shown (after outside address p x rs cs g h)).acts
   after-grows (writes vs) rs cs g h = prefix_refl h
@@ -65,7 +65,7 @@ module _ (outside : Outside) (address : Address) (p : Procedure) where
   run-done zero h e = refl
   run-done (suc n) h e = run-done n h e
 
-  stays : (n : ℕ) (s : State) (e : End) → (shown s).end ≡ some e → shown (run outside address p n s) ≡ shown s
+  stays : (n : ℕ) (s : State) (e : End) → (shown s).end ≡ Some e → shown (run outside address p n s) ≡ shown s
   stays n (at cs g h) e x = let z : ◌≡◌ {A = ℕ} 0 1 = cc in absurd (omega arith)
   stays n (done h e') e x = rw run-done
 
@@ -79,7 +79,7 @@ module _ (outside : Outside) (address : Address) (p : Procedure) where
         (rw run_add (run-grows (m - n) (run outside address p n s)))
 
     -- "after the end nothing more is done"
-    pub ended : (n m : ℕ) (e : End) → n ≤ m → (shows outside address p block g n).end ≡ some e
+    pub ended : (n m : ℕ) (e : End) → n ≤ m → (shows outside address p block g n).end ≡ Some e
         → shows outside address p block g m ≡ shows outside address p block g n
     ended n m e l x =
         let s = start outside address p block g in

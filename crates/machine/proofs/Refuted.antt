@@ -3,7 +3,7 @@ use Prim.Native.Nat.{ℕ, zero, suc, ◌+◌, ◌*◌, ◌≤◌}
 use mathlib.Core.Path.{◌≡◌, refl, sym, ap, ◌∙◌}
 use mathlib.Core.Bool.{Bool, true, false, not, ◌&&◌}
 use mathlib.Core.List.{[], ◌∷◌}
-use mathlib.Core.Option.{Option, none, some}
+use Rattle.std.proofs.Common.{Option, None, Some}
 use native.Mathlib.Omega.{arith}
 use native.Mathlib.Decide.{ℕ_discrete}
 use lib.Dec.{T, T_not, eqb, eqb_refl}
@@ -24,8 +24,8 @@ use Rattle.machine.proofs.Printed.{code, stmt, br, cond_br, ret, procedure, prin
 
 -- two for each act done, and one if the run has ended
 abbrev pub ended : Option End → ℕ
-ended none = 0
-ended (some e) = 1
+ended None = 0
+ended (Some e) = 1
 
 abbrev pub weight : Shown → ℕ
 weight o = 2 * length o.acts + ended o.end

@@ -3,7 +3,7 @@ use Prim.Native.Nat.{ℕ, zero, suc}
 use mathlib.Core.Path.{◌≡◌, refl}
 use mathlib.Core.Bool.{Bool, true, false, cond, not, ◌&&◌, ◌||◌}
 use mathlib.Core.List.{List, [], ◌∷◌, map}
-use mathlib.Core.Option.{Option, none, some}
+use Rattle.std.proofs.Common.{Option, None, Some}
 use lib.Dec.{eqb, lit<}
 use lib.ListN.{get_or, drop}
 use Rattle.inst.specs.declared.Code.{Code}
@@ -31,7 +31,7 @@ Held g = (r : ℕ) → Word (g r)
 -- what a Const, ConstF or AddrOf writes is a word
 abbrev pub Fits : Address → List Code → Type 0
 Fits address [] = Unit {0}
-Fits address (c ∷ cs) = ((v : ℕ) → constant_of address c.inst ≡ some v → Word v) × Fits address cs
+Fits address (c ∷ cs) = ((v : ℕ) → constant_of address c.inst ≡ Some v → Word v) × Fits address cs
 
 abbrev Fine : Effect → Type 0
 Fine (writes vs) = All vs
@@ -85,7 +85,7 @@ stores-word [] vs g a h = h
 stores-word (r ∷ rs) vs g a h = stores-word rs (drop 1 vs) (upd r (get_or vs 0 0) g) (drop-word vs a) (upd-word r _ g (at-word vs a 0) h)
 
 effect-fine : (address : Address) (tables : List Table) (s : ℕ) (kinds vs : List ℕ) → All vs
-    → (x : Inst) → ((v : ℕ) → constant_of address x ≡ some v → Word v) → Fine (effect address tables s kinds vs x)
+    → (x : Inst) → ((v : ℕ) → constant_of address x ≡ Some v → Word v) → Fine (effect address tables s kinds vs x)
 unfolding effect constant_of fixed_of form_of
 effect-fine address tables s kinds vs a (i.Const d v) f = (f _ refl, tt)
 effect-fine address tables s kinds vs a (i.ConstF d v) f = (f _ refl, tt)
@@ -113,15 +113,15 @@ effect-fine address tables s kinds vs a (i.Unreachable w) f = tt
 effect-fine address tables s kinds vs a i.Stmt f = tt
 
 module _ (outside : Outside) (address : Address) (p : Procedure)
-    (gives : (h : List Act) (a : Act) (vs : List ℕ) → outside h a ≡ some vs → All vs) (fits : (block : ℕ) → Fits address (get_or p.blocks block [])) where
+    (gives : (h : List Act) (a : Act) (vs : List ℕ) → outside h a ≡ Some vs → All vs) (fits : (block : ℕ) → Fits address (get_or p.blocks block [])) where
   abbrev pub InWords : State → Type 0
   InWords (at cs g h) = Held g × Fits address cs
   InWords (done h e) = Unit {0}
 
   answered-words : (o : Option (List ℕ)) (a : Act) (rs : List ℕ) (cs : List Code) (g : Regs) (h : List Act) → outside h a ≡ o
       → InWords (at cs g h) → InWords (answered outside address p o a rs cs g h)
-  answered-words none a rs cs g h e w = tt
-  answered-words (some vs) a rs cs g h e w = (stores-word rs vs g (gives h a vs e) w.0, w.1)
+  answered-words None a rs cs g h e w = tt
+  answered-words (Some vs) a rs cs g h e w = (stores-word rs vs g (gives h a vs e) w.0, w.1)
 
   after-words : (x : Effect) (rs : List ℕ) (cs : List Code) (g : Regs) (h : List Act) → Fine x → InWords (at cs g h)
       → InWords (after outside address p x rs cs g h)

@@ -1,6 +1,5 @@
 -- Document 01, "Machine": a run of a procedure.
-use Rattle.std.specs.Prelude.{ℕ, zero, suc, ◌+◌, cond, List, [], ◌∷◌, ◌++◌, map, eqb, get_or, drop}
-use Rattle.std.proofs.Math.Option.{Option, none, some}
+use Rattle.std.specs.Prelude.{ℕ, zero, suc, ◌+◌, cond, List, [], ◌∷◌, ◌++◌, map, eqb, get_or, drop, Option, None, Some}
 use Rattle.inst.specs.declared.AddrSpace.{AddrSpace}
 use Rattle.inst.specs.declared.Code.{Code}
 use Rattle.inst.specs.declared.Inst.{Inst}
@@ -114,8 +113,8 @@ module _ (outside : Outside) (address : Address) (p : Procedure) where
 
   -- "the act it ends on is done"
   abbrev pub answered : Option (List ℕ) → Act → List ℕ → List Code → Regs → List Act → State
-  answered none a rs cs g h = done (h ++ (a ∷ [])) (stopped a)
-  answered (some vs) a rs cs g h = at cs (stores rs vs g) (h ++ (a ∷ []))
+  answered None a rs cs g h = done (h ++ (a ∷ [])) (stopped a)
+  answered (Some vs) a rs cs g h = at cs (stores rs vs g) (h ++ (a ∷ []))
 
   -- the state after an effect, over the registers that the instruction writes and the code after it
   abbrev pub after : Effect → List ℕ → List Code → Regs → List Act → State
@@ -157,5 +156,5 @@ pub record Shown : Type 0 where
   pub end : Option End
 
 abbrev pub shown : State → Shown
-shown (at cs g h) = record { acts = h; end = none }
-shown (done h e) = record { acts = h; end = some e }
+shown (at cs g h) = record { acts = h; end = None }
+shown (done h e) = record { acts = h; end = Some e }

@@ -1,6 +1,5 @@
 -- Document 01, "Machine": "registers singly written by Const, ConstF or AddrOf in the original already loaded: these are its single constants."
-use Rattle.std.specs.Prelude.{ℕ, ◌≡◌, cond, List, [], ◌∷◌}
-use Rattle.std.proofs.Math.Option.{Option, none, some}
+use Rattle.std.specs.Prelude.{ℕ, ◌≡◌, cond, List, [], ◌∷◌, Option, None, Some}
 use Rattle.inst.specs.declared.Code.{Code}
 use Rattle.inst.specs.declared.Inst.{Inst}
 use Rattle.procedure.specs.Procedure.{Procedure, first_of}
@@ -12,22 +11,22 @@ use Rattle.machine.specs.Machine.{Regs, Address, Effect, writes, goes, ends, ask
 
 abbrev pub given : Effect → Option ℕ
 given (writes vs) = first_of vs
-given (goes b) = none
-given (ends e) = none
-given (asks a) = none
+given (goes b) = None
+given (ends e) = None
+given (asks a) = None
 
 -- what a Const, ConstF or AddrOf writes
 unfoldable pub constant_of : Address → Inst → Option ℕ
-constant_of address x = cond (is_fixed (fixed_of x)) (given (effect address [] 0 [] [] x)) none
+constant_of address x = cond (is_fixed (fixed_of x)) (given (effect address [] 0 [] [] x)) None
 
 -- what the first instruction that writes r writes, if it is one of these
 unfoldable pub constant_in : Address → List Code → ℕ → Option ℕ
-constant_in address [] r = none
+constant_in address [] r = None
 constant_in address (c ∷ cs) r = cond (names r c.inst) (constant_of address c.inst) (constant_in address cs r)
 
 -- the value of a register that one field of some code writes, that of a Const, ConstF or AddrOf
 unfoldable pub single_in : Address → List Code → ℕ → Option ℕ
-single_in address cs r = cond (singly cs r) (constant_in address cs r) none
+single_in address cs r = cond (singly cs r) (constant_in address cs r) None
 
 -- the value of a single constant
 abbrev pub single : Address → Procedure → ℕ → Option ℕ
@@ -35,7 +34,7 @@ single address p r = single_in address (joined p.blocks) r
 
 -- "already loaded"
 abbrev pub Loaded : Address → Procedure → Regs → Type 0
-Loaded address p g = (r v : ℕ) → single address p r ≡ some v → g r ≡ v
+Loaded address p g = (r v : ℕ) → single address p r ≡ Some v → g r ≡ v
 
 -- some registers with the single constants loaded into them
 abbrev pub load : Address → Procedure → Regs → Regs

@@ -3,7 +3,7 @@ use Prim.Native.Nat.{ℕ, suc, ◌+◌, ◌≤◌, ◌<◌}
 use native.Mathlib.Numerals.{add-one}
 use mathlib.Core.Path.{◌≡◌, refl, sym, ap, ◌∙◌}
 use mathlib.Core.List.{List, [], ◌∷◌}
-use mathlib.Core.Option.{Option, none}
+use Rattle.std.proofs.Common.{Option, None}
 use lib.ListN.{length, get_or, drop, drop_of_length-le}
 use lib.Seq.{drop-cons}
 use Rattle.inst.specs.declared.Inst.{Inst}
@@ -66,5 +66,5 @@ module _ (f g : Facts) (same : f.registers ≡ g.registers) (told : (r : ℕ) �
   notes-same k (x ∷ c) = ap (λ (s : Known). notes f s c) (note-same k x.inst) ∙ notes-same (note g k x.inst) c
 
 -- so the body and the budget don't matter
-pub notes_any : (t : List ℕ) (body : Option ℕ) (budget : ℕ) (k : Known) (c : List Code) → notes (facts_in t none 0) k c ≡ notes (facts_in t body budget) k c
-notes_any t body budget k c = notes-same (facts_in t none 0) (facts_in t body budget) refl (λ r. refl) k c
+pub notes_any : (t : List ℕ) (body : Option ℕ) (budget : ℕ) (k : Known) (c : List Code) → notes (facts_in t None 0) k c ≡ notes (facts_in t body budget) k c
+notes_any t body budget k c = notes-same (facts_in t None 0) (facts_in t body budget) refl (λ r. refl) k c

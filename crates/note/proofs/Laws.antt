@@ -1,19 +1,33 @@
--- Laws of kinds and of Bool.
-use Prim.Native.Nat.{ℕ}
-use mathlib.Core.Path.{◌≡◌}
-use mathlib.Core.Bool.{◌&&◌, ◌||◌}
-use mathlib.Core.List.{List}
-use mathlib.Core.Option.{Option, none}
-use lib.Dec.{eqb}
-use lib.ListN.{get_or}
-use Rattle.inst.specs.declared.BoolOp.{BoolOp}
-use Rattle.steps.specs.Note.{bool_of, alike}
+-- Laws of kinds.
+use Rattle.std.proofs.Common.{ℕ, ◌≡◌, List, Bool, true, false, ◌&&◌, ◌||◌, Option, None, Some, eqb, slice_get, unwrap_or, refl, sym}
+use Rattle.std.specs.Option.{option_eq}
+use Rattle.std.proofs.lemmas.Option.{unwrap_or-slice_get}
+use borrow.Author.Tests.{true-eqb}
+use Rattle.steps.specs.Note.{alike}
 use Rattle.facts.specs.Storage.{kinds_in, facts_in}
 
-pub bool_eq : (op : BoolOp) {x y u v : Option ℕ} → x ≡ u → y ≡ v → bool_of op x y ≡ bool_of op u v
-bool_eq op e f = rw (e, f)
+-- 5 is the kind of no register
+five : (v : ℕ) → (eqb v 5 && (eqb v 0 || eqb v 2)) ≡ false
+five v = by (eqb v 5) refl
+  where
+    by : (b : Bool) → eqb v 5 ≡ b → (b && (eqb v 0 || eqb v 2)) ≡ false
+    by true e = rw (true-eqb v 5 (sym e))
+    by false e = refl
+
+never : (b : Bool) → (b && false) ≡ false
+never true = refl
+never false = refl
+
+kinds : (o p : Option ℕ)
+    → (eqb (unwrap_or o 5) (unwrap_or p 5) && (eqb (unwrap_or o 5) 0 || eqb (unwrap_or o 5) 2))
+    ≡ (option_eq eqb o p && (option_eq eqb o (Some 0) || option_eq eqb o (Some 2)))
+kinds None None = refl
+kinds None (Some w) = never (eqb 5 w)
+kinds (Some v) None = five v
+kinds (Some v) (Some w) = refl
 
 -- the kinds of two registers
-module _ (t : List ℕ) (d s : ℕ) {k o : ℕ} where
-  pub alike_by : k ≡ get_or (kinds_in t) d 5 → o ≡ get_or (kinds_in t) s 5 → alike (facts_in t none 0) d s ≡ (eqb k o && (eqb k 0 || eqb k 2))
-  alike_by e f = rw (e, f)
+module _ (t : List ℕ) (d s : ℕ) where
+  pub alike_by : {o p : Option ℕ} → o ≡ slice_get (kinds_in t) d → p ≡ slice_get (kinds_in t) s
+      → alike (facts_in t None 0) d s ≡ (option_eq eqb o p && (option_eq eqb o (Some 0) || option_eq eqb o (Some 2)))
+  alike_by e f = rw (e, f, ← unwrap_or-slice_get (kinds_in t) d 5, ← unwrap_or-slice_get (kinds_in t) s 5) (kinds (slice_get (kinds_in t) d) (slice_get (kinds_in t) s))

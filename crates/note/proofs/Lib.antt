@@ -1,4 +1,2 @@
-pub mod Laws
-pub mod Learnt
-pub mod Written
 pub mod Gathered
+pub mod Laws

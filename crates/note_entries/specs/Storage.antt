@@ -1,33 +1,36 @@
 -- Storage, not the paper's: how two slices represent the known values and the copies that `note` gathers.
 -- An entry is two words, a register and its value, or a register and the source that it copies.
-use Rattle.std.specs.Prelude.{ℕ, ◌+◌, ◌*◌, ◌/◌, ◌≤◌, min, ◌≡◌, List, [], ◌∷◌, ◌++◌, Bool, cond, ltb, length, get_or}
-use Rattle.steps.specs.Note.{Known}
-use Rattle.facts.specs.Storage.{tabled}
-use Rattle.note_entries.specs.declared.Held.{Held}
+use Rattle.std.specs.Prelude.{ℕ, ◌+◌, ◌/◌, ◌≤◌, ◌≡◌, List, [], ◌∷◌, Bool, cond, ltb, length, take, Option, Some, None}
+use Rattle.steps.specs.Note as note
+use Rattle.note_entries.specs.declared.entries.Entries.{Entries}
+use Rattle.note_entries.specs.declared.Known.{Known}
 
-abbrev pub entry : List ℕ → ℕ → ℕ × ℕ
-entry l k = (get_or l (2 * k) 0, get_or l (2 * k + 1) 0)
+-- the pairs that some words hold
+unfoldable pub pairs : {W : Type 0} → List W → List (W × W)
+pairs [] = []
+pairs (x ∷ []) = []
+pairs (x ∷ y ∷ l) = (x, y) ∷ pairs l
 
--- the first n entries, or as many as the slice has
-abbrev pub entries : ℕ → List ℕ → List (ℕ × ℕ)
-entries n l = tabled (min n (length l / 2)) (entry l)
+abbrev pub listed : {W : Type 0} → Entries W → List (W × W)
+listed e = take e.n (pairs e.words.now)
 
-abbrev pub held_in : Held → List ℕ → List ℕ → Known
-held_in h known copy = record { values = entries h.known known; copies = entries h.copy copy }
+-- room for one more entry
+abbrev pub room : {W : Type 0} → Entries W → Bool
+room e = ltb e.n (length e.words.now / 2)
 
--- the entries that don't pass a test
-unfoldable pub without : ((ℕ × ℕ) → Bool) → List (ℕ × ℕ) → List (ℕ × ℕ)
-without p [] = []
-without p (x ∷ xs) = cond (p x) (without p xs) (x ∷ without p xs)
+-- what the first entry of a word says
+unfoldable pub first_with : {W : Type 0} → (W → W → Bool) → W → List (W × W) → Option W
+first_with eq r [] = None
+first_with eq r (x ∷ xs) = cond (eq x.0 r) (Some x.1) (first_with eq r xs)
 
--- one more entry, if there is room
-abbrev pub added : ℕ → List ℕ → (ℕ × ℕ) → List (ℕ × ℕ)
-added n l x = cond (ltb n (length l / 2)) (entries n l ++ (x ∷ [])) (entries n l)
+-- the same slice with at most m entries more
+pub record Keeps {W : Type 0} (m : ℕ) (z e : Entries W) : Type 0 where
+  pub count : z.n ≤ e.n + m
+  pub long : length z.words.now ≡ length e.words.now
 
-pub record Added (n z : ℕ) (l m : List ℕ) (x : ℕ × ℕ) : Type 0 where
-  pub list : entries z m ≡ added n l x
-  pub count : z ≤ n + 1
+abbrev pub known_in : Known → note.Known
+known_in k = record { values = listed k.values; copies = listed k.copies }
 
-pub record NoMore (z h : Held) : Type 0 where
-  pub known_le : z.known ≤ h.known
-  pub copy_le : z.copy ≤ h.copy
+pub record Grows (m j : ℕ) (z k : Known) : Type 0 where
+  pub values : Keeps m z.values k.values
+  pub copies : Keeps j z.copies k.copies

@@ -1,7 +1,6 @@
 -- Document 01, "Class 4, instruction": "Ops count from 0 in `inst.rs`'s order." A number past the last is read as the last.
-use Rattle.std.specs.Prelude.{ℕ, ◌%◌, [], ◌∷◌, get_or}
-use Rattle.inst.specs.declared.OptReg.{OptReg}
-use Rattle.inst.specs.declared.OptReg.TheVariants as o
+use Rattle.std.specs.Prelude.{ℕ, ◌%◌, ◌^◌, Bool, true, [], ◌∷◌, ltb, get_or, Option, Some, None}
+use Rattle.inst.specs.declared.Reg.{Reg}
 use Rattle.inst.specs.declared.CmpOp.{CmpOp}
 use Rattle.inst.specs.declared.CmpOp.TheVariants as c
 use Rattle.inst.specs.declared.BoolOp.{BoolOp}
@@ -105,14 +104,23 @@ space_arg (s.Pkg n) = n
 space_arg (s.Const n) = n
 space_arg s.Shared = 0
 
+-- "dim and Up's number are at most 255"
+abbrev pub space_in_range : AddrSpace → Bool
+space_in_range s.Frame = true
+space_in_range (s.Up n) = ltb n 256
+space_in_range s.Inst = true
+space_in_range (s.Pkg n) = ltb n (2 ^ 32)
+space_in_range (s.Const n) = ltb n (2 ^ 32)
+space_in_range s.Shared = true
+
 -- "op 1 with dst", "op 1 with v"
-abbrev pub opt_of : ℕ → ℕ → OptReg
-opt_of op n = get_or (o.None ∷ []) op (o.Some (record { 0 = n }))
+abbrev pub opt_of : ℕ → ℕ → Option Reg
+opt_of op n = get_or (None ∷ []) op (Some (record { 0 = n }))
 
-abbrev pub opt_num : OptReg → ℕ
-opt_num (o.Some r) = 1
-opt_num o.None = 0
+abbrev pub opt_num : Option Reg → ℕ
+opt_num (Some r) = 1
+opt_num None = 0
 
-abbrev pub opt_arg : OptReg → ℕ
-opt_arg (o.Some r) = r.0
-opt_arg o.None = 0
+abbrev pub opt_arg : Option Reg → ℕ
+opt_arg (Some r) = r.0
+opt_arg None = 0

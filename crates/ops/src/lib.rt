@@ -1,225 +1,247 @@
 // The numbers of the ops, and the ops of the numbers.
 #![tactic(auto)]
 
-ghost use Rattle.std.specs.Prelude.{◌≡◌};
+ghost use Rattle.std.specs.Prelude.{◌≡◌, ℕ, Bool, true};
 ghost use Rattle.ops.specs.Ops.{cmp_of, cmp_num, bool_of, bool_num, int_of, int_num, width_of, width_num, check_of, check_num, reg_ty_of, reg_ty_num};
-ghost use Rattle.ops.specs.Ops.{space_of, space_num, space_arg, opt_of, opt_num, opt_arg};
+ghost use Rattle.ops.specs.Ops.{space_of, space_num, space_arg, space_in_range, opt_of, opt_num, opt_arg};
+ghost use Rattle.std.proofs.Common.{rules};
 
-use inst::{AddrSpace, BoolOp, CheckKind, CmpOp, IntOp, OptReg, Reg, RegTy, Width};
+use inst::{AddrSpace, BoolOp, CheckKind, CmpOp, IntOp, Reg, RegTy, Width};
 
-// A number that an enum doesn't have is read as its last case.
+// An enum whose cases have numbers in a record. A number that it doesn't have is read as its last case. From would have no law,
+// and no impl of it can stand here, since both types are another crate's.
+pub trait Numbered: Sized {
+    ghost of_number: { ℕ → Self };
 
-pub fn cmp_of(op: u32) -> CmpOp
-    ensures { result ≡ cmp_of op }
-{
-    match op {
-        0 => CmpOp::Eq,
-        1 => CmpOp::Ne,
-        2 => CmpOp::Lt,
-        3 => CmpOp::Le,
-        4 => CmpOp::Gt,
-        _ => CmpOp::Ge,
+    ghost number: { Self → ℕ };
+
+    fn of(op: u32) -> Self
+        ensures { result ≡ of_number op };
+
+    fn number(op: Self) -> u32
+        ensures { result ≡ number op };
+
+    ghost back: { (x : Self) → of_number (number x) ≡ x };
+}
+
+impl Numbered for CmpOp {
+    ghost of_number = { cmp_of };
+
+    ghost number = { cmp_num };
+
+    ghost back = { Prim.search rules };
+
+    fn of(op: u32) -> CmpOp {
+        match op {
+            0 => CmpOp::Eq,
+            1 => CmpOp::Ne,
+            2 => CmpOp::Lt,
+            3 => CmpOp::Le,
+            4 => CmpOp::Gt,
+            _ => CmpOp::Ge,
+        }
+    }
+
+    fn number(op: CmpOp) -> u32 {
+        op as u32
     }
 }
 
-pub fn cmp_num(x: CmpOp) -> u32
-    ensures { result ≡ cmp_num x }
-{
-    match x {
-        CmpOp::Eq => 0,
-        CmpOp::Ne => 1,
-        CmpOp::Lt => 2,
-        CmpOp::Le => 3,
-        CmpOp::Gt => 4,
-        CmpOp::Ge => 5,
+impl Numbered for BoolOp {
+    ghost of_number = { bool_of };
+
+    ghost number = { bool_num };
+
+    ghost back = { Prim.search rules };
+
+    fn of(op: u32) -> BoolOp {
+        match op {
+            0 => BoolOp::And,
+            1 => BoolOp::Or,
+            2 => BoolOp::Xor,
+            _ => BoolOp::Not,
+        }
+    }
+
+    fn number(op: BoolOp) -> u32 {
+        op as u32
     }
 }
 
-pub fn bool_of(op: u32) -> BoolOp
-    ensures { result ≡ bool_of op }
-{
-    match op {
-        0 => BoolOp::And,
-        1 => BoolOp::Or,
-        2 => BoolOp::Xor,
-        _ => BoolOp::Not,
+impl Numbered for IntOp {
+    ghost of_number = { int_of };
+
+    ghost number = { int_num };
+
+    ghost back = { Prim.search rules };
+
+    fn of(op: u32) -> IntOp {
+        match op {
+            0 => IntOp::Add,
+            1 => IntOp::Sub,
+            2 => IntOp::Mul,
+            3 => IntOp::Div,
+            4 => IntOp::Rem,
+            5 => IntOp::Mod,
+            _ => IntOp::Pow,
+        }
+    }
+
+    fn number(op: IntOp) -> u32 {
+        op as u32
     }
 }
 
-pub fn bool_num(x: BoolOp) -> u32
-    ensures { result ≡ bool_num x }
-{
-    match x {
-        BoolOp::And => 0,
-        BoolOp::Or => 1,
-        BoolOp::Xor => 2,
-        BoolOp::Not => 3,
+impl Numbered for Width {
+    ghost of_number = { width_of };
+
+    ghost number = { width_num };
+
+    ghost back = { Prim.search rules };
+
+    fn of(op: u32) -> Width {
+        match op {
+            0 => Width::B1,
+            1 => Width::B4,
+            2 => Width::B8,
+            _ => Width::Sig,
+        }
+    }
+
+    fn number(op: Width) -> u32 {
+        op as u32
     }
 }
 
-pub fn int_of(op: u32) -> IntOp
-    ensures { result ≡ int_of op }
-{
-    match op {
-        0 => IntOp::Add,
-        1 => IntOp::Sub,
-        2 => IntOp::Mul,
-        3 => IntOp::Div,
-        4 => IntOp::Rem,
-        5 => IntOp::Mod,
-        _ => IntOp::Pow,
+impl Numbered for CheckKind {
+    ghost of_number = { check_of };
+
+    ghost number = { check_num };
+
+    ghost back = { Prim.search rules };
+
+    fn of(op: u32) -> CheckKind {
+        match op {
+            0 => CheckKind::Range,
+            1 => CheckKind::Index,
+            2 => CheckKind::IndexDown,
+            3 => CheckKind::Length,
+            _ => CheckKind::Null,
+        }
+    }
+
+    fn number(op: CheckKind) -> u32 {
+        op as u32
     }
 }
 
-pub fn int_num(x: IntOp) -> u32
-    ensures { result ≡ int_num x }
-{
-    match x {
-        IntOp::Add => 0,
-        IntOp::Sub => 1,
-        IntOp::Mul => 2,
-        IntOp::Div => 3,
-        IntOp::Rem => 4,
-        IntOp::Mod => 5,
-        IntOp::Pow => 6,
+impl Numbered for RegTy {
+    ghost of_number = { reg_ty_of };
+
+    ghost number = { reg_ty_num };
+
+    ghost back = { Prim.search rules };
+
+    fn of(op: u32) -> RegTy {
+        match op {
+            0 => RegTy::I64,
+            1 => RegTy::F64,
+            2 => RegTy::Ptr,
+            3 => RegTy::Sig,
+            _ => RegTy::Handle,
+        }
+    }
+
+    fn number(op: RegTy) -> u32 {
+        op as u32
     }
 }
 
-pub fn width_of(op: u32) -> Width
-    ensures { result ≡ width_of op }
-{
-    match op {
-        0 => Width::B1,
-        1 => Width::B4,
-        2 => Width::B8,
-        _ => Width::Sig,
-    }
-}
+// What stands in a record as two numbers: an op, and the number that goes with it, 0 if there is none.
+pub trait Paired: Sized {
+    ghost of_numbers: { ℕ → ℕ → Self };
 
-pub fn width_num(x: Width) -> u32
-    ensures { result ≡ width_num x }
-{
-    match x {
-        Width::B1 => 0,
-        Width::B4 => 1,
-        Width::B8 => 2,
-        Width::Sig => 3,
-    }
-}
+    ghost number: { Self → ℕ };
 
-pub fn check_of(op: u32) -> CheckKind
-    ensures { result ≡ check_of op }
-{
-    match op {
-        0 => CheckKind::Range,
-        1 => CheckKind::Index,
-        2 => CheckKind::IndexDown,
-        3 => CheckKind::Length,
-        _ => CheckKind::Null,
-    }
-}
+    ghost argument: { Self → ℕ };
 
-pub fn check_num(x: CheckKind) -> u32
-    ensures { result ≡ check_num x }
-{
-    match x {
-        CheckKind::Range => 0,
-        CheckKind::Index => 1,
-        CheckKind::IndexDown => 2,
-        CheckKind::Length => 3,
-        CheckKind::Null => 4,
-    }
-}
+    ghost in_range: { Self → Bool };
 
-pub fn reg_ty_of(op: u32) -> RegTy
-    ensures { result ≡ reg_ty_of op }
-{
-    match op {
-        0 => RegTy::I64,
-        1 => RegTy::F64,
-        2 => RegTy::Ptr,
-        3 => RegTy::Sig,
-        _ => RegTy::Handle,
-    }
-}
+    fn of_two(op: u32, n: u32) -> Self
+        ensures { result ≡ of_numbers op n };
 
-pub fn reg_ty_num(x: RegTy) -> u32
-    ensures { result ≡ reg_ty_num x }
-{
-    match x {
-        RegTy::I64 => 0,
-        RegTy::F64 => 1,
-        RegTy::Ptr => 2,
-        RegTy::Sig => 3,
-        RegTy::Handle => 4,
-    }
+    fn number(self) -> u32
+        ensures { result ≡ number self };
+
+    fn argument(self) -> u32
+        ensures { result ≡ argument self };
+
+    ghost back: { (x : Self) → in_range x ≡ true → of_numbers (number x) (argument x) ≡ x };
 }
 
 // The number of an Up is taken modulo 256.
-pub fn space_of(op: u32, n: u32) -> AddrSpace
-    ensures { result ≡ space_of op n }
-{
-    match op {
-        0 => AddrSpace::Frame,
-        1 => AddrSpace::Up((n % 256) as u8),
-        2 => AddrSpace::Inst,
-        3 => AddrSpace::Pkg(n),
-        4 => AddrSpace::Const(n),
-        _ => AddrSpace::Shared,
+impl Paired for AddrSpace {
+    ghost of_numbers = { space_of };
+
+    ghost number = { space_num };
+
+    ghost argument = { space_arg };
+
+    ghost in_range = { space_in_range };
+
+    ghost back = { λ x h. Prim.search rules };
+
+    fn of_two(op: u32, n: u32) -> AddrSpace {
+        match op {
+            0 => AddrSpace::Frame,
+            1 => AddrSpace::Up((n % 256) as u8),
+            2 => AddrSpace::Inst,
+            3 => AddrSpace::Pkg(n),
+            4 => AddrSpace::Const(n),
+            _ => AddrSpace::Shared,
+        }
+    }
+
+    fn number(self) -> u32 {
+        match self {
+            AddrSpace::Frame => 0,
+            AddrSpace::Up(_) => 1,
+            AddrSpace::Inst => 2,
+            AddrSpace::Pkg(_) => 3,
+            AddrSpace::Const(_) => 4,
+            AddrSpace::Shared => 5,
+        }
+    }
+
+    fn argument(self) -> u32 {
+        match self {
+            AddrSpace::Up(n) => u32::from(n),
+            AddrSpace::Pkg(n) | AddrSpace::Const(n) => n,
+            AddrSpace::Frame | AddrSpace::Inst | AddrSpace::Shared => 0,
+        }
     }
 }
 
-pub fn space_num(x: AddrSpace) -> u32
-    ensures { result ≡ space_num x }
-{
-    match x {
-        AddrSpace::Frame => 0,
-        AddrSpace::Up(_) => 1,
-        AddrSpace::Inst => 2,
-        AddrSpace::Pkg(_) => 3,
-        AddrSpace::Const(_) => 4,
-        AddrSpace::Shared => 5,
-    }
-}
+impl Paired for Option<Reg> {
+    ghost of_numbers = { opt_of };
 
-// The number that a space carries, 0 if it carries none.
-pub fn space_arg(x: AddrSpace) -> u32
-    ensures { result ≡ space_arg x }
-{
-    match x {
-        AddrSpace::Frame => 0,
-        AddrSpace::Up(n) => n as u32,
-        AddrSpace::Inst => 0,
-        AddrSpace::Pkg(n) => n,
-        AddrSpace::Const(n) => n,
-        AddrSpace::Shared => 0,
-    }
-}
+    ghost number = { opt_num };
 
-pub fn opt_of(op: u32, n: u32) -> OptReg
-    ensures { result ≡ opt_of op n }
-{
-    match op {
-        0 => OptReg::None,
-        _ => OptReg::Some(Reg(n)),
-    }
-}
+    ghost argument = { opt_arg };
 
-pub fn opt_num(x: OptReg) -> u32
-    ensures { result ≡ opt_num x }
-{
-    match x {
-        OptReg::Some(_) => 1,
-        OptReg::None => 0,
-    }
-}
+    ghost in_range = { λ _. true };
 
-// The register, 0 if there is none.
-pub fn opt_arg(x: OptReg) -> u32
-    ensures { result ≡ opt_arg x }
-{
-    match x {
-        OptReg::Some(r) => r.0,
-        OptReg::None => 0,
+    ghost back = { λ x h. Prim.search rules };
+
+    fn of_two(op: u32, n: u32) -> Option<Reg> {
+        if op == 0 { None } else { Some(Reg(n)) }
+    }
+
+    fn number(self) -> u32 {
+        u32::from(self.is_some())
+    }
+
+    fn argument(self) -> u32 {
+        self.map_or(0, |r| r.0)
     }
 }

@@ -3,11 +3,10 @@
 // follows a `=` in the same word.
 #![tactic(auto)]
 
-ghost use Rattle.std.specs.Prelude.{◌≤◌, ◌≡◌, true, ◌||◌, length};
-ghost use Rattle.io.specs.Counts.{IsPrefixLen};
-ghost use Rattle.options.specs.Options.{Taken, plain_role, is_none, is_command, is_end};
+ghost use Rattle.std.specs.Prelude.{◌≡◌, true, ◌||◌, length};
+ghost use Rattle.options.specs.Options.{Taken, Within, plain_role, is_none, is_command, is_end};
 
-#[derive(Clone, Copy)]
+#[derive(Clone, Copy, Debug, PartialEq, Eq)]
 pub enum Role {
     Command,
     Name,
@@ -21,16 +20,16 @@ pub enum Role {
     Unknown,
 }
 
-// What a word is, and where its value starts in it, or 0.
-#[derive(Clone, Copy)]
+// What a word is, and where its value starts in it, if it has one.
+#[derive(Clone, Copy, Debug, PartialEq, Eq)]
 pub struct Word {
     pub role: Role,
-    pub value: usize,
+    pub value: Option<usize>,
 }
 
 // The state after the words so far: whether a command came, whether a `--` came, and whether the
-// last word needs a value.
-#[derive(Clone, Copy)]
+// last word needs a value. Before the first word all are false.
+#[derive(Clone, Copy, Debug, Default, PartialEq, Eq)]
 pub struct Before {
     pub command: bool,
     pub ended: bool,
@@ -39,93 +38,49 @@ pub struct Before {
 
 fn bare(role: Role) -> Word
     ensures role_value { result.role ≡ role }
-    ensures value_value { result.value ≡ 0 }
+    ensures value_value { result.value ≡ None }
 {
-    Word {
-        role: role,
-        value: 0,
-    }
+    Word { role, value: None }
 }
 
 fn plain(before: Before) -> Word
     ensures role_value { result.role ≡ plain_role before }
-    ensures value_value { result.value ≡ 0 }
+    ensures value_value { result.value ≡ None }
 {
-    if before.command {
-        bare(Role::Name)
+    bare(if before.command {
+        Role::Name
     } else {
-        bare(Role::Command)
-    }
+        Role::Command
+    })
 }
 
-// Where the name of an option ends: at its `=`, or where the word does.
-fn name_end(word: &[u8]) -> usize
-    ensures { IsPrefixLen result word.now }
-{
-    let mut i = 0;
-    while i < word.len() {
-        if word[i] == b'=' {
-            return i;
-        }
-        i += 1;
-    }
-    i
-}
-
+// `Unknown` is a role like the others, and no Option: a word that has it is told to the user, with its place.
 fn named(name: &[u8]) -> Role
     ensures { is_none result ≡ true }
 {
-    if check::same(name, b"--") {
-        return Role::End;
-    }
-    if check::same(name, b"--words") {
-        return Role::Words;
-    }
-    if check::same(name, b"--only") {
-        return Role::Only;
-    }
-    if check::same(name, b"--status") {
-        return Role::Status;
-    }
-    if check::same(name, b"--help") {
-        return Role::Help;
-    }
-    if check::same(name, b"--version") {
-        return Role::Version;
-    }
-    Role::Unknown
-}
-
-// Whether an option has a value.
-fn is_valued(role: Role) -> bool {
-    match role {
-        Role::Only => true,
-        Role::Command => false,
-        Role::Name => false,
-        Role::Value => false,
-        Role::End => false,
-        Role::Words => false,
-        Role::Status => false,
-        Role::Help => false,
-        Role::Version => false,
-        Role::Unknown => false,
+    match name {
+        b"--" => Role::End,
+        b"--words" => Role::Words,
+        b"--only" => Role::Only,
+        b"--status" => Role::Status,
+        b"--help" => Role::Help,
+        b"--version" => Role::Version,
+        _ => Role::Unknown,
     }
 }
 
-// A word that starts with a dash and has more than that.
+// A word that starts with a dash and has more than that. Only `--only` has a value.
 fn option(word: &[u8]) -> Word
     ensures role_value { is_none result.role ≡ true }
-    ensures value_in_bounds { result.value ≤ length word.now }
+    ensures value_in_bounds { Within result.value word.now }
 {
-    let n = name_end(word);
-    let role = named(&word[..n]);
-    if n == word.len() {
-        return bare(role);
-    }
-    if is_valued(role) {
+    let Some(n) = word.iter().position(|b| *b == b'=') else {
+        return bare(named(word));
+    };
+    if named(&word[..n]) == Role::Only {
         return Word {
-            role: role,
-            value: n + 1,
+            role: Role::Only,
+            value: Some(n + 1),
         };
     }
     bare(Role::Unknown)
@@ -138,72 +93,10 @@ pub fn word_of(before: Before, word: &[u8]) -> Word
     if before.wants {
         return bare(Role::Value);
     }
-    if before.ended {
-        return plain(before);
+    match word {
+        [b'-', _, ..] if !before.ended => option(word),
+        _ => plain(before),
     }
-    if word.len() < 2 {
-        return plain(before);
-    }
-    if word[0] != b'-' {
-        return plain(before);
-    }
-    option(word)
-}
-
-pub fn start() -> Before {
-    Before {
-        command: false,
-        ended: false,
-        wants: false,
-    }
-}
-
-fn is_command(role: Role) -> bool
-    ensures { result ≡ is_command role }
-{
-    match role {
-        Role::Command => true,
-        Role::Name => false,
-        Role::Value => false,
-        Role::End => false,
-        Role::Words => false,
-        Role::Status => false,
-        Role::Help => false,
-        Role::Version => false,
-        Role::Only => false,
-        Role::Unknown => false,
-    }
-}
-
-fn is_end(role: Role) -> bool
-    ensures { result ≡ is_end role }
-{
-    match role {
-        Role::End => true,
-        Role::Command => false,
-        Role::Name => false,
-        Role::Value => false,
-        Role::Words => false,
-        Role::Status => false,
-        Role::Help => false,
-        Role::Version => false,
-        Role::Only => false,
-        Role::Unknown => false,
-    }
-}
-
-fn is_waiting(word: Word) -> bool {
-    let role = word.role;
-    if word.value > 0 {
-        return false;
-    }
-    is_valued(role)
-}
-
-fn either(a: bool, b: bool) -> bool
-    ensures { result ≡ (a || b) }
-{
-    if a { true } else { b }
 }
 
 // The state after a word.
@@ -211,10 +104,9 @@ pub fn after(before: Before, word: Word) -> Before
     ensures command_value { result.command ≡ (before.command || is_command word.role) }
     ensures ended_value { result.ended ≡ (before.ended || is_end word.role) }
 {
-    let role = word.role;
     Before {
-        command: either(before.command, is_command(role)),
-        ended: either(before.ended, is_end(role)),
-        wants: is_waiting(word),
+        command: before.command || word.role == Role::Command,
+        ended: before.ended || word.role == Role::End,
+        wants: word.role == Role::Only && word.value.is_none(),
     }
 }

@@ -1,15 +1,14 @@
 -- Storage, not the paper's: what Shorten answers and writes, given the result's records and counts.
-use Rattle.std.specs.Prelude.{ℕ, min, Bool, List, [], ◌++◌, map}
-use Rattle.std.proofs.Math.Option.{none}
+use Rattle.std.specs.Prelude.{ℕ, min, Bool, List, [], ◌++◌, map, None}
 use Rattle.records.specs.declared.Record.{Record}
 use Rattle.records.specs.Record.{records_of}
 use Rattle.ops.specs.Ops.{reg_ty_of}
 use Rattle.items.specs.Items.{register_record}
 use Rattle.word.specs.Word.{bit}
-use Rattle.steps.specs.declared.Answer.{Answer}
 use Rattle.steps.specs.Run.{Shortened}
 use Rattle.steps.specs.Write.{bytes_of}
-use Rattle.steps.specs.Shorten.{Outcome, fit}
+use Rattle.steps.specs.Shorten.{Answer, Outcome, fit}
+use Rattle.output.specs.declared.Form.{Form}
 
 abbrev pub outcome : Answer → List ℕ → Outcome
 outcome a out = record { answer = a; output = out }
@@ -17,7 +16,7 @@ outcome a out = record { answer = a; output = out }
 -- counts of a result: all that `fit` needs of it besides its bytes
 abbrev pub counts : Bool → ℕ → ℕ → ℕ → Shortened
 counts moved grown fresh rescued = record {
-  procedure = record { registers = []; blocks = []; body = none; operands = []; tables = [] };
+  procedure = record { registers = []; blocks = []; body = None; operands = []; tables = [] };
   moved = moved;
   grown = grown;
   fresh = fresh;
@@ -52,3 +51,7 @@ abbrev pub form_records : List ℕ → List ℕ → List ℕ → List ℕ → Li
 form_records registers kinds heads body code operands arms =
     records_of registers
     ++ (kind_records kinds ++ (records_of heads ++ (records_of body ++ (records_of code ++ (records_of operands ++ records_of arms)))))
+
+-- the same of a form
+abbrev pub records_in : Form → List Record
+records_in f = form_records f.registers.now f.kinds.now f.heads.now f.body.now f.code.now f.operands.now f.arms.now

@@ -3,6 +3,7 @@ use Rattle.std.specs.Prelude.{ℕ, ◌+◌, ◌*◌, ◌-◌, ◌/◌, min, List
 use Rattle.records.specs.declared.Record.{Record}
 use Rattle.layout.specs.declared.Layout.{Layout}
 use Rattle.layout.specs.Walk.{lead}
+use Rattle.parts.specs.declared.File.{File}
 
 -- the end of the run of records, from a place on, whose class is below c
 abbrev pub start_at : ℕ → ℕ → List Record → ℕ
@@ -23,3 +24,25 @@ part_of b first end =
     let e = min end (length b / 32) in
     let s = min first e in
     take (32 * e - 32 * s) (drop (32 * s) b)
+
+-- the bytes of each class
+pub record Parts : Type 0 where
+  pub registers : List ℕ
+  pub heads : List ℕ
+  pub body : List ℕ
+  pub code : List ℕ
+  pub operands : List ℕ
+  pub arms : List ℕ
+
+abbrev pub parts_of : List ℕ → Layout → Parts
+parts_of b l = record {
+  registers = part_of b 0 l.blocks;
+  heads = part_of b l.blocks l.bodies;
+  body = part_of b l.bodies l.code;
+  code = part_of b l.code l.operands;
+  operands = part_of b l.operands l.arms;
+  arms = part_of b l.arms l.end;
+}
+
+abbrev pub parts_in : File → Parts
+parts_in f = parts_of f.bytes.now f.layout

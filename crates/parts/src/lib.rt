@@ -3,34 +3,30 @@
 
 ghost use Rattle.std.specs.Prelude.{◌≡◌};
 ghost use Rattle.records.specs.Record.{records_of};
-ghost use Rattle.parts.specs.Parts.{start_at, starts_in, part_of};
+ghost use Rattle.records.specs.Class.{class_number};
+ghost use Rattle.parts.specs.Parts.{start_at, starts_in, part_of, parts_in};
 
 use layout::Layout;
+use records::Class;
 
-// The end of the run of records, from `first` on, whose class is below `class`.
-fn start_of(b: &[u8], first: usize, class: u32) -> usize
-    ensures { result ≡ start_at class first (records_of b.now) }
+// The end of the run of records, from `first` on, whose class comes before `class`.
+fn start_of(b: &[u8], first: usize, class: Class) -> usize
+    ensures { result ≡ start_at (class_number class) first (records_of b.now) }
 {
-    let mut k = first;
-    while k < b.len() / 32 {
-        let r = records::record_at(b, k);
-        if class <= r.class {
-            return k;
-        }
-        k += 1;
-    }
-    k
+    let number = u32::from(class);
+    let run = (first..b.len() / 32).take_while(|k| records::record_at(b, *k).class < number);
+    first + run.count()
 }
 
 // Where the classes of a file start, by the classes of its records alone.
 pub fn starts(b: &[u8]) -> Layout
     ensures { result ≡ starts_in (records_of b.now) }
 {
-    let blocks = start_of(b, 0, 2);
-    let bodies = start_of(b, blocks, 3);
-    let code = start_of(b, bodies, 4);
-    let operands = start_of(b, code, 5);
-    let arms = start_of(b, operands, 6);
+    let blocks = start_of(b, 0, Class::Block);
+    let bodies = start_of(b, blocks, Class::Body);
+    let code = start_of(b, bodies, Class::Instruction);
+    let operands = start_of(b, code, Class::Operand);
+    let arms = start_of(b, operands, Class::Arm);
     Layout {
         blocks,
         bodies,
@@ -45,7 +41,63 @@ pub fn starts(b: &[u8]) -> Layout
 pub fn part<'a>(b: &'a [u8], first: usize, end: usize) -> &'a [u8]
     ensures { result.now ≡ part_of b.now first end }
 {
-    let e = general::least(end, b.len() / 32);
-    let s = general::least(first, e);
+    let e = end.min(b.len() / 32);
+    let s = first.min(e);
     &b[32 * s..32 * e]
+}
+
+// A file's bytes, and where its classes start.
+#[derive(Clone, Copy)]
+pub struct File<'a> {
+    pub bytes: &'a [u8],
+    pub layout: Layout,
+}
+
+impl<'a> File<'a> {
+    // An accepted file.
+    pub fn open(bytes: &'a [u8]) -> File<'a>
+        ensures bytes { result.bytes.now ≡ bytes.now }
+        ensures layout { result.layout ≡ starts_in (records_of bytes.now) }
+    {
+        File {
+            bytes,
+            layout: starts(bytes),
+        }
+    }
+
+    pub fn registers(&self) -> &'a [u8]
+        ensures { result.now ≡ (parts_in self.now).registers }
+    {
+        part(self.bytes, 0, self.layout.blocks)
+    }
+
+    pub fn heads(&self) -> &'a [u8]
+        ensures { result.now ≡ (parts_in self.now).heads }
+    {
+        part(self.bytes, self.layout.blocks, self.layout.bodies)
+    }
+
+    pub fn body(&self) -> &'a [u8]
+        ensures { result.now ≡ (parts_in self.now).body }
+    {
+        part(self.bytes, self.layout.bodies, self.layout.code)
+    }
+
+    pub fn code(&self) -> &'a [u8]
+        ensures { result.now ≡ (parts_in self.now).code }
+    {
+        part(self.bytes, self.layout.code, self.layout.operands)
+    }
+
+    pub fn operands(&self) -> &'a [u8]
+        ensures { result.now ≡ (parts_in self.now).operands }
+    {
+        part(self.bytes, self.layout.operands, self.layout.arms)
+    }
+
+    pub fn arms(&self) -> &'a [u8]
+        ensures { result.now ≡ (parts_in self.now).arms }
+    {
+        part(self.bytes, self.layout.arms, self.layout.end)
+    }
 }

@@ -1,9 +1,6 @@
--- Storage, not the paper's: the body, if there is one, as an enum.
-use Rattle.std.specs.Prelude.{ℕ}
-use Rattle.std.proofs.Math.Option.{Option, none, some}
-use Rattle.pause.specs.declared.Pause.{Pause}
-use Rattle.pause.specs.declared.Pause.TheVariants as p
+-- Storage, not the paper's: the number of the body's block, if there is a body.
+use Rattle.std.specs.Prelude.{ℕ, Option, option_map}
+use Rattle.inst.specs.declared.BlockId.{BlockId}
 
-abbrev pub body_in : Pause → Option ℕ
-body_in (p.At b) = some b.0
-body_in p.Nowhere = none
+abbrev pub body_in : Option BlockId → Option ℕ
+body_in pause = option_map (λ b. b.0) pause

@@ -1,6 +1,5 @@
 -- Lists of numbers, and of pairs of a register and what is known of it.
-use Rattle.std.specs.Prelude.{ℕ, ◌+◌, List, [], ◌∷◌, ◌++◌, Bool, true, false, ◌||◌, cond, eqb}
-use Rattle.std.proofs.Math.Option.{Option, none, some}
+use Rattle.std.specs.Prelude.{ℕ, ◌+◌, List, [], ◌∷◌, ◌++◌, Bool, true, false, ◌||◌, cond, eqb, Option, None, Some}
 
 -- some element passes a test
 unfoldable pub any_of : {A : Type 0} → (A → Bool) → List A → Bool
@@ -18,22 +17,22 @@ joined (x ∷ xs) = x ++ joined xs
 
 -- `iter().find(|x| x.0 == r)`: what the first entry of a register says
 unfoldable pub found : ℕ → List (ℕ × ℕ) → Option ℕ
-found r [] = none
-found r (x ∷ xs) = cond (eqb x.0 r) (some x.1) (found r xs)
+found r [] = None
+found r (x ∷ xs) = cond (eqb x.0 r) (Some x.1) (found r xs)
 
 abbrev pub or_else : Option ℕ → Option ℕ → Option ℕ
-or_else none y = y
-or_else (some v) y = some v
+or_else None y = y
+or_else (Some v) y = Some v
 
 abbrev pub value_or : ℕ → Option ℕ → ℕ
-value_or d none = d
-value_or d (some v) = v
+value_or d None = d
+value_or d (Some v) = v
 
 -- `is_some()`, `Some(n) == o`
 abbrev pub present : Option ℕ → Bool
-present none = false
-present (some v) = true
+present None = false
+present (Some v) = true
 
 abbrev pub holds : Option ℕ → ℕ → Bool
-holds none n = false
-holds (some v) n = eqb v n
+holds None n = false
+holds (Some v) n = eqb v n

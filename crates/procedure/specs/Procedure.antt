@@ -1,6 +1,5 @@
 -- Document 01, "File": the procedure that the records of a file hold, as the steps and the machine see it.
-use Rattle.std.specs.Prelude.{ℕ, List, [], ◌∷◌, ◌++◌, map, cond, get_or}
-use Rattle.std.proofs.Math.Option.{Option, none, some}
+use Rattle.std.specs.Prelude.{ℕ, List, [], ◌∷◌, ◌++◌, map, cond, get_or, Option, None, Some}
 use Rattle.records.specs.declared.Record.{Record}
 use Rattle.records.specs.Record.{records_of}
 use Rattle.layout.specs.Classes.{of_class}
@@ -46,8 +45,8 @@ tables_from seen (r ∷ rs) =
     (tables_from (seen ++ (arm_of r ∷ [])) rs)
 
 abbrev pub first_of : List ℕ → Option ℕ
-first_of [] = none
-first_of (x ∷ xs) = some x
+first_of [] = None
+first_of (x ∷ xs) = Some x
 
 -- table n; one that doesn't exist has default 0
 abbrev pub table_at : List Table → ℕ → Table

@@ -1,7 +1,7 @@
--- How many bytes the parts of an opened file have.
+-- How many bytes the parts of an opened file have: a theorem for whoever lends storage, which no proof here needs.
 use Prim.Native.Nat.{ℕ, ◌≤◌}
 use native.Mathlib.Omega.{arith}
-use mathlib.Core.Option.{Option, none, some}
+use Rattle.std.proofs.Common.{Option, None, Some}
 use lib.ListN.{length}
 use Rattle.procedure.specs.Procedure.{Procedure}
 use Rattle.steps.specs.Write.{body_records}
@@ -9,8 +9,8 @@ use Rattle.procedure_parts.specs.Opened.{Parts, Opened, Few}
 use Rattle.procedure_parts.proofs.Laws.{registers-sent}
 
 one-body : (o : Option ℕ) → length (body_records o) ≤ 1
-one-body none = omega arith
-one-body (some b) = omega arith
+one-body None = omega arith
+one-body (Some b) = omega arith
 
 pub opened-few : {p : Procedure} {x : Parts} → Opened p x → Few x
 opened-few {p} {x} o =

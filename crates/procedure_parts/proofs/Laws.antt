@@ -4,7 +4,7 @@ use native.Mathlib.Omega.{arith}
 use mathlib.Core.Path.{◌≡◌, sym, ap, subst, ◌∙◌}
 use mathlib.Core.Bool.{true}
 use mathlib.Core.List.{List, [], ◌++◌, map, map-map, append-nil}
-use mathlib.Core.Option.{Option}
+use Rattle.std.proofs.Common.{Option}
 use lib.ListN.{length, drop, length-map, drop_of_length-le}
 use Rattle.records.specs.declared.Record.{Record}
 use Rattle.records.specs.Record.{records_of, blank}
@@ -250,7 +250,7 @@ module _ (b : List ℕ) (h : Bytes b) (e : (checked b).number ≡ 0) where
       let j = w.code in
       record { parted = parted; few-registers = omega arith; few-code = omega arith }
 
-  -- the parts one after the other are the file
+  -- the parts one after the other are the file: a theorem, which no proof here needs
   pub whole_parts : whole x ≡ b
   whole_parts =
       let z = sizes laid in

@@ -2,7 +2,6 @@
 use Rattle.std.specs.Prelude.{ℕ, ◌*◌, ◌≤◌, ◌≡◌, List, [], ◌++◌, map, length}
 use Rattle.records.specs.Record.{records_of}
 use Rattle.put_record.specs.Store.{Bytes}
-use Rattle.layout.specs.declared.Layout.{Layout}
 use Rattle.read.specs.Structure.{numbered}
 use Rattle.inst.specs.declared.Code.{Code}
 use Rattle.ops.specs.Ops.{reg_ty_of}
@@ -15,26 +14,7 @@ use Rattle.blocks.specs.Rewrite.{Tiled}
 use Rattle.steps.specs.Write.{block_records, body_records, table_records}
 use Rattle.facts.specs.Storage.{kinds_of, operands_in}
 use Rattle.round_trips.specs.WellFormed.{WellFormed, arm_count}
-use Rattle.parts.specs.Parts.{part_of}
-
--- the bytes of each class
-pub record Parts : Type 0 where
-  pub registers : List ℕ
-  pub heads : List ℕ
-  pub body : List ℕ
-  pub code : List ℕ
-  pub operands : List ℕ
-  pub arms : List ℕ
-
-abbrev pub parts_of : List ℕ → Layout → Parts
-parts_of b l = record {
-  registers = part_of b 0 l.blocks;
-  heads = part_of b l.blocks l.bodies;
-  body = part_of b l.bodies l.code;
-  code = part_of b l.code l.operands;
-  operands = part_of b l.operands l.arms;
-  arms = part_of b l.arms l.end;
-}
+pub use Rattle.parts.specs.Parts.{Parts, parts_of}
 
 -- the same with another code and another block table
 abbrev pub recoded : Parts → List ℕ → List ℕ → Parts

@@ -9,6 +9,7 @@ use lib.ListN.{length, get_or, take, drop, set, length-append, length-drop, leng
 use lib.Seq.{sets, sets-eq, length-sets, drop-cons, drop-append-le, drop-append-add, drop-drop, length-take-le}
 use lib.Seq.{get_or-set_same, get_or-set_other, ext_get_or, get_or-drop}
 use lib.Dec.{eqb}
+use borrow.Rule.Slice.PartMut.{put_mid}
 use borrow.Author.Tests.{lt-ltb, le-ltb, eqb-true, eqb-false}
 use Rattle.general.proofs.Numbers.{order}
 use Rattle.records.specs.declared.Record.{Record}
@@ -21,12 +22,11 @@ sets-append : (l vs ws : List ℕ) (i j : ℕ) → j ≡ i + length vs → sets 
 sets-append l [] ws i j e = ap (λ (n : ℕ). sets l n ws) (omega arith)
 sets-append l (v ∷ vs) ws i j e = sets-append (set l i v) vs ws (suc i) j (omega arith)
 
-pub four : (b : List ℕ) (at p q r s : ℕ) → set (set (set (set b at p) (at + 1) q) (at + 2) r) (at + 3) s ≡ sets b at (p ∷ q ∷ r ∷ s ∷ [])
-four b at p q r s =
-    let e1 : at + 1 ≡ suc at = omega arith in
-    let e2 : at + 2 ≡ suc (suc at) = omega arith in
-    let e3 : at + 3 ≡ suc (suc (suc at)) = omega arith in
-    rw (e1, e2, e3)
+-- a part that was written over
+pub part-sets : (b vs : List ℕ) (at k : ℕ) → k ≡ length vs → at + length vs ≤ length b → put_mid at k b vs ≡ sets b at vs
+part-sets b vs at k e h =
+    ap (λ (d : List ℕ). take at b ++ (vs ++ d)) (drop-drop k at b ∙ ap (λ (n : ℕ). drop (at + n) b) e)
+    ∙ sym (sets-eq vs b at h ∙ append_assoc (take at b) vs _)
 
 length-word : (x : ℕ) → length (word_bytes x) ≡ 4
 unfolding word_bytes

@@ -18,10 +18,7 @@ fn put_word(b: &mut [u8], at: usize, x: u32)
     requires { at + 4 ≤ length b.old }
     ensures { b.new ≡ sets b.old at (word_bytes x) }
 {
-    b[at] = low(x);
-    b[at + 1] = low(x / 256);
-    b[at + 2] = low(x / 65536);
-    b[at + 3] = low(x / 16777216);
+    b[at..at + 4].copy_from_slice(&x.to_le_bytes());
 }
 
 // Writes the first four bytes of a record.
@@ -29,10 +26,7 @@ fn put_tag(b: &mut [u8], at: usize, r: Record)
     requires { at + 4 ≤ length b.old }
     ensures { b.new ≡ sets b.old at (tag_bytes r) }
 {
-    b[at] = low(r.class);
-    b[at + 1] = low(r.kind);
-    b[at + 2] = low(r.op);
-    b[at + 3] = low(r.zero);
+    b[at..at + 4].copy_from_slice(&[low(r.class), low(r.kind), low(r.op), low(r.zero)]);
 }
 
 fn put_in(b: &mut [u8], at: usize, r: Record)

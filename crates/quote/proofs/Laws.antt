@@ -1,5 +1,5 @@
 -- A byte that is shown is told again, and one part of a name after another is both as one.
-use Prim.Native.Nat.{ℕ, min, ◌+◌, ◌*◌, ◌-◌, ◌/◌, ◌%◌, ◌≤◌, ◌<◌}
+use Prim.Native.Nat.{ℕ, ◌+◌, ◌*◌, ◌-◌, ◌/◌, ◌%◌, ◌≤◌, ◌<◌}
 use native.Mathlib.Omega.{arith}
 use native.Mathlib.Numerals.{add-one}
 use mathlib.Core.Path.{◌≡◌, refl, sym, ap, ◌∙◌}
@@ -8,10 +8,11 @@ use mathlib.Core.Logic.{⊎_elim}
 use mathlib.Core.List.{List, [], ◌∷◌, ◌++◌, append_assoc}
 use borrow.Author.Tests.{lt-ltb, le-ltb, ne_eqb}
 use lib.ListN.{length, get_or, take}
-use lib.Seq.{take-suc, take_all}
+use lib.Seq.{take-suc}
 use Rattle.io.specs.Digits.{hex_digit_ascii}
 use Rattle.general.proofs.Numbers.{order}
-use Rattle.line.specs.Line.{Put, is_plain, Added}
+use Rattle.line.specs.declared.Line.{Line}
+use Rattle.line.specs.Line.{Put, is_plain}
 use Rattle.line.proofs.Laws.{then, put-none, plain_byte, plain_both}
 use Rattle.quote.specs.Quote.{hex_of, nothing, value_of, told, Quoted}
 
@@ -25,9 +26,9 @@ plain_glyph d h =
     ⊎_elim (λ l. rw (lt-ltb d 10 l) (plain_byte (48 + d) (omega arith) (λ e. omega arith)))
     (λ l. rw (le-ltb d 10 l) (plain_byte (87 + d) (omega arith) (λ e. omega arith))) (order d 10)
 
-module _ {line line' : List ℕ} {at next b : ℕ} where
+module _ {line line' : Line} {b : ℕ} where
   -- by its digits
-  pub by_digits : b < 256 → Put line at (92 ∷ 120 ∷ hex_of b) line' next → Quoted line at (b ∷ []) line' next
+  pub by_digits : b < 256 → Put line (92 ∷ 120 ∷ hex_of b) line' → Quoted line (b ∷ []) line'
   unfolding told
   by_digits h p =
       let e : (b / 16) * 16 + b % 16 ≡ b = omega arith in
@@ -42,7 +43,7 @@ module _ {line line' : List ℕ} {at next b : ℕ} where
       }
 
   -- a backslash
-  pub by_two : b ≡ 92 → Put line at (92 ∷ 92 ∷ []) line' next → Quoted line at (b ∷ []) line' next
+  pub by_two : b ≡ 92 → Put line (92 ∷ 92 ∷ []) line' → Quoted line (b ∷ []) line'
   unfolding told
   by_two e p = record {
     text = 92 ∷ 92 ∷ [];
@@ -52,12 +53,12 @@ module _ {line line' : List ℕ} {at next b : ℕ} where
   }
 
   -- and as it is
-  pub by_itself : 32 ≤ b → (b ≡ 127 → ⊥) → (b ≡ 92 → ⊥) → Put line at (b ∷ []) line' next → Quoted line at (b ∷ []) line' next
+  pub by_itself : 32 ≤ b → (b ≡ 127 → ⊥) → (b ≡ 92 → ⊥) → Put line (b ∷ []) line' → Quoted line (b ∷ []) line'
   unfolding told
   by_itself h n m p = record { text = b ∷ []; put = p; clean = rw (plain_byte b h n); back = λ rest. rw (ne_eqb b 92 m) }
 
-module _ {line line' line'' : List ℕ} {at at' at'' : ℕ} where
-  quoted_then : {s t : List ℕ} → Quoted line at s line' at' → Quoted line' at' t line'' at'' → Quoted line at (s ++ t) line'' at''
+module _ {line line' line'' : Line} where
+  pub quoted_then : {s t : List ℕ} → Quoted line s line' → Quoted line' t line'' → Quoted line (s ++ t) line''
   quoted_then {s} {t} p q = record {
     text = p.text ++ q.text;
     put = then p.put q.put;
@@ -66,17 +67,15 @@ module _ {line line' line'' : List ℕ} {at at' at'' : ℕ} where
         ∙ sym (append_assoc s t (told nothing rest));
   }
 
-  pub quoted-next : (name : List ℕ) (i : ℕ) → Quoted line at (take i name) line' at' → Quoted line' at' (get_or name i 0 ∷ []) line'' at'' → i < length name
-      → Quoted line at (take (i + 1) name) line'' at''
+  pub quoted-next : (name : List ℕ) (i : ℕ) → Quoted line (take i name) line' → Quoted line' (get_or name i 0 ∷ []) line'' → i < length name
+      → Quoted line (take (i + 1) name) line''
   quoted-next name i p q h = rw (add-one, take-suc name i 0 h) (quoted_then p q)
 
-pub quoted-all : {line line' : List ℕ} {at next : ℕ} (name : List ℕ) (i : ℕ) → Quoted line at (take i name) line' next → length name ≤ i
-    → Quoted line at name line' next
-quoted-all name i p h = rw (take_all i name h) at p
+pub quoted-none : (line : Line) → Quoted line [] line
+quoted-none line = record { text = []; put = put-none line; clean = refl; back = λ rest. refl }
 
-pub quoted-none : (line : List ℕ) (at next : ℕ) → next ≡ min at (length line) → Quoted line at [] line next
-quoted-none line at next e = record { text = []; put = put-none line at next e; clean = refl; back = λ rest. refl }
-
--- a quoted name is plain text that was added
-pub name_added : {line line' name : List ℕ} {at next : ℕ} → Quoted line at name line' next → Added line at line' next
-name_added p = record { text = p.text; put = p.put; clean = p.clean }
+-- a name of two parts, one put and one still to come
+pub quoted_more : {line line' line'' : Line} (done part rest name left : List ℕ) → name ≡ done ++ left → left ≡ part ++ rest → Quoted line done line'
+    → Quoted line' part line'' → (all : List ℕ) × (name ≡ all ++ rest) × Quoted line all line''
+quoted_more done part rest name left e f p q =
+    (done ++ part, e ∙ ap (λ (l : List ℕ). done ++ l) f ∙ sym (append_assoc done part rest), quoted_then p q)

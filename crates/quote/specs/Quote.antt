@@ -1,6 +1,7 @@
 -- A name as it is shown: in plain bytes, and so that the name can be told from it.
 use Rattle.std.specs.Prelude.{ℕ, ◌+◌, ◌*◌, ◌-◌, ◌/◌, ◌%◌, ◌≡◌, true, cond, List, [], ◌∷◌, ◌++◌, ltb, eqb}
 use Rattle.io.specs.Digits.{hex_digit_ascii}
+use Rattle.line.specs.declared.Line.{Line}
 use Rattle.line.specs.Line.{Put, plain}
 
 -- the two digits of a byte
@@ -26,8 +27,8 @@ told x (b ∷ text) = told (digit (value_of b)) text
 told (digit d) (b ∷ text) = (d * 16 + value_of b) ∷ told nothing text
 
 -- a name was put into a line, as a plain text from which it can be recovered, whatever follows
-pub record Quoted (line : List ℕ) (at : ℕ) (name line' : List ℕ) (next : ℕ) : Type 0 where
+pub record Quoted (line : Line) (name : List ℕ) (line' : Line) : Type 0 where
   pub text : List ℕ
-  pub put : Put line at text line' next
+  pub put : Put line text line'
   pub clean : plain text ≡ true
   pub back : (rest : List ℕ) → told nothing (text ++ rest) ≡ name ++ told nothing rest

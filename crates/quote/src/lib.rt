@@ -5,16 +5,17 @@
 
 mod unseen;
 
-ghost use Rattle.std.specs.Prelude.{◌<◌, ◌≡◌, [], ◌∷◌};
+ghost use Rattle.std.specs.Prelude.{◌<◌, ◌≡◌, [], ◌∷◌, encode_utf8};
 ghost use Rattle.line.specs.Line.{Put};
 ghost use Rattle.io.specs.Digits.{hex_digit_ascii};
 ghost use Rattle.quote.specs.Quote.{Quoted, hex_of};
 
-use unseen::Part;
+use line::Line;
 
 // A path of 4,096 bytes, each quoted, and an answer in words.
 pub const ROOM: usize = 16768;
 
+// By hand, since `write!` of `{:x}` says what is written only where it is known to succeed.
 fn glyph(d: u8) -> u8
     requires { d < 16 }
     ensures { result ≡ hex_digit_ascii d }
@@ -23,53 +24,63 @@ fn glyph(d: u8) -> u8
 }
 
 // Puts a byte as two digits.
-pub fn put_digits(line: &mut [u8], at: usize, b: u8) -> usize
-    ensures { Put line.old at (hex_of b) line.new result }
+pub fn put_digits(line: &mut Line<'_>, b: u8)
+    ensures { Put line.old (hex_of b) line.new }
 {
-    let n = line::put_byte(line, at, glyph(b / 16));
-    line::put_byte(line, n, glyph(b % 16))
+    line.put_byte(glyph(b / 16));
+    line.put_byte(glyph(b % 16));
 }
 
-fn put_hex(line: &mut [u8], at: usize, b: u8) -> usize
-    ensures { Quoted line.old at (b ∷ []) line.new result }
+fn put_hex(line: &mut Line<'_>, b: u8)
+    ensures { Quoted line.old (b ∷ []) line.new }
 {
-    let n = line::put(line, at, b"\\x");
-    put_digits(line, n, b)
+    line.put(b"\\x");
+    put_digits(line, b);
 }
 
 // A byte of a name; a hidden one is shown by its digits, and so is every control byte.
-fn put_shown(line: &mut [u8], at: usize, hidden: bool, b: u8) -> usize
-    ensures { Quoted line.old at (b ∷ []) line.new result }
+fn put_shown(line: &mut Line<'_>, hidden: bool, b: u8)
+    ensures { Quoted line.old (b ∷ []) line.new }
 {
-    if hidden {
-        return put_hex(line, at, b);
+    if hidden || b < 32 || b == 127 {
+        put_hex(line, b);
+    } else if b == b'\\' {
+        line.put(b"\\\\");
+    } else {
+        line.put_byte(b);
     }
-    if b < 32 {
-        return put_hex(line, at, b);
-    }
-    if b == 127 {
-        return put_hex(line, at, b);
-    }
-    if b == b'\\' {
-        return line::put(line, at, b"\\\\");
-    }
-    line::put_byte(line, at, b)
 }
 
-// Puts a name at `at` and returns the place after it.
-pub fn put_name(line: &mut [u8], at: usize, name: &[u8]) -> usize
-    ensures { Quoted line.old at name.now line.new result }
+fn put_bytes(line: &mut Line<'_>, hidden: bool, bytes: &[u8])
+    ensures { Quoted line.old bytes.now line.new }
 {
-    let mut n = line::front(line, at);
-    let mut part = Part {
-        left: 0,
-        hidden: false,
-    };
-    let mut i = 0;
-    while i < name.len() {
-        part = unseen::part_at(name, i, part);
-        n = put_shown(line, n, part.hidden, name[i]);
-        i += 1;
+    for b in bytes {
+        put_shown(line, hidden, *b);
     }
-    n
+}
+
+fn put_char(line: &mut Line<'_>, c: char)
+    ensures { Quoted line.old (encode_utf8 c) line.new }
+{
+    let mut room = [0u8; 4];
+    let bytes = c.encode_utf8(&mut room).as_bytes();
+    put_bytes(line, unseen::is_hidden(c), bytes);
+}
+
+fn put_text(line: &mut Line<'_>, text: &str)
+    ensures { Quoted line.old text.now line.new }
+{
+    for c in text.chars() {
+        put_char(line, c);
+    }
+}
+
+// Puts a name.
+pub fn put_name(line: &mut Line<'_>, name: &[u8])
+    ensures { Quoted line.old name.now line.new }
+{
+    for chunk in name.utf8_chunks() {
+        put_text(line, chunk.valid());
+        put_bytes(line, true, chunk.invalid());
+    }
 }

@@ -28,7 +28,7 @@ use Rattle.blocks.specs.Blocks.{blocks_of}
 use Rattle.blocks.proofs.Parts.{length-blocks}
 use Rattle.steps.specs.Emit.{arm_targets, leads, edges_of, reached}
 use Rattle.reach.specs.Reached.{targets_in, leads_in, edges_in, marks_of, seen_in}
-use Rattle.search.proofs.Search.{clear-past}
+use Rattle.search.proofs.Laws.{clear-past}
 use Rattle.reach.proofs.Edges.{length_edges}
 
 -- targets are the same, or there is no table, which is taken to lead to block 0

@@ -4,79 +4,53 @@
 ghost use Rattle.std.specs.Prelude.{◌≡◌};
 ghost use Rattle.records.specs.Record.{records_of};
 ghost use Rattle.reach.specs.Reached.{targets_in, leads_in, seen_in};
-ghost use Rattle.search.specs.Search.{Sized, search_of, pushed_all};
+ghost use Rattle.search.specs.Search.{with_blocks};
 
+use blocks::Blocks;
 use ends::End;
 use inst::BlockId;
+use search::Search;
 
 // Pushes the targets of the arms of table n, up to its default.
-fn push_arms(
-    arms: &[u8],
-    n: u32,
-    seen: &mut [bool; 160],
-    stack: &mut [u32; 160],
-    top: usize,
-    nb: usize,
-) -> usize
-    requires { Sized nb seen.old stack.old top }
-    ensures sized { Sized nb seen.new stack.new result }
-    ensures result_after { search_of seen.new stack.new result
-        ≡ pushed_all nb (search_of seen.old stack.old top) (targets_in n (records_of arms.now)) }
+#[tactic(auto, using(crate::proofs::Arms::other_arm, crate::proofs::Arms::case_arm, crate::proofs::Arms::default_arm, crate::proofs::Arms::no_arm))]
+fn push_arms(s: &mut Search, arms: &[u8], n: u32)
+    ensures { s.new ≡ with_blocks s.old (targets_in n (records_of arms.now)) }
 {
-    let count = arms.len() / 32;
-    let mut at = top;
-    let mut k = 0;
-    while k < count {
+    for k in 0..arms.len() / 32 {
         let x = items::arm_of(records::record_at(arms, k));
         if x.table == n {
-            let to = x.to;
-            at = search::push(seen, stack, at, nb, to);
+            s.push(x.to);
             if x.default {
-                return at;
+                return;
             }
         }
-        k += 1;
     }
-    at
 }
 
 // Pushes the blocks that an end leads to.
-fn push_targets(
-    arms: &[u8],
-    e: End,
-    seen: &mut [bool; 160],
-    stack: &mut [u32; 160],
-    top: usize,
-    nb: usize,
-) -> usize
-    requires { Sized nb seen.old stack.old top }
-    ensures sized { Sized nb seen.new stack.new result }
-    ensures result_after { search_of seen.new stack.new result
-        ≡ pushed_all nb (search_of seen.old stack.old top) (leads_in (records_of arms.now) e) }
+#[tactic(auto, unfolding(search::specs::Search::pushed_all))]
+fn push_targets(s: &mut Search, arms: &[u8], e: End)
+    ensures { s.new ≡ with_blocks s.old (leads_in (records_of arms.now) e) }
 {
     match e {
-        End::Br(to) => search::push(seen, stack, top, nb, to),
+        End::Br(to) => s.push(to),
         End::CondBr(_, t, f) => {
-            let at = search::push(seen, stack, top, nb, t);
-            search::push(seen, stack, at, nb, f)
+            s.push(t);
+            s.push(f);
         }
-        End::Case(n) => push_arms(arms, n, seen, stack, top, nb),
-        End::Other => top,
+        End::Case(n) => push_arms(s, arms, n),
+        End::Other => {}
     }
 }
 
-// Which of the first 160 blocks are reached from block 0, over Br, CondBr and arms.
-pub fn reached(code: &[u8], table: &[u8], arms: &[u8]) -> [bool; 160]
-    ensures { result ≡ seen_in code.now table.now arms.now }
+// Which of the first 160 blocks are reached from block 0, over Br, CondBr and arms: document 01 has an array of 160 marks.
+pub fn reached(blocks: Blocks, arms: &[u8]) -> [bool; 160]
+    ensures { result ≡ seen_in blocks.entry.code.now blocks.entry.table.now arms.now }
 {
-    let nb = general::least(table.len() / 32, 160);
-    let mut seen = [false; 160];
-    let mut stack = [0u32; 160];
-    let mut top = search::push(&mut seen, &mut stack, 0, nb, BlockId(0));
-    while 0 < top {
-        let b = stack[top - 1];
-        let e = blocks::end_at(code, table, BlockId(b));
-        top = push_targets(arms, e, &mut seen, &mut stack, top - 1, nb);
+    let mut s = Search::new(blocks.len());
+    s.push(BlockId(0));
+    while let Some(b) = s.pop() {
+        push_targets(&mut s, arms, blocks.end_at(b.0 as usize));
     }
-    seen
+    *s.marks()
 }

@@ -8,8 +8,7 @@ use mathlib.Core.List.{List, [], ◌∷◌}
 use mathlib.Core.Logic.{◌⊎◌, inl, inr}
 use borrow.Author.Tests.{lt-ltb, le-ltb, eq-eqb, ltb-true, ltb-false, leb-true, eqb-true}
 use lib.Dec.{ltb, leb, eqb}
-use lib.ListN.{length, take, drop}
-use lib.Seq.{take_all}
+use lib.ListN.{length, drop}
 use Rattle.general.proofs.Booleans.{cases, and_first, and_second, or_second}
 use Rattle.records.specs.declared.Record.{Record}
 use Rattle.record_rules.specs.declared.exist.Counts.{Counts}
@@ -20,9 +19,8 @@ use Rattle.layout.specs.Walk.{walk, lead}
 use Rattle.layout.specs.Classes.{in_order, ordered, of_class, before, layout_of}
 use Rattle.layout.proofs.Walks.{walk_pass, walk_head, walk_tail, walk_le}
 use Rattle.layout.proofs.Order.{Sorted, sorted_of, before-none, before-count, before-end, ordered_end, of_part, tail_in, before-in, before_out}
-use Rattle.read.specs.declared.Reading.{Reading}
 use Rattle.read.specs.Structure.{State, tiles, next_block, tiled, ended, numbered, tables}
-use Rattle.read.specs.Reading.{answer, unless, counts_of, named, beyond, beyond_limit}
+use Rattle.read.specs.Reading.{Reading, answer, unless, counts_of, named, beyond, beyond_limit}
 use Rattle.read.specs.Work.{part, InCode, LaidOut}
 
 -- where each class starts, by how many records each has
@@ -63,6 +61,15 @@ pub pass_on : (number first k n : ℕ) {o x : Reading} → n ≤ k → x ≡ o �
 unfolding unless
 pass_on number first k n h e = e ∙ sym (rw (le-ltb k n h))
 
+-- a refusal stands, whatever would follow
+pub stands : (number first k n : ℕ) (o x : Reading) → (x.number ≡ 0 → ⊥) → x ≡ unless number first k n (answer 0 0) → x ≡ unless number first k n o
+unfolding unless
+stands number first k n o x h e = by (cases (ltb k n))
+  where
+    by : (ltb k n ≡ true) ⊎ (ltb k n ≡ false) → x ≡ unless number first k n o
+    by (inl t) = (rw t at e) ∙ sym (rw t)
+    by (inr t) = absurd (h (ap (λ (y : Reading). y.number) (rw t at e)))
+
 -- a condition that an accepted file passed
 pub passed : (number first k n : ℕ) (o : Reading) → 0 < number → (unless number first k n o).number ≡ 0 → (n ≤ k) × (o.number ≡ 0)
 unfolding unless
@@ -71,6 +78,10 @@ passed number first k n o h e = by (cases (ltb k n))
     by : (ltb k n ≡ true) ⊎ (ltb k n ≡ false) → (n ≤ k) × (o.number ≡ 0)
     by (inl t) = absurd (let i : number ≡ 0 = sym (rw t) ∙ e in omega arith)
     by (inr t) = (ltb-false k n t, sym (rw t) ∙ e)
+
+-- all are fine where nothing is refused
+pub all_fine : (number first k n : ℕ) → 0 < number → answer 0 0 ≡ unless number first k n (answer 0 0) → n ≤ k
+all_fine number first k n h e = (passed number first k n (answer 0 0) h (sym (ap (λ (y : Reading). y.number) e))).0
 
 pub held : (b : Bool) (number place : ℕ) (o : Reading) → 0 < number → (cond b (answer number place) o).number ≡ 0 → (b ≡ false) × (o.number ≡ 0)
 held true number place o h e = absurd (omega arith)
@@ -120,9 +131,9 @@ module _ {rs : List Record} {l : Layout} (h : LaidOut rs l) where
   pub arms-numbered : {k : ℕ} → k ≡ numbered (part l.arms (l.end - l.arms) rs) → k ≡ numbered (of_class 6 rs)
   arms-numbered e = e ∙ ap numbered the_arms
 
-  -- once all arms are passed, their defaults are the tables
-  pub all-tables : (k : ℕ) {t : ℕ} → l.end - l.arms ≤ k → t ≡ tables (take k (part l.arms (l.end - l.arms) rs)) → t ≡ tables (of_class 6 rs)
-  all-tables k i e = let z = sizes h in e ∙ ap tables (ap (take k) the_arms ∙ take_all k (of_class 6 rs) (omega arith))
+  -- the defaults of the arms are the tables
+  pub all-tables : {t : ℕ} → t ≡ tables (part l.arms (l.end - l.arms) rs) → t ≡ tables (of_class 6 rs)
+  all-tables e = e ∙ ap tables the_arms
 
   pub counts_are :
       (n : Counts) → n.registers ≡ l.blocks → n.blocks ≡ l.bodies - l.blocks → n.tables ≡ tables (of_class 6 rs) →
@@ -164,6 +175,41 @@ module _ {rs : List Record} {l : Layout} (h : LaidOut rs l) where
       let m = walk_le (tiles n) next_block (0, length bs) bs in
       let w : length bs ≡ l.bodies - l.blocks = ap length the_blocks ∙ omega arith in
       in-tiles n (0, length bs) bs (omega arith)
+
+  -- what the walks along the blocks tell, by the classes
+  pub tiling-told :
+      {x : Reading} → x ≡ unless 4 l.blocks (tiled (l.operands - l.code) (part l.blocks (l.bodies - l.blocks) rs)) (l.bodies - l.blocks) (answer 0 0) →
+      x ≡ unless 4 (before 2 rs) (tiled (length (of_class 4 rs)) (of_class 2 rs)) (length (of_class 2 rs)) (answer 0 0)
+  tiling-told e =
+      let z = sizes h in
+      let n : l.bodies - l.blocks ≡ length (of_class 2 rs) = omega arith in
+      e
+      ∙ ap (λ (f : ℕ). unless 4 f (tiled (l.operands - l.code) (part l.blocks (l.bodies - l.blocks) rs)) (l.bodies - l.blocks) (answer 0 0)) h.blocks
+      ∙ ap (λ (k : ℕ). unless 4 (before 2 rs) k (l.bodies - l.blocks) (answer 0 0)) (blocks-tiled refl)
+      ∙ ap (λ (m : ℕ). unless 4 (before 2 rs) (tiled (length (of_class 4 rs)) (of_class 2 rs)) m (answer 0 0)) n
+
+  pub ends-told :
+      {x : Reading} →
+      x ≡ unless 5 l.blocks (ended (part l.code (l.operands - l.code) rs) (part l.blocks (l.bodies - l.blocks) rs)) (l.bodies - l.blocks) (answer 0 0) →
+      x ≡ unless 5 (before 2 rs) (ended (of_class 4 rs) (of_class 2 rs)) (length (of_class 2 rs)) (answer 0 0)
+  ends-told e =
+      let z = sizes h in
+      let n : l.bodies - l.blocks ≡ length (of_class 2 rs) = omega arith in
+      e
+      ∙ ap (λ (f : ℕ). unless 5 f (ended (part l.code (l.operands - l.code) rs) (part l.blocks (l.bodies - l.blocks) rs)) (l.bodies - l.blocks) (answer 0 0)) h.blocks
+      ∙ ap (λ (k : ℕ). unless 5 (before 2 rs) k (l.bodies - l.blocks) (answer 0 0)) (blocks-ended refl)
+      ∙ ap (λ (m : ℕ). unless 5 (before 2 rs) (ended (of_class 4 rs) (of_class 2 rs)) m (answer 0 0)) n
+
+  pub arms-told :
+      {x : Reading} → x ≡ unless 6 l.arms (numbered (part l.arms (l.end - l.arms) rs)) (l.end - l.arms) (answer 0 0) →
+      x ≡ unless 6 (before 6 rs) (numbered (of_class 6 rs)) (length (of_class 6 rs)) (answer 0 0)
+  arms-told e =
+      let z = sizes h in
+      let n : l.end - l.arms ≡ length (of_class 6 rs) = omega arith in
+      e
+      ∙ ap (λ (f : ℕ). unless 6 f (numbered (part l.arms (l.end - l.arms) rs)) (l.end - l.arms) (answer 0 0)) h.arms
+      ∙ ap (λ (k : ℕ). unless 6 (before 6 rs) k (l.end - l.arms) (answer 0 0)) (arms-numbered refl)
+      ∙ ap (λ (m : ℕ). unless 6 (before 6 rs) (numbered (of_class 6 rs)) m (answer 0 0)) n
 
 -- the layout that the classes give
 module _ (rs : List Record) {l : Layout} (e : l ≡ layout_of rs) where

@@ -1,22 +1,20 @@
--- Laws of parts of a file, and of the tests of blocks and arms.
+-- Laws of parts of a file.
 use Prim.Native.Nat.{ℕ, ◌+◌, ◌-◌, ◌≤◌, ◌<◌}
 use native.Mathlib.Numerals.{add-one}
 use native.Mathlib.Omega.{arith}
 use mathlib.Core.Path.{◌≡◌, refl, sym, ap, ◌∙◌}
-use mathlib.Core.Bool.{Bool, true, false, ◌||◌, not, cond}
+use mathlib.Core.Bool.{Bool, true, false, cond}
 use mathlib.Core.List.{List, [], ◌∷◌, ◌++◌}
-use borrow.Author.Tests.{lt-ltb, le-ltb, le-leb, lt-leb, eq-eqb, ne_eqb}
-use lib.Dec.{eqb}
 use lib.ListN.{length, get_or, take, drop, length-drop}
 use lib.Seq.{get_or-take, get_or-drop, length-take-le, take-suc, take-take, drop-drop}
 use Rattle.general.proofs.Lists.{drop-take}
 pub use Rattle.general.proofs.Booleans.{either, otherwise}
-use Rattle.general.proofs.Booleans.{both, neither, told}
+use Rattle.general.proofs.Booleans.{told}
 use Rattle.records.specs.declared.Record.{Record}
 use Rattle.records.specs.Record.{blank}
 use Rattle.layout.specs.Walk.{walk, lead}
 use Rattle.layout.proofs.Walks.{pass_at, stop_at, end-at}
-use Rattle.read.specs.Structure.{State, code_of, tiles, numbers, is_default, tables}
+use Rattle.read.specs.Structure.{State, code_of, is_default, tables}
 use Rattle.read.specs.Work.{part, InCode}
 
 module _ (rs : List Record) (first count : ℕ) (h : first + count ≤ length rs) where
@@ -25,31 +23,6 @@ module _ (rs : List Record) (first count : ℕ) (h : first + count ≤ length rs
 
   pub part_at : (k : ℕ) → k < count → get_or (part first count rs) k blank ≡ get_or rs (first + k) blank
   part_at k i = get_or-take count (drop first rs) k blank i ∙ get_or-drop first rs k blank
-
--- the tests of a block, in their order
-module _ (n due left : ℕ) (r : Record) where
-  pub start-wrong : (r.p1 ≡ due → ⊥) → false ≡ tiles n (due, left) r
-  unfolding tiles
-  start-wrong h = neither _ refl (ne_eqb r.p1 due h)
-
-  pub empty_block : r.p1 ≡ due → r.p2 ≤ r.p1 → false ≡ tiles n (due, left) r
-  unfolding tiles
-  empty_block h i = both refl (eq-eqb r.p1 due h) (neither _ refl (le-ltb r.p1 r.p2 i))
-
-  pub past-code : r.p1 ≡ due → r.p1 < r.p2 → n < r.p2 → false ≡ tiles n (due, left) r
-  unfolding tiles
-  past-code h i j = both refl (eq-eqb r.p1 due h) (both refl (lt-ltb r.p1 r.p2 i) (neither _ refl (lt-leb r.p2 n j)))
-
-  pub within : {x : Bool} → r.p1 ≡ due → r.p1 < r.p2 → r.p2 ≤ n → x ≡ (not (eqb left 1) || eqb r.p2 n) → x ≡ tiles n (due, left) r
-  unfolding tiles
-  within h i j f = both refl (eq-eqb r.p1 due h) (both refl (lt-ltb r.p1 r.p2 i) (both refl (le-leb r.p2 n j) f))
-
--- what is said of the last one only
-pub not_last : (left : ℕ) (y : Bool) → (left ≡ 1 → ⊥) → not (eqb left 1) ≡ (not (eqb left 1) || y)
-not_last left y h = rw (ne_eqb left 1 h)
-
-pub last : (left : ℕ) {y : Bool} → left ≡ 1 → y ≡ (not (eqb left 1) || y)
-last left h = rw (eq-eqb left 1 h)
 
 pub pair : {a b c d : ℕ} → a ≡ b → c ≡ d → ◌≡◌ {A = State} (a, c) (b, d)
 pair e f = rw (e, f)
@@ -99,16 +72,6 @@ pub in_code :
     (rs : List Record) (first count n k : ℕ) (h : first + count ≤ length rs) (r : Record) → InCode n (part first count rs) → k < count →
     r ≡ get_or rs (first + k) blank → (r.p1 < r.p2) × (r.p2 ≤ n)
 in_code rs first count n k h r q i e = rw (e ∙ sym (part_at rs first count h k i)) (q k (rw (part_length rs first count h) i))
-
--- the tests of an arm, in their order
-module _ (due left : ℕ) (r : Record) where
-  pub other-table : (r.p1 ≡ due → ⊥) → false ≡ numbers (due, left) r
-  unfolding numbers
-  other-table h = neither _ refl (ne_eqb r.p1 due h)
-
-  pub table_due : {x : Bool} → r.p1 ≡ due → x ≡ (not (eqb left 1) || is_default r) → x ≡ numbers (due, left) r
-  unfolding numbers
-  table_due h f = both refl (eq-eqb r.p1 due h) f
 
 -- one arm more
 tables_snoc : (l : List Record) (r : Record) → tables (l ++ (r ∷ [])) ≡ tables l + cond (is_default r) 1 0

@@ -1,3 +1,4 @@
 pub mod Structure
 pub mod Reading
 pub mod Work
+pub mod Refusal

@@ -6,7 +6,6 @@ use Rattle.record_rules.specs.declared.exist.Counts.{Counts}
 use Rattle.record_rules.specs.Exist.{names_exist}
 use Rattle.layout.specs.Walk.{lead}
 use Rattle.layout.specs.Classes.{ordered, of_class, before}
-use Rattle.read.specs.declared.Reading.{Reading}
 use Rattle.read.specs.Structure.{tiled, ended, numbered, tables}
 
 -- 1 "length not a multiple of 32 or above 65,536"
@@ -45,6 +44,11 @@ counts_of rs = record {
 -- how many records come before the first that names something that doesn't exist
 abbrev pub named : List Record → ℕ
 named rs = lead (names_exist (counts_of rs)) rs
+
+-- Read's answer: 0 and 0 if accepted, else number and record
+pub record Reading : Type 0 where
+  pub number : ℕ
+  pub place : ℕ
 
 -- "number and first offending record, counted from 0 in file order"
 abbrev pub answer : ℕ → ℕ → Reading

@@ -4,6 +4,13 @@ use Rattle.records.specs.declared.Record.{Record}
 use Rattle.records.specs.Record.{blank}
 use Rattle.layout.specs.declared.Layout.{Layout}
 use Rattle.layout.specs.Classes.{ordered, before}
+use Rattle.read.specs.declared.Refusal.{Refusal}
+use Rattle.read.specs.Reading.{Reading, answer}
+use Rattle.read.specs.Refusal.{number_of}
+
+-- what a refusal tells
+abbrev pub told : Refusal → Reading
+told e = answer (number_of e.reason) e.place
 
 -- the records from a place on, count of them
 abbrev pub part : ℕ → ℕ → List Record → List Record

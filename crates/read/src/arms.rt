@@ -1,57 +1,40 @@
-ghost use Rattle.std.specs.Prelude.{◌≡◌, cond, ℕ, ◌+◌, ◌≤◌, length, take};
+ghost use Rattle.std.specs.Prelude.{◌≡◌, cond, ℕ, ◌+◌, ◌≤◌, length, MatchResult};
 ghost use Rattle.records.specs.Record.{records_of};
 ghost use Rattle.read.specs.Structure.{numbers as numbersAfter, numbered, tables, is_default};
-ghost use Rattle.read.specs.Work.{part};
+ghost use Rattle.read.specs.Reading.{answer, unless};
+ghost use Rattle.read.specs.Work.{part, told};
 
-use records::Record;
-
-// The kind of a default among the arms.
-const DEFAULT: u32 = 1;
-
-// How many arms were accepted, and how many tables they end.
-#[derive(Clone, Copy)]
-pub struct Numbering {
-    pub passed: usize,
-    pub tables: u32,
-}
+use crate::{Reason, Refusal, refused};
+use records::{DEFAULT_ARM, Record};
 
 // Whether the arm belongs to the table that is expected; the last one must be a default.
+#[tactic(auto, unfolding(crate::specs::Structure::numbers))]
 fn numbers(due: u32, left: usize, r: Record) -> bool
     ensures { result ≡ numbersAfter (due, left) r }
 {
-    if r.p1 != due {
-        return false;
-    }
-    left != 1 || r.kind == DEFAULT
+    r.p1 == due && (left != 1 || r.kind == DEFAULT_ARM)
 }
 
 fn ends_table(r: Record) -> u32
     ensures { (result ≡ cond (is_default r) 1 0) × (result ≤ 1) }
 {
-    if r.kind == DEFAULT { 1 } else { 0 }
+    if r.kind == DEFAULT_ARM { 1 } else { 0 }
 }
 
-// How many of `count` arms come before the first that is misnumbered or lacks its default.
-pub fn numbered_arms(b: &[u8], first: usize, count: usize) -> Numbering
-    requires { (first + count ≤ length (records_of b.now)) × (count ≤ 128) }
-    ensures passed_value { result.passed ≡ numbered (part first count (records_of b.now)) }
-    ensures tables_value { result.tables ≡ tables (take result.passed (part first count (records_of b.now))) }
+// How many tables `count` arms end; the first that is misnumbered or lacks its default is refused.
+pub fn numbered_arms(b: &[u8], first: usize, count: usize) -> Result<u32, Refusal>
+    requires { (first + count ≤ length (records_of b.now)) × (length (records_of b.now) ≤ 2048) × (count ≤ 128) }
+    ensures { MatchResult result
+        (λ n. (count ≡ numbered (part first count (records_of b.now))) × (n ≡ tables (part first count (records_of b.now))))
+        (λ e. told e ≡ unless 6 first (numbered (part first count (records_of b.now))) count (answer 0 0)) }
 {
     let mut due = 0;
-    let mut k = 0;
-    while k < count {
+    for k in 0..count {
         let r = records::record_at(b, first + k);
         if !numbers(due, count - k, r) {
-            return Numbering {
-                passed: k,
-                tables: due,
-            };
+            return Err(refused(Reason::Table, first + k));
         }
         due += ends_table(r);
-        k += 1;
     }
-    Numbering {
-        passed: k,
-        tables: due,
-    }
+    Ok(due)
 }

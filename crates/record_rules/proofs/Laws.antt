@@ -4,7 +4,7 @@ use native.Mathlib.Nat.{zero-add, suc-add, eq-or-lt_of_le}
 use mathlib.Core.Logic.{⊎_elim}
 use native.Mathlib.Omega.{arith}
 use mathlib.Core.Path.{◌≡◌, refl, sym, ap, subst, ◌∙◌}
-use mathlib.Core.Bool.{Bool, true, false, ◌&&◌, cond}
+use mathlib.Core.Bool.{Bool, true, false, ◌&&◌, cond, and-true}
 use mathlib.Core.List.{List, [], ◌∷◌}
 use lib.Dec.{leb, ltb, eqb, leb-suc-suc, leb-suc-zero, eqb-suc-zero}
 use borrow.Author.Tests.{lt-ltb, le-ltb, lt-leb, ne_eqb, eq-eqb, eqb-true, eqb-false}
@@ -14,7 +14,7 @@ use Rattle.general.proofs.Booleans.{and_first, and_second}
 pub use Rattle.general.proofs.Booleans.{both, neither}
 pub use Rattle.general.proofs.Lists.{at_key}
 use Rattle.records.specs.declared.Record.{Record}
-use Rattle.records.specs.Kinds.{Place, space_number, unused, register, optional, zeros, fields, all_fit, places, kind_count, op_count}
+use Rattle.records.specs.Kinds.{Place, space_number, zeros, fields, all_fit, places, kind_count, op_count}
 use Rattle.records.specs.Kinds.{statement_fits, instruction_places, right}
 use Rattle.record_rules.specs.Work.{plain, below, listed_places}
 use Rattle.record_rules.specs.declared.exist.Counts.{Counts}
@@ -38,18 +38,17 @@ eqb_add : (a s : ℕ) → eqb (a + s) 0 ≡ (eqb a 0 && eqb s 0)
 eqb_add zero s = ap (λ (n : ℕ). eqb n 0) (zero-add s)
 eqb_add (suc a) s = ap (λ (n : ℕ). eqb n 0) (suc-add a s) ∙ eqb-suc-zero (a + s) ∙ ap (λ (t : Bool). t && eqb s 0) (sym (eqb-suc-zero a))
 
-sum : List ℕ → ℕ
-sum [] = 0
-sum (p ∷ ps) = p + sum ps
+together : (a b c d e f : Bool) → (((((a && b) && c) && d) && e) && f) ≡ (a && (b && (c && (d && (e && (f && true))))))
+together false b c d e f = refl
+together true false c d e f = refl
+together true true false d e f = refl
+together true true true false e f = refl
+together true true true true false f = refl
+together true true true true true f = sym (and-true f)
 
-sum_zeros : (ps : List ℕ) → eqb (sum ps) 0 ≡ zeros ps
-unfolding sum
-sum_zeros [] = refl
-sum_zeros (p ∷ ps) = eqb_add p (sum ps) ∙ ap (λ (t : Bool). eqb p 0 && t) (sum_zeros ps)
-
-pub six_zeros : (a b c d e f : ℕ) → eqb (a + (b + (c + (d + (e + f))))) 0 ≡ zeros (a ∷ b ∷ c ∷ d ∷ e ∷ f ∷ [])
-unfolding sum
-six_zeros a b c d e f = ap (λ (n : ℕ). eqb (a + (b + (c + (d + (e + n))))) 0) (sym (native.Mathlib.Nat.add-zero f)) ∙ sum_zeros (a ∷ b ∷ c ∷ d ∷ e ∷ f ∷ [])
+pub six_zeros : (a b c d e f : ℕ) → eqb (a + b + c + d + e + f) 0 ≡ zeros (a ∷ b ∷ c ∷ d ∷ e ∷ f ∷ [])
+six_zeros a b c d e f = rw (eqb_add (a + b + c + d + e) f, eqb_add (a + b + c + d) e, eqb_add (a + b + c) d, eqb_add (a + b) c, eqb_add a b)
+    (together (eqb a 0) (eqb b 0) (eqb c 0) (eqb d 0) (eqb e 0) (eqb f 0))
 
 -- the places of an instruction, at a kind that is written out
 pub row_at :
@@ -78,6 +77,15 @@ address_exists n r f = f ∙ ap (λ (b : Bool). ltb r.p1 n.registers && (b && tr
 -- Stmt lists no place
 pub past_row : (k op : ℕ) → 23 ≤ k → [] ≡ get_or (instruction_places op) k []
 past_row k op h = ⊎_elim (λ (e : 23 ≡ k). at_key (instruction_places op) [] (sym e)) (λ (i : 23 < k). at_rest (instruction_places op) [] i) (eq-or-lt_of_le h)
+
+-- Unreachable and Stmt name nothing
+pub late_nameless :
+    (n : Counts) (r : Record) → 16 ≤ r.kind → (r.kind ≡ 16 → ⊥) → (r.kind ≡ 17 → ⊥) → (r.kind ≡ 18 → ⊥) → (r.kind ≡ 19 → ⊥) → (r.kind ≡ 20 → ⊥) →
+    (r.kind ≡ 21 → ⊥) → true ≡ all_exist n (get_or (instruction_places r.op) r.kind []) (fields r)
+late_nameless n r h a b c d e f = ⊎_elim (λ (i : 22 ≡ r.kind). exist-at n r (sym i) refl) past (eq-or-lt_of_le (omega arith))
+  where
+    past : 22 < r.kind → true ≡ all_exist n (get_or (instruction_places r.op) r.kind []) (fields r)
+    past i = ap (λ (l : List Place). all_exist n l (fields r)) (past_row r.kind r.op (omega arith))
 
 -- the kinds whose places take any number
 abbrev Plainly : Record → ℕ → ℕ → Type 0
@@ -116,16 +124,6 @@ plain_row r (suc (suc (suc (suc (suc (suc (suc (suc (suc (suc zero)))))))))) op 
 plain_row r (suc (suc (suc (suc (suc (suc (suc (suc (suc (suc (suc zero))))))))))) op a b c d = refl
 plain_row r (suc (suc (suc (suc (suc (suc (suc (suc (suc (suc (suc (suc k)))))))))))) op a b c d = late_row r k op b c d
 
-not_less : 7 < 7 → ⊥
-not_less h = omega arith
-
--- a kind that lists fewer than 7
-pub few_listed : (r : Record) (k op : ℕ) → get_or listed_places k 0 < 7 → Plainly r k op
-few_listed r k op h = plain_row r k op (λ e. not_less (seven 3 e)) (λ e. not_less (seven 13 e)) (λ e. not_less (seven 17 e)) (λ e. not_less (seven 21 e))
-  where
-    seven : (n : ℕ) → k ≡ n → get_or listed_places n 0 < 7
-    seven n e = subst (λ (n : ℕ). get_or listed_places n 0 < 7) e h
-
 -- the fields past the first few, picked one by one
 abbrev pub pick : ℕ → Record → List ℕ
 pick u r = from 0 r.p1 ∷ from 1 r.p2 ∷ from 2 r.p3 ∷ from 3 r.p4 ∷ from 4 r.p5 ∷ from 5 r.p6 ∷ []
@@ -146,20 +144,10 @@ picked (suc (suc (suc (suc (suc (suc u)))))) r =
     rw (past 0 (omega arith), past 1 (omega arith), past 2 (omega arith), past 3 (omega arith), past 4 (omega arith), past 5 (omega arith))
     (sym (ap zeros (drop_of_length-le (fields r) {i = n} (omega arith))))
 
-pub optional_some : (op : ℕ) → (op ≡ 0 → ⊥) → register ≡ optional op
-optional_some op h = at_rest (unused ∷ []) register {x = op} (omega arith)
-
 -- one op: the op is zero
 below_one : (n : ℕ) → ltb n 1 ≡ eqb n 0
 below_one zero = refl
 below_one (suc n) = leb-suc-suc (suc n) 0 ∙ leb-suc-zero n ∙ sym (eqb-suc-zero n)
-
--- a head, by whether its kind is one of the class's
-pub plain-kind : (r : Record) (k : ℕ) {x : Bool} → r.kind < k → x ≡ zeros (r.op ∷ r.zero ∷ r.stmt ∷ []) → x ≡ plain r k
-plain-kind r k h f = both refl (lt-ltb r.kind k h) f
-
-pub plain-past : (r : Record) (k : ℕ) → k ≤ r.kind → false ≡ plain r k
-plain-past r k h = neither (zeros (r.op ∷ r.zero ∷ r.stmt ∷ [])) refl (le-ltb r.kind k h)
 
 chain : (a b c d e : Bool) → (a && (b && (c && (d && e)))) ≡ ((a && (b && (c && (d && true)))) && e)
 chain false b c d e = refl

@@ -1,23 +1,20 @@
 -- Laws of the registers that an instruction names in its first places.
-use Prim.Native.Nat.{ℕ, zero, suc, ◌+◌, ◌≤◌, ◌<◌, max}
-use native.Mathlib.Nat.{eq-or-lt_of_le}
+use Prim.Native.Nat.{ℕ, zero, suc, ◌+◌, ◌<◌, max}
 use native.Mathlib.Omega.{arith}
-use mathlib.Core.Logic.{⊎_elim}
-use mathlib.Core.Path.{◌≡◌, refl, sym, ap, ◌∙◌}
+use mathlib.Core.Path.{◌≡◌, refl, sym, ◌∙◌}
 use mathlib.Core.Bool.{Bool, true, false, not, ◌&&◌, ◌||◌, cond, and-true}
 use mathlib.Core.List.{List, [], ◌∷◌}
 use lib.Dec.{leb, ltb, eqb, leb-zero}
 use lib.ListN.{get_or, take}
 use lib.Seq.{take-nil}
 use borrow.Author.Tests.{leb-true, leb-false, le-leb, lt-leb, lt-ltb}
-use Rattle.general.proofs.Lists.{at_key}
 use Rattle.general.proofs.Numbers.{Below, below as each}
 use Rattle.records.specs.declared.Record.{Record}
-use Rattle.records.specs.Kinds.{Place, fields, instruction_places}
+use Rattle.records.specs.Kinds.{fields, instruction_places}
 use Rattle.record_rules.specs.Work.{below, leading_registers}
 use Rattle.record_rules.specs.declared.exist.Counts.{Counts}
 use Rattle.record_rules.specs.Exist.{all_exist}
-use Rattle.record_rules.proofs.Laws.{address_exists, past_row}
+use Rattle.record_rules.proofs.Laws.{address_exists}
 
 -- the greater is within where both are
 max-within : (n a b : ℕ) → leb (max a b) n ≡ (leb a n && leb b n)
@@ -49,12 +46,12 @@ largest u r = max (max (upto u 0 r.p1) (upto u 1 r.p2)) (max (max (upto u 2 r.p3
 within-each :
     (n a b c d e : ℕ) →
     leb (max (max a b) (max (max c d) e)) n ≡ (leb a n && (leb b n && (leb c n && (leb d n && (leb e n && true)))))
-within-each n a b c d e =
-    max-within n (max a b) (max (max c d) e)
-    ∙ ap (λ (t : Bool). t && leb (max (max c d) e) n) (max-within n a b)
-    ∙ ap (λ (t : Bool). (leb a n && leb b n) && t)
-    (max-within n (max c d) e ∙ ap (λ (t : Bool). t && leb e n) (max-within n c d))
-    ∙ regroup (leb a n) (leb b n) (leb c n) (leb d n) (leb e n)
+within-each n a b c d e = rw (
+  max-within n (max a b) (max (max c d) e),
+  max-within n a b,
+  max-within n (max c d) e,
+  max-within n c d,
+) (regroup (leb a n) (leb b n) (leb c n) (leb d n) (leb e n))
 
 few-at :
     (n u : ℕ) (r : Record) →
@@ -96,15 +93,3 @@ module _ (n : Counts) (r : Record) where
 
   pub named : (k : ℕ) → k < 16 → Named k
   named = each Named 16 ((((((((named_8, and-true _), and-true _), and-true _), and-true _), dope), and-true _), and-true _), and-true _)
-
--- the kinds after Ret name nothing
-pub last-names : (n : Counts) (r : Record) → 22 ≤ r.kind → true ≡ all_exist n (get_or (instruction_places r.op) r.kind []) (fields r)
-last-names n r h =
-    ⊎_elim (λ (e : 22 ≡ r.kind). list_at (at_key (instruction_places r.op) [] (sym e)))
-    (λ (i : 22 < r.kind). list_at (past_row r.kind r.op i)) (eq-or-lt_of_le h)
-  where
-    list_at : {l m : List Place} → l ≡ m → all_exist n l (fields r) ≡ all_exist n m (fields r)
-    list_at e = ap (λ (l : List Place). all_exist n l (fields r)) e
-
-pub past_ret : (k : ℕ) → 16 ≤ k → (k ≡ 16 → ⊥) → (k ≡ 17 → ⊥) → (k ≡ 18 → ⊥) → (k ≡ 19 → ⊥) → (k ≡ 20 → ⊥) → (k ≡ 21 → ⊥) → 22 ≤ k
-past_ret k h a b c d e f = omega arith

@@ -2,16 +2,17 @@ ghost use Rattle.std.specs.Prelude.{◌≡◌, [], ◌∷◌, cond, ◌<◌, leb
 ghost use Rattle.records.specs.Kinds.{zeros, fields, all_fit, instruction_places, instruction_ops, arm_places, space_number, fit as fitsPlace, right as rightRecord};
 ghost use Rattle.record_rules.specs.Work.{plain as plainRecord, listed_places, digit_of};
 
-use records::Record;
+use inst::Kind;
+use records::{CASE_ARM, Class, DEFAULT_ARM, Record};
 
-// How many ops each kind has: a hexadecimal digit each, the lowest for kind 0; kinds from 16 on are
-// in a second number.
-const OPS: u64 = 0x1111544774616111;
+// How many ops each kind has.
+const OPS: [u8; 24] = [
+    1, 1, 1, 6, 1, 6, 4, 7, 7, 4, 4, 5, 1, 1, 1, 1, 1, 2, 1, 1, 1, 2, 1, 1,
+];
 
-const OPS_LATE: u64 = 0x11211121;
-
-// How many places each kind lists, packed the same way; 7 if not every number fits them, or the op
-// decides.
+// How many places each kind lists; 7 if not every number fits them, or the op decides. A hexadecimal
+// digit each, the lowest for kind 0; kinds from 16 on are in a second number. By an array of numbers
+// a drawn file takes a third longer: the compiler makes branches of what is asked of its entries.
 const LISTED: u64 = 0x2473422633347233;
 
 const LISTED_LATE: u64 = 0x1723173;
@@ -32,7 +33,7 @@ fn ops(kind: u32) -> u32
     requires { kind < 24 }
     ensures { result ≡ instruction_ops kind }
 {
-    digit(OPS, OPS_LATE, kind)
+    u32::from(OPS[kind as usize])
 }
 
 fn listed(kind: u32) -> u32
@@ -42,16 +43,13 @@ fn listed(kind: u32) -> u32
     digit(LISTED, LISTED_LATE, kind)
 }
 
-fn wide(x: u32) -> u64
-    ensures { result ≡ x }
-{
-    x as u64
-}
-
+// Six words: a record's fields are no array, and one made of them is no plainer. By `|`, the processor
+// has to guess branches: files take a sixth to a third longer.
 fn all_zero(a: u32, b: u32, c: u32, d: u32, e: u32, f: u32) -> bool
     ensures { result ≡ zeros (a ∷ b ∷ c ∷ d ∷ e ∷ f ∷ []) }
 {
-    wide(a) + (wide(b) + (wide(c) + (wide(d) + (wide(e) + wide(f))))) == 0
+    let first = u64::from(a) + u64::from(b) + u64::from(c);
+    first + u64::from(d) + u64::from(e) + u64::from(f) == 0
 }
 
 // A field if it isn't among the first `used`, else 0.
@@ -76,15 +74,14 @@ fn blank(used: u32, r: Record) -> bool
 }
 
 // Whether the number of an AddrOf's space fits the space: Frame, Up, Inst, Pkg, Const, Shared.
+// By numbers: `AddrSpace` holds values, so that a name for the number alone would be an enum of its own,
+// which is no plainer.
 fn space_fits(op: u32, number: u32) -> bool
     ensures { result ≡ fitsPlace (space_number op) number }
 {
     match op {
-        0 => number == 0,
         1 => number < 256,
-        2 => number == 0,
-        3 => true,
-        4 => true,
+        3 | 4 => true,
         _ => number == 0,
     }
 }
@@ -94,12 +91,11 @@ fn special_fits(used: u32, r: Record) -> bool
     requires { used ≡ get_or listed_places r.kind 0 }
     ensures { result ≡ all_fit (get_or (instruction_places r.op) r.kind []) (fields r) }
 {
-    let kind = r.kind;
-    match kind {
-        3 => space_fits(r.op, r.p2) && blank(3, r),
-        13 => r.p3 < 256 && blank(3, r),
-        17 => if r.op == 0 { blank(3, r) } else { blank(4, r) },
-        21 => if r.op == 0 { blank(0, r) } else { blank(1, r) },
+    match Kind::from(r.kind) {
+        Kind::AddrOf => space_fits(r.op, r.p2) && blank(3, r),
+        Kind::DopeLen => r.p3 < 256 && blank(3, r),
+        Kind::CallNative => blank(if r.op == 0 { 3 } else { 4 }, r),
+        Kind::Ret => blank(if r.op == 0 { 0 } else { 1 }, r),
         _ => blank(used, r),
     }
 }
@@ -111,9 +107,10 @@ fn instruction_fits(r: Record) -> bool
 {
     let used = listed(r.kind);
     if used < 7 {
-        return blank(used, r);
+        blank(used, r)
+    } else {
+        special_fits(used, r)
     }
-    special_fits(used, r)
 }
 
 fn instruction(r: Record) -> bool
@@ -137,36 +134,30 @@ fn instruction(r: Record) -> bool
 fn plain(r: Record, kinds: u32) -> bool
     ensures { result ≡ plainRecord r kinds }
 {
-    if kinds <= r.kind {
-        return false;
-    }
-    all_zero(r.op, r.zero, r.stmt, 0, 0, 0)
+    r.kind < kinds && all_zero(r.op, r.zero, r.stmt, 0, 0, 0)
 }
 
 fn arm_fits(r: Record) -> bool
     ensures { result ≡ all_fit (get_or arm_places r.kind []) (fields r) }
 {
-    let kind = r.kind;
-    match kind {
-        0 => true,
-        1 => all_zero(0, r.p2, r.p3, r.p4, r.p5, 0),
+    match r.kind {
+        CASE_ARM => true,
+        DEFAULT_ARM => all_zero(0, r.p2, r.p3, r.p4, r.p5, 0),
         _ => blank(0, r),
     }
 }
 
-// Whether the record is valid by itself. The classes are register, block, body, instruction, operand
-// and arm.
+// Whether the record is valid by itself.
 pub fn right(r: Record) -> bool
     ensures { result ≡ rightRecord r }
 {
-    let class = r.class;
-    match class {
-        1 => plain(r, 5) && blank(0, r),
-        2 => plain(r, 1) && blank(2, r),
-        3 => plain(r, 1) && blank(1, r),
-        4 => instruction(r),
-        5 => plain(r, 1) && blank(1, r),
-        6 => plain(r, 2) && arm_fits(r),
-        _ => false,
+    match Class::try_from(r.class) {
+        Ok(Class::Register) => plain(r, 5) && blank(0, r),
+        Ok(Class::Block) => plain(r, 1) && blank(2, r),
+        Ok(Class::Body) => plain(r, 1) && blank(1, r),
+        Ok(Class::Instruction) => instruction(r),
+        Ok(Class::Operand) => plain(r, 1) && blank(1, r),
+        Ok(Class::Arm) => plain(r, 2) && arm_fits(r),
+        Err(_) => false,
     }
 }

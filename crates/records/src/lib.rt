@@ -2,10 +2,57 @@
 #![tactic(auto)]
 
 ghost use Rattle.std.specs.Prelude.{◌≡◌, ℕ, ◌+◌, ◌*◌, ◌≤◌, ◌<◌, length};
-ghost use Rattle.records.specs.Record.{word_at, record_in, record_at, blank};
+ghost use Rattle.records.specs.Record.{word_at, record_in, record_at};
+ghost use Rattle.records.specs.Class.{class_at, class_number};
+
+// The classes of records, with their numbers in a record's first byte.
+#[derive(Clone, Copy, Debug, PartialEq, Eq)]
+pub enum Class {
+    Register = 1,
+    Block = 2,
+    Body = 3,
+    Instruction = 4,
+    Operand = 5,
+    Arm = 6,
+}
+
+// A number that no class has.
+#[derive(Clone, Copy, Debug, PartialEq, Eq)]
+pub struct NoClass(pub u32);
+
+impl TryFrom<u32> for Class {
+    type Error = NoClass;
+
+    ghost try_from_gives = { λ n r. r ≡ class_at n };
+
+    fn try_from(number: u32) -> Result<Class, NoClass> {
+        match number {
+            1 => Ok(Class::Register),
+            2 => Ok(Class::Block),
+            3 => Ok(Class::Body),
+            4 => Ok(Class::Instruction),
+            5 => Ok(Class::Operand),
+            6 => Ok(Class::Arm),
+            _ => Err(NoClass(number)),
+        }
+    }
+}
+
+impl From<Class> for u32 {
+    ghost from_gives = { λ c n. n ≡ class_number c };
+
+    fn from(class: Class) -> u32 {
+        class as u32
+    }
+}
+
+// The kinds of arms.
+pub const CASE_ARM: u32 = 0;
+
+pub const DEFAULT_ARM: u32 = 1;
 
 // The fields of a 32-byte record.
-#[derive(Clone, Copy)]
+#[derive(Clone, Copy, Debug, Default, PartialEq, Eq)]
 pub struct Record {
     pub class: u32,
     pub kind: u32,
@@ -20,18 +67,12 @@ pub struct Record {
     pub p6: u32,
 }
 
-fn wide(x: u8) -> u32
-    ensures { (result ≡ x) × (result < 256) }
-{
-    x as u32
-}
-
 // The little-endian word that starts at a byte.
 fn word_at(b: &[u8], at: usize) -> u32
     requires { at + 4 ≤ length b.now }
     ensures { result ≡ word_at b.now at }
 {
-    wide(b[at]) + 256 * wide(b[at + 1]) + 65536 * wide(b[at + 2]) + 16777216 * wide(b[at + 3])
+    u32::from_le_bytes([b[at], b[at + 1], b[at + 2], b[at + 3]])
 }
 
 // The record that starts at a byte.
@@ -40,10 +81,10 @@ fn record_in(b: &[u8], at: usize) -> Record
     ensures { result ≡ record_in b.now at }
 {
     Record {
-        class: wide(b[at]),
-        kind: wide(b[at + 1]),
-        op: wide(b[at + 2]),
-        zero: wide(b[at + 3]),
+        class: u32::from(b[at]),
+        kind: u32::from(b[at + 1]),
+        op: u32::from(b[at + 2]),
+        zero: u32::from(b[at + 3]),
         stmt: word_at(b, at + 4),
         p1: word_at(b, at + 8),
         p2: word_at(b, at + 12),
@@ -54,24 +95,6 @@ fn record_in(b: &[u8], at: usize) -> Record
     }
 }
 
-fn blank_record() -> Record
-    ensures { result ≡ blank }
-{
-    Record {
-        class: 0,
-        kind: 0,
-        op: 0,
-        zero: 0,
-        stmt: 0,
-        p1: 0,
-        p2: 0,
-        p3: 0,
-        p4: 0,
-        p5: 0,
-        p6: 0,
-    }
-}
-
 // Record k of a file; past the last whole record, a blank one.
 pub fn record_at(b: &[u8], k: usize) -> Record
     ensures { result ≡ record_at b.now k }
@@ -79,6 +102,6 @@ pub fn record_at(b: &[u8], k: usize) -> Record
     if k < b.len() / 32 {
         record_in(b, 32 * k)
     } else {
-        blank_record()
+        Record::default()
     }
 }

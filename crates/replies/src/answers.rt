@@ -1,75 +1,45 @@
 // The one-line answers: those of `read` and `tidy`.
 ghost use Rattle.line.specs.Line.{Ended};
 
-use records::Record;
+use inst::Kind;
+use line::Line;
+use records::{Class, Record};
 
-// Where the line ends, and whether the file was accepted.
-#[derive(Clone, Copy)]
-pub struct Answer {
-    pub at: usize,
-    pub good: bool,
-}
-
-pub fn put_reading(line: &mut [u8], at: usize, words: bool, bytes: &[u8]) -> Answer
-    ensures { Ended line.old at line.new result.at }
+// Puts the answer and returns whether the file was accepted.
+pub fn put_reading(line: &mut Line<'_>, words: bool, bytes: &[u8]) -> bool
+    ensures { Ended line.old line.new }
 {
-    let r = read::read(bytes);
-    if r.number == 0 {
-        return Answer {
-            at: line::put(line, at, b"accepted\n"),
-            good: true,
-        };
+    if let Err(e) = read::read(bytes) {
+        reasons::put_refusal(line, words, e);
+        return false;
     }
-    Answer {
-        at: reasons::put_refusal(line, at, words, r.number, r.place),
-        good: false,
-    }
+    line.put(b"accepted\n");
+    true
 }
 
 // Whether it is an AddrOf that writes the register.
 fn is_address_of(r: Record, reg: u32) -> bool {
-    if r.class != 4 {
-        return false;
-    }
-    if r.kind != 3 {
-        return false;
-    }
-    r.p1 == reg
+    Class::try_from(r.class) == Ok(Class::Instruction)
+        && Kind::from(r.kind) == Kind::AddrOf
+        && r.p1 == reg
 }
 
 // Whether an AddrOf writes a register of the file.
 fn is_address(bytes: &[u8], reg: u32) -> bool {
-    let count = bytes.len() / 32;
-    let mut k = 0;
-    while k < count {
-        let r = records::record_at(bytes, k);
-        if is_address_of(r, reg) {
-            return true;
-        }
-        k += 1;
-    }
-    false
+    (0..bytes.len() / 32).any(|k| is_address_of(records::record_at(bytes, k), reg))
 }
 
-pub fn put_tidiness(line: &mut [u8], at: usize, words: bool, bytes: &[u8]) -> Answer
-    ensures { Ended line.old at line.new result.at }
+// Puts the answer and returns whether the file was accepted.
+pub fn put_tidiness(line: &mut Line<'_>, words: bool, bytes: &[u8]) -> bool
+    ensures { Ended line.old line.new }
 {
-    let t = tidy::tidy(bytes);
-    if t.number != 0 {
-        return Answer {
-            at: reasons::put_refusal(line, at, words, t.number, t.place),
-            good: false,
-        };
+    match tidy::tidy(bytes) {
+        Ok(None) => line.put(b"yes\n"),
+        Ok(Some(r)) => reasons::put_untidy(line, words, r.0, is_address(bytes, r.0)),
+        Err(e) => {
+            reasons::put_refusal(line, words, e);
+            return false;
+        }
     }
-    if t.tidy == 1 {
-        return Answer {
-            at: line::put(line, at, b"yes\n"),
-            good: true,
-        };
-    }
-    let address = is_address(bytes, t.reg);
-    Answer {
-        at: reasons::put_untidy(line, at, words, t.reg, address),
-        good: true,
-    }
+    true
 }

@@ -4,55 +4,32 @@
 mod answers;
 pub mod list;
 
-use answers::Answer;
-use files::Output;
+use files::Unsaid;
+use line::Line;
 use list::Part;
 
-#[derive(Clone, Copy)]
+#[derive(Clone, Copy, Debug, PartialEq, Eq)]
 pub enum Question {
     Read,
     Tidy,
-    List,
+    List(Part),
 }
 
-// The question, which part of a listing is wanted, and whether numbers are explained in words.
-#[derive(Clone, Copy)]
+// The question, and whether numbers are explained in words.
+#[derive(Clone, Copy, Debug, PartialEq, Eq)]
 pub struct Ask {
     pub question: Question,
-    pub part: Part,
     pub words: bool,
 }
 
-// Whether the file was accepted, and what became of its answer.
-#[derive(Clone, Copy)]
-pub struct Told {
-    pub good: bool,
-    pub output: Output,
-}
-
-fn say_line(rt: &impl Print, text: &[u8], a: Answer) -> Told {
-    let end = line::front(text, a.at);
-    Told {
-        good: a.good,
-        output: files::say(rt, &text[..end]),
-    }
-}
-
-// Writes the answer; the text up to `at` already has the start of its first line.
-pub fn say(rt: &impl Print, text: &mut [u8], at: usize, ask: Ask, bytes: &[u8]) -> Told {
-    let question = ask.question;
-    match question {
-        Question::Read => {
-            let a = answers::put_reading(text, at, ask.words, bytes);
-            say_line(rt, text, a)
-        }
-        Question::Tidy => {
-            let a = answers::put_tidiness(text, at, ask.words, bytes);
-            say_line(rt, text, a)
-        }
-        Question::List => {
-            let part = ask.part;
-            list::say(rt, text, at, part, ask.words, bytes)
-        }
-    }
+// Writes the answer, whose first line already has its start, and returns whether the file was
+// accepted.
+pub fn say(rt: &impl Print, line: &mut Line<'_>, ask: Ask, bytes: &[u8]) -> Result<bool, Unsaid> {
+    let accepted = match ask.question {
+        Question::Read => answers::put_reading(line, ask.words, bytes),
+        Question::Tidy => answers::put_tidiness(line, ask.words, bytes),
+        Question::List(part) => return list::say(rt, line, part, ask.words, bytes),
+    };
+    files::say(rt, line.text())?;
+    Ok(accepted)
 }

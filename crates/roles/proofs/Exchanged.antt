@@ -3,7 +3,7 @@ use Prim.Native.Nat.{ℕ}
 use mathlib.Core.Path.{◌≡◌, refl, ap}
 use mathlib.Core.List.{List, map}
 use Rattle.inst.specs.declared.Regs.{Regs}
-use Rattle.inst.specs.declared.OptReg.TheVariants as o
+use Rattle.std.specs.Prelude.{Some, None}
 use Rattle.inst.specs.declared.BoolOp.TheVariants as b
 use Rattle.inst.specs.declared.CheckKind.TheVariants as k
 use Rattle.inst.specs.declared.Inst.{Inst}
@@ -48,13 +48,13 @@ module _ (σ τ σ' τ' : ℕ → ℕ) where
   both (i.BoundsLen d l r e) = refl
   both (i.Alloc d s) = refl
   both (i.TakeBounds l r e) = refl
-  both (i.CallNative n a (o.Some d)) = refl
-  both (i.CallNative n a o.None) = refl
+  both (i.CallNative n a (Some d)) = refl
+  both (i.CallNative n a None) = refl
   both (i.Br t) = refl
   both (i.CondBr c t f) = refl
   both (i.Case v t) = refl
-  both (i.Ret (o.Some v)) = refl
-  both (i.Ret o.None) = refl
+  both (i.Ret (Some v)) = refl
+  both (i.Ret None) = refl
   both (i.Unreachable w) = refl
   both i.Stmt = refl
 

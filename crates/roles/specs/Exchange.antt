@@ -1,8 +1,6 @@
 -- `Inst::visit_mut` as `thread` uses it: an instruction's registers exchanged by their role.
-use Rattle.std.specs.Prelude.{ℕ, List, [], ◌∷◌, cond, eqb, take}
+use Rattle.std.specs.Prelude.{ℕ, List, [], ◌∷◌, cond, eqb, Option, Some, None}
 use Rattle.inst.specs.declared.Reg.{Reg}
-use Rattle.inst.specs.declared.OptReg.{OptReg}
-use Rattle.inst.specs.declared.OptReg.TheVariants as o
 use Rattle.inst.specs.declared.BoolOp.{BoolOp}
 use Rattle.inst.specs.declared.BoolOp.TheVariants as b
 use Rattle.inst.specs.declared.CheckKind.{CheckKind}
@@ -16,9 +14,9 @@ abbrev pub over : (ℕ → ℕ) → Reg → Reg
 over g r = reg_of (g r.0)
 
 -- visit_mut: "if let Some(r)"
-abbrev pub over_optional : (ℕ → ℕ) → OptReg → OptReg
-over_optional g (o.Some r) = o.Some (over g r)
-over_optional g o.None = o.None
+abbrev pub over_optional : (ℕ → ℕ) → Option Reg → Option Reg
+over_optional g (Some r) = Some (over g r)
+over_optional g None = None
 
 -- visit_mut: b is read "if *op != BoolOp::Not"
 abbrev pub bool_second : BoolOp → (ℕ → ℕ) → Reg → Reg
@@ -78,12 +76,3 @@ through (x ∷ xs) r = cond (eqb x.0 r) x.1 (through xs r)
 -- "if role == Role::Def && *r == old"
 abbrev pub written : ℕ → ℕ → ℕ → ℕ
 written old new r = cond (eqb r old) new r
-
--- the first n pairs of two lists of registers
-abbrev pub pairs : List Reg → List Reg → List (ℕ × ℕ)
-pairs [] to = []
-pairs (x ∷ from) [] = []
-pairs (x ∷ from) (y ∷ to) = (x.0, y.0) ∷ pairs from to
-
-abbrev pub first_pairs : ℕ → List Reg → List Reg → List (ℕ × ℕ)
-first_pairs n from to = take n (pairs from to)

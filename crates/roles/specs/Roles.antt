@@ -1,10 +1,7 @@
 -- Document 01, "Class 4, instruction": "`Inst::visit_mut` says which register fields are read and written; list operands are read too."
-use Rattle.std.specs.Prelude.{ℕ, List, [], ◌∷◌, ◌++◌, map, length, take, drop}
-use Rattle.roles.specs.declared.Roles.{Roles}
+use Rattle.std.specs.Prelude.{ℕ, List, [], ◌∷◌, ◌++◌, map, take, drop, Option, Some, None}
 use Rattle.inst.specs.declared.Reg.{Reg}
 use Rattle.inst.specs.declared.Regs.{Regs}
-use Rattle.inst.specs.declared.OptReg.{OptReg}
-use Rattle.inst.specs.declared.OptReg.TheVariants as o
 use Rattle.inst.specs.declared.BoolOp.{BoolOp}
 use Rattle.inst.specs.declared.BoolOp.TheVariants as b
 use Rattle.inst.specs.declared.CheckKind.{CheckKind}
@@ -13,9 +10,9 @@ use Rattle.inst.specs.declared.Inst.{Inst}
 use Rattle.inst.specs.declared.Inst.TheVariants as i
 
 -- visit_mut: "if let Some(r)"
-abbrev pub optional : OptReg → List ℕ
-optional (o.Some r) = r.0 ∷ []
-optional o.None = []
+abbrev pub optional : Option Reg → List ℕ
+optional (Some r) = r.0 ∷ []
+optional None = []
 
 -- visit_mut: b is read "if *op != BoolOp::Not"
 abbrev pub bool_uses : BoolOp → ℕ → ℕ → List ℕ
@@ -131,16 +128,11 @@ reg_of n = record { 0 = n }
 abbrev pub numbers_of : List Reg → List ℕ
 numbers_of rs = map (λ (r : Reg). r.0) rs
 
--- some registers written and some read, five at most, padded with register 0
-abbrev pub filled : List ℕ → List ℕ → Regs → Roles
-filled defs uses list =
-    record {
-      defs = length defs;
-      n = length (defs ++ uses);
-      reg = map reg_of (take 5 ((defs ++ uses) ++ (0 ∷ 0 ∷ 0 ∷ 0 ∷ 0 ∷ [])));
-      list = list;
-    }
-
 -- an instruction's roles: its fields written, its fields read, its list
-unfoldable pub roles_of : Inst → Roles
-roles_of x = filled (defs_of x) (uses_of x) (list_of x)
+pub record Named : Type 0 where
+  pub written : List ℕ
+  pub read : List ℕ
+  pub list : Regs
+
+abbrev pub roles_of : Inst → Named
+roles_of x = record { written = defs_of x; read = uses_of x; list = list_of x }

@@ -1,20 +1,68 @@
 // Which registers an instruction writes and reads, as a list of roles (`Inst::visit`).
 #![tactic(auto)]
 
-ghost use Rattle.std.specs.Prelude.{◌≡◌};
-ghost use Rattle.roles.specs.Roles.{no_list, roles_of};
-ghost use Rattle.roles.specs.Work.{row_of, bool_roles, check_roles, call_roles, ret_roles};
+ghost use Rattle.std.specs.Prelude.{◌≡◌, ◌+◌, ◌≤◌, ◌++◌};
+ghost use Rattle.roles.specs.Roles.{no_list, numbers_of, roles_of};
+ghost use Rattle.roles.specs.Work.{named, row_of, bool_roles, check_roles, call_roles, ret_roles};
 
-use inst::{BoolOp, CheckKind, Inst, OptReg, Reg, Regs};
+use inst::{BoolOp, CheckKind, Inst, Reg, Regs};
+use std::marker::Model;
 
 // The registers of an instruction, in the order of visit_mut: the first `defs` of reg are written,
 // the others up to `n` are read. Then the list of operands that it reads too, empty if it has none.
-#[derive(Clone, Copy)]
+// An ArrayVec of five is no plainer (d): it would be filled by calls that may refuse.
+#[derive(Drop)]
 pub struct Roles {
-    pub defs: usize,
-    pub n: usize,
-    pub reg: [Reg; 5],
-    pub list: Regs,
+    defs: usize,
+    n: usize,
+    reg: [Reg; 5],
+    list: Regs,
+}
+
+impl Model for Roles {
+    ghost use Rattle.std.specs.Prelude.{◌-◌, take, drop};
+    ghost use Rattle.roles.specs.Roles.{Named, numbers_of};
+    ghost use Rattle.roles.specs.Work.{Five};
+
+    ghost Value = { Named };
+
+    ghost view = { λ r. record {
+      written = numbers_of (take r.defs r.reg);
+      read = numbers_of (take (r.n - r.defs) (drop r.defs r.reg));
+      list = r.list;
+    } };
+
+    ghost invariant = { λ r. Five r.defs r.n r.reg };
+}
+
+impl Roles {
+    // The registers that are written.
+    pub fn written(&self) -> &[Reg]
+        ensures { numbers_of result.now ≡ self.now.written }
+    {
+        &self.reg[..self.defs]
+    }
+
+    // The registers that are read, without those of the list.
+    pub fn read(&self) -> &[Reg]
+        ensures { numbers_of result.now ≡ self.now.read }
+    {
+        &self.reg[self.defs..self.n]
+    }
+
+    // Those written, then those read.
+    pub fn fields(&self) -> &[Reg]
+        ensures { numbers_of result.now ≡ self.now.written ++ self.now.read }
+    {
+        &self.reg[..self.n]
+    }
+
+    // The list of operands that are read.
+    pub fn list(&self) -> Regs
+        ensures { result ≡ self.now.list }
+    {
+        self.list
+    }
 }
 
 fn no_list() -> Regs
@@ -23,125 +71,110 @@ fn no_list() -> Regs
     Regs { start: 0, len: 0 }
 }
 
-fn row(defs: usize, n: usize, a: Reg, b: Reg, c: Reg, d: Reg, e: Reg) -> Roles
-    ensures { result ≡ row_of defs n a b c d e no_list }
+fn row<const D: usize, const U: usize>(written: [Reg; D], read: [Reg; U]) -> Roles
+    requires { D + U ≤ 5 }
+    ensures { result ≡ row_of written.entry read.entry }
 {
-    let list = no_list();
+    let mut reg = [Reg(0); 5];
+    reg[..D].copy_from_slice(&written);
+    reg[D..D + U].copy_from_slice(&read);
     Roles {
-        defs,
-        n,
-        reg: [a, b, c, d, e],
-        list,
+        defs: D,
+        n: D + U,
+        reg,
+        list: no_list(),
     }
+}
+
+fn with_list(mut row: Roles, list: Regs) -> Roles
+    ensures { result ≡ named row.written row.read list }
+{
+    row.list = list;
+    row
 }
 
 fn bool_roles(op: BoolOp, dst: Reg, a: Reg, b: Reg) -> Roles
     ensures { result ≡ bool_roles op dst a b }
 {
-    let z = Reg(0);
     match op {
-        BoolOp::And => row(1, 3, dst, a, b, z, z),
-        BoolOp::Or => row(1, 3, dst, a, b, z, z),
-        BoolOp::Xor => row(1, 3, dst, a, b, z, z),
-        BoolOp::Not => row(1, 2, dst, a, z, z, z),
+        BoolOp::And | BoolOp::Or | BoolOp::Xor => row([dst], [a, b]),
+        BoolOp::Not => row([dst], [a]),
     }
 }
 
 fn check_roles(kind: CheckKind, v: Reg, lo: Reg, hi: Reg) -> Roles
     ensures { result ≡ check_roles kind v lo hi }
 {
-    let z = Reg(0);
     match kind {
-        CheckKind::Range => row(0, 3, v, lo, hi, z, z),
-        CheckKind::Index => row(0, 3, v, lo, hi, z, z),
-        CheckKind::IndexDown => row(0, 3, v, lo, hi, z, z),
-        CheckKind::Length => row(0, 2, v, lo, z, z, z),
-        CheckKind::Null => row(0, 1, v, z, z, z, z),
+        CheckKind::Range | CheckKind::Index | CheckKind::IndexDown => row([], [v, lo, hi]),
+        CheckKind::Length => row([], [v, lo]),
+        CheckKind::Null => row([], [v]),
     }
 }
 
-fn call_roles(args: Regs, dst: OptReg) -> Roles
+fn call_roles(args: Regs, dst: Option<Reg>) -> Roles
     ensures { result ≡ call_roles args dst }
 {
-    let z = Reg(0);
     match dst {
-        OptReg::Some(r) => Roles {
-            defs: 1,
-            n: 1,
-            reg: [r, z, z, z, z],
-            list: args,
-        },
-        OptReg::None => Roles {
-            defs: 0,
-            n: 0,
-            reg: [z, z, z, z, z],
-            list: args,
-        },
+        Some(d) => with_list(row([d], []), args),
+        None => with_list(row([], []), args),
     }
 }
 
-fn ret_roles(v: OptReg) -> Roles
+fn ret_roles(v: Option<Reg>) -> Roles
     ensures { result ≡ ret_roles v }
 {
-    let z = Reg(0);
     match v {
-        OptReg::Some(r) => row(0, 1, r, z, z, z, z),
-        OptReg::None => row(0, 0, z, z, z, z, z),
+        Some(r) => row([], [r]),
+        None => row([], []),
     }
 }
 
 pub fn roles_of(i: Inst) -> Roles
     ensures { result ≡ roles_of i }
 {
-    let z = Reg(0);
     match i {
-        Inst::Const { dst, v } => row(1, 1, dst, z, z, z, z),
-        Inst::ConstF { dst, v } => row(1, 1, dst, z, z, z, z),
-        Inst::Move { dst, src } => row(1, 2, dst, src, z, z, z),
-        Inst::AddrOf { dst, space, off } => row(1, 1, dst, z, z, z, z),
-        Inst::Select { dst, c, a, b } => row(1, 4, dst, c, a, b, z),
-        Inst::Cmp { op, dst, a, b } => row(1, 3, dst, a, b, z, z),
+        Inst::Const { dst, .. } => row([dst], []),
+        Inst::ConstF { dst, .. } => row([dst], []),
+        Inst::Move { dst, src } => row([dst], [src]),
+        Inst::AddrOf { dst, .. } => row([dst], []),
+        Inst::Select { dst, c, a, b } => row([dst], [c, a, b]),
+        Inst::Cmp { dst, a, b, .. } => row([dst], [a, b]),
         Inst::Bool { op, dst, a, b } => bool_roles(op, dst, a, b),
-        Inst::Bin { op, dst, a, b } => row(1, 3, dst, a, b, z, z),
+        Inst::Bin { dst, a, b, .. } => row([dst], [a, b]),
         Inst::BinRange {
-            op,
             dst,
             a,
             b,
             lo,
             hi,
-            what,
-        } => row(1, 5, dst, a, b, lo, hi),
-        Inst::Load { dst, addr, w } => row(1, 2, dst, addr, z, z, z),
-        Inst::Store { addr, src, w } => row(0, 2, addr, src, z, z, z),
+            ..
+        } => row([dst], [a, b, lo, hi]),
+        Inst::Load { dst, addr, .. } => row([dst], [addr]),
+        Inst::Store { addr, src, .. } => row([], [addr, src]),
         Inst::Check {
             kind,
             v,
             lo,
             hi,
-            what,
+            ..
         } => check_roles(kind, v, lo, hi),
-        Inst::MakeDope { at, parts } => Roles {
-            defs: 0,
-            n: 1,
-            reg: [at, z, z, z, z],
-            list: parts,
-        },
-        Inst::DopeLen { dst, dope, dim } => row(1, 2, dst, dope, z, z, z),
+        Inst::MakeDope { at, parts } => with_list(row([], [at]), parts),
+        Inst::DopeLen { dst, dope, .. } => row([dst], [dope]),
         Inst::BoundsLen {
             dst,
             left,
             right,
             dir,
-        } => row(1, 4, dst, left, right, dir, z),
-        Inst::Alloc { dst, size } => row(1, 2, dst, size, z, z, z),
-        Inst::TakeBounds { left, right, dir } => row(3, 3, left, right, dir, z, z),
-        Inst::CallNative { native, args, dst } => call_roles(args, dst),
-        Inst::Br { to } => row(0, 0, z, z, z, z, z),
-        Inst::CondBr { c, t, f } => row(0, 1, c, z, z, z, z),
-        Inst::Case { v, table } => row(0, 1, v, z, z, z, z),
+        } => row([dst], [left, right, dir]),
+        Inst::Alloc { dst, size } => row([dst], [size]),
+        Inst::TakeBounds { left, right, dir } => row([left, right, dir], []),
+        Inst::CallNative { args, dst, .. } => call_roles(args, dst),
+        Inst::Br { .. } => row([], []),
+        Inst::CondBr { c, .. } => row([], [c]),
+        Inst::Case { v, .. } => row([], [v]),
         Inst::Ret { v } => ret_roles(v),
-        Inst::Unreachable { what } => row(0, 0, z, z, z, z, z),
-        Inst::Stmt => row(0, 0, z, z, z, z, z),
+        Inst::Unreachable { .. } => row([], []),
+        Inst::Stmt => row([], []),
     }
 }

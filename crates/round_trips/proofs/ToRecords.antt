@@ -4,7 +4,7 @@ use native.Mathlib.Omega.{arith}
 use mathlib.Core.Path.{◌≡◌, refl, sym, ap, ◌∙◌}
 use mathlib.Core.Bool.{true}
 use mathlib.Core.List.{List, [], ◌∷◌, ◌++◌, map, append-nil}
-use mathlib.Core.Option.{Option, none, some}
+use Rattle.std.proofs.Common.{Option, None, Some}
 use borrow.Author.Tests.{lt-ltb}
 use lib.ListN.{length, get_or, length-map, length-append}
 use Rattle.records.specs.declared.Record.{Record}
@@ -43,16 +43,16 @@ all_blocks P m f due (c ∷ cs) h =
     (f due (due + length c) (omega arith) (omega arith), all_blocks P m f (due + length c) cs (omega arith))
 
 all-body : (P : Record → Type 0) (n : ℕ) → ((b : ℕ) → b < n → P (body_record (block_of b))) → (o : Option ℕ) → BodyIn n o → All P (body_records o)
-all-body P n f none h = tt
-all-body P n f (some b) h = (f b h, tt)
+all-body P n f None h = tt
+all-body P n f (Some b) h = (f b h, tt)
 
 body-read : (o : Option ℕ) → first_of (map (λ r. r.p1) (body_records o)) ≡ o
-body-read none = refl
-body-read (some b) = refl
+body-read None = refl
+body-read (Some b) = refl
 
 body-few : (o : Option ℕ) → length (body_records o) ≤ 1
-body-few none = omega arith
-body-few (some b) = omega arith
+body-few None = omega arith
+body-few (Some b) = omega arith
 
 all-joined : (P : Code → Type 0) (cs : List (List Code)) → All (All P) cs → All P (joined cs)
 all-joined P [] h = tt

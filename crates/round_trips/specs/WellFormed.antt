@@ -1,6 +1,5 @@
 -- Document 01, "File" and "Read": a procedure that a file which Read accepts can hold.
-use Rattle.std.specs.Prelude.{ℕ, suc, ◌+◌, ◌≤◌, ◌<◌, ◌^◌, ◌≡◌, true, false, List, [], ◌∷◌, length}
-use Rattle.std.proofs.Math.Option.{Option, none, some}
+use Rattle.std.specs.Prelude.{ℕ, suc, ◌+◌, ◌≤◌, ◌<◌, ◌^◌, ◌≡◌, true, false, List, [], ◌∷◌, length, Option, None, Some}
 use Rattle.record_rules.specs.declared.exist.Counts.{Counts}
 use Rattle.record_rules.specs.Exist.{names_exist}
 use Rattle.ends.specs.Ends.{terminator_of}
@@ -31,8 +30,8 @@ pub record BlockIn (n : Counts) (c : List Code) : Type 0 where
 
 -- "Body: p1 a block"
 abbrev pub BodyIn : ℕ → Option ℕ → Type 0
-BodyIn blocks none = Unit {0}
-BodyIn blocks (some b) = b < blocks
+BodyIn blocks None = Unit {0}
+BodyIn blocks (Some b) = b < blocks
 
 -- "p2-3 low, p4-5 high (signed, 64-bit), p6 target"
 pub record ArmIn (blocks : ℕ) (a : Arm) : Type 0 where

@@ -3,7 +3,7 @@ use Prim.Native.Nat.{ℕ, ◌≤◌, ◌<◌}
 use mathlib.Core.Path.{◌≡◌, sym, ap, ◌∙◌}
 use mathlib.Core.Bool.{Bool, true, false}
 use mathlib.Core.List.{List}
-use mathlib.Core.Option.{Option}
+use Rattle.std.proofs.Common.{Option}
 use borrow.Author.Tests.{lt-ltb, le-ltb}
 use Rattle.equal_arms.specs.Joined.{Joined, joined, equal_arms_in}
 use Rattle.thread.specs.declared.Threaded.{Threaded}

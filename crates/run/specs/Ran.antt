@@ -1,6 +1,5 @@
 -- Storage, not the paper's: what equal arms, the gate, the counts and threading leave in the work storage, for any bytes.
-use Rattle.std.specs.Prelude.{ℕ, ◌+◌, ◌*◌, ◌/◌, ◌<◌, min, ◌≡◌, Bool, true, false, ◌&&◌, List, ◌⊎◌, ltb, length, take}
-use Rattle.std.proofs.Math.Option.{Option}
+use Rattle.std.specs.Prelude.{ℕ, ◌+◌, ◌*◌, ◌/◌, ◌<◌, min, ◌≡◌, Bool, true, false, ◌&&◌, List, ◌⊎◌, ltb, length, take, Option}
 use Rattle.procedure.specs.Procedure.{codes_of}
 use Rattle.procedure.specs.Lists.{present}
 use Rattle.blocks.specs.Blocks.{blocks_of}

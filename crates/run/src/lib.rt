@@ -1,15 +1,20 @@
 // `run` before Emit: equal arms, gate, counts, Thread.
 #![tactic(auto)]
 
-ghost use Rattle.std.specs.Prelude.{◌≡◌, true, List, ℕ, length};
+ghost use Rattle.std.specs.Prelude.{◌≡◌, true, length};
 ghost use Rattle.pause.specs.Storage.{body_in};
-ghost use Rattle.equal_arms.specs.Joined.{joined};
+ghost use Rattle.thread.specs.Storage.{store, thread_in};
 ghost use Rattle.run.specs.Ran as r;
 
-use pause::Pause;
+use arena::Space;
+use blocks::Blocks;
+use hop_br::Added;
+use hop_cond_br::Room;
+use pause::{Facts, Pause};
 use thread::Threaded;
 
-// How far `run` got before Emit: whether equal arms were joined, and how far threading got.
+// How far `run` got before Emit: whether equal arms were joined, and how far threading got. Arms
+// are joined whether or not something is threaded, so the flag is no Option of the rest.
 #[derive(Clone, Copy)]
 pub struct Ran {
     pub joined: bool,
@@ -32,58 +37,58 @@ fn still(n: usize) -> Threaded
 fn budget(n: usize) -> u32
     ensures { result ≡ r.budget_in n }
 {
-    general::least(n / 2 + 32, 4294967295) as u32
+    (n / 2 + 32).min(4294967295) as u32
 }
 
 // The facts of the first n instructions.
 fn counted(work: &[u8], facts: &mut [u64], operands: &[u8], registers: &[u8], n: usize)
     ensures { facts.new ≡ r.counted_in n operands.now registers.now facts.old work.now }
 {
-    let m = general::least(n, work.len() / 32);
+    let m = n.min(work.len() / 32);
     count_facts::facts(&work[..32 * m], operands, registers, &work[..0], facts);
 }
 
 // Whether some block leads back, and some hop may do something.
-fn opens(work: &[u8], table: &[u8], pause: Pause) -> bool
-    ensures { result ≡ r.opens_in (body_in pause) work.now table.now }
+fn opens(blocks: Blocks, pause: Pause) -> bool
+    ensures { result ≡ r.opens_in (body_in pause) blocks.entry.code.now blocks.entry.table.now }
 {
-    gate::has_back_edge(work, table) && gate::may_thread(work, table, pause::has_pause(pause))
+    gate::has_back_edge(blocks) && gate::may_thread(blocks, pause::has_pause(pause))
 }
 
-// The gate, the counts and threading, once equal arms are joined.
-fn gated(
+// Threads the code: n instructions are in use. Each slice stands by itself, as in `run`; within `run`
+// the borrow checker tells nothing of what the three structs held.
+fn threaded(
     work: &mut [u8],
     table: &mut [u8],
     kinds: &mut [u8],
     known: &mut [u64],
     copy: &mut [u32],
-    facts: &mut [u64],
-    operands: &[u8],
-    registers: &[u8],
-    pause: Pause,
+    facts: &Facts,
     n: usize,
-    arms: bool,
-) -> Ran
-    ensures { r.left work.new table.new kinds.new facts.new result
-        ≡ r.arms_in (body_in pause) (length known.old) (length copy.old) operands.now registers.now n
-        (joined work.old arms) table.old kinds.old facts.old
-        (r.counted_in n operands.now registers.now facts.old work.old) }
+) -> Threaded
+    ensures { store work.new table.new kinds.new result
+        ≡ thread_in facts.now.table.now (body_in facts.now.pause) facts.now.budget (length known.old) (length copy.old)
+        work.old table.old kinds.old n }
 {
-    if !opens(work, table, pause) {
-        return Ran {
-            joined: arms,
-            at: still(n),
-        };
-    }
-    counted(work, facts, operands, registers, n);
-    Ran {
-        joined: arms,
-        at: thread::thread(work, table, kinds, known, copy, facts, pause, budget(n), n),
-    }
+    let mut space = Space {
+        work,
+        table,
+        top: n,
+    };
+    let mut added = Added {
+        kinds,
+        fresh: 0,
+        grown: 0,
+        edited: false,
+    };
+    let mut room = Room { known, copy };
+    thread::thread(&mut space, &mut added, &mut room, facts)
 }
 
-// The Rust's `run` before emit: equal arms, then threading if the gate opens. Fewer than 6
-// instructions stay.
+// The Rust's `run` before emit, over n instructions: equal arms, then the gate, the counts and
+// threading. Fewer than 6 instructions stay. Each slice stands by itself, since C lends them so. Tried:
+// a struct of the three that threading takes, and one made of slices that another lent struct holds;
+// the borrow checker then tells nothing of what the slices hold when they come back.
 pub fn run(
     work: &mut [u8],
     table: &mut [u8],
@@ -106,10 +111,22 @@ pub fn run(
             at: still(n),
         };
     }
-    let arms = equal_arms::equal_arms(work, table);
-    gated(
-        work, table, kinds, known, copy, facts, operands, registers, pause, n, arms,
-    )
+    let joined = equal_arms::equal_arms(work, table);
+    let blocks = Blocks { code: work, table };
+    if !opens(blocks, pause) {
+        return Ran {
+            joined,
+            at: still(n),
+        };
+    }
+    counted(work, facts, operands, registers, n);
+    let facts = Facts {
+        table: facts,
+        pause,
+        budget: budget(n),
+    };
+    let at = threaded(work, table, kinds, known, copy, &facts, n);
+    Ran { joined, at }
 }
 
 // True implies that no step would change the code.
@@ -119,8 +136,9 @@ pub fn no_step(code: &[u8], table: &[u8], pause: Pause) -> bool
     if code.len() / 32 < 6 {
         return true;
     }
-    if opens(code, table, pause) {
+    let blocks = Blocks { code, table };
+    if opens(blocks, pause) {
         return false;
     }
-    equal_arms::none_meet(code, table)
+    equal_arms::none_meet(blocks)
 }

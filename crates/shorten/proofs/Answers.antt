@@ -13,31 +13,40 @@ use Rattle.records.specs.declared.Record.{Record}
 use Rattle.records.specs.Record.{records_of}
 use Rattle.records.proofs.Laws.{length_records}
 use Rattle.put_record.specs.Store.{Bytes}
-use Rattle.layout.specs.declared.Layout.{Layout}
 use Rattle.layout.specs.Classes.{of_class}
-use Rattle.read.specs.declared.Reading.{Reading}
-use Rattle.read.specs.Reading.{reading, answer}
+use Rattle.read.specs.Reading.{Reading, reading, answer}
 use Rattle.procedure.specs.Procedure.{procedure_of}
 use Rattle.round_trips.proofs.Accepted.{or_first, or_second}
-use Rattle.tidy.specs.declared.Tidiness.{Tidiness}
-use Rattle.tidy.specs.Tidy.{Tidy, tidiness}
-use Rattle.steps.specs.declared.Answer.{Answer}
-use Rattle.steps.specs.Shorten.{Outcome, refusal, above, run_unless, accept_if, shorten_within, shorten, instructions}
+use Rattle.std.specs.Prelude.{◌≢◌, Option, None, Result, Ok, Err, IfOk, IfErr}
+use Rattle.inst.specs.declared.Reg.{Reg}
+use Rattle.read.specs.declared.Reason.TheVariants.{Output}
+use Rattle.read.specs.declared.Refusal.{Refusal}
+use Rattle.read.specs.Refusal.{number_of}
+use Rattle.read.proofs.Reasons.{no_zero}
+use Rattle.tidy.specs.Tidy.{Tidiness, Tidy, tidiness}
+use Rattle.tidy.specs.Told.{tidiness_of}
+use Rattle.steps.specs.declared.Shortening.{Shortening}
+use Rattle.steps.specs.Told.{told}
+use Rattle.steps.specs.Shorten.{Answer, Outcome, refusal, above, run_unless, accept_if, shorten_within, shorten, instructions}
 use Rattle.machine.specs.Demand.{Demand3}
 use Rattle.step_laws.proofs.Shorten.{Within, shortened_accepted, room-enough, unmoved_same, few-instructions}
 use Rattle.promise.specs.Promise.{held}
 use Rattle.promise.proofs.Promised.{promise}
-use Rattle.parts.specs.Parts.{starts_in}
+use Rattle.parts.specs.declared.File.{File}
+use Rattle.parts.specs.Parts.{starts_in, parts_in}
 use Rattle.procedure_parts.specs.Opened.{Parts, parts_of}
 use Rattle.procedure_parts.proofs.Laws.{registers_are, code_is, opened}
 use Rattle.output.specs.Filed.{outcome}
 use Rattle.shorten.specs.Storage.{Done}
 use Rattle.shorten.proofs.Tidied.{refused_too, yes_tidy}
 
+-- the parts of a file that is opened
+pub parts-open : (b : List ℕ) (file : File) → file.bytes.now ≡ b → file.layout ≡ starts_in (records_of b) → parts_in file ≡ parts_of b (starts_in (records_of b))
+parts-open b file e h = ap (λ (d : List ℕ). parts_of d file.layout) e ∙ ap (parts_of b) h
+
 -- a test of a part's length, by the part that was cut
-pub by_part : (f : Parts → List ℕ) (b : List ℕ) {l : Layout} {y : List ℕ} → l ≡ starts_in (records_of b) → y ≡ f (parts_of b l)
-    → (P : ℕ → Type 0) → P (length y) → P (length (f (parts_of b (starts_in (records_of b)))))
-by_part f b e h P p = subst (λ (l : Layout). P (length (f (parts_of b l)))) e (subst (λ (y : List ℕ). P (length y)) h p)
+pub by_part : (f : Parts → List ℕ) {x z : Parts} {y : List ℕ} → x ≡ z → y ≡ f x → (P : ℕ → Type 0) → P (length y) → P (length (f z))
+by_part f e h P p = subst (λ (x : Parts). P (length (f x))) e (subst (λ (y : List ℕ). P (length y)) h p)
 
 -- Read's answer, of the file's bytes
 pub read_number : (b : List ℕ) {r : Reading} → r ≡ reading b → r.number ≡ 0 → (reading b).number ≡ 0
@@ -84,9 +93,10 @@ module _ (registers code : ℕ) (b out : List ℕ) where
         limits-is (sym (otherwise (le-ltb registers (length (of_class 1 rs)) (omega arith)) (sym (lt-ltb code (length (of_class 4 rs)) (omega arith)))))
 
     -- within them, which are at most 480
-    pub shortened-is : {a : Answer} {out' : List ℕ} → registers ≤ 480 → code ≤ 480 → length x.registers / 32 ≤ registers → length x.code / 32 ≤ code
-        → Done x a out out' → outcome a out' ≡ shorten_within registers code b out
-    shortened-is few less i j d =
+    pub shortened-is : (r : Result Shortening Refusal) {out' : List ℕ} → registers ≤ 480 → code ≤ 480
+        → length x.registers / 32 ≤ registers → length x.code / 32 ≤ code
+        → Done x r out out' → outcome (told r) out' ≡ shorten_within registers code b out
+    shortened-is r few less i j d =
         let m = n-registers in
         let k = n-code in
         let w : Within b = record { accepted = read; registers = omega arith; code = omega arith } in
@@ -112,15 +122,15 @@ module _ (registers code : ℕ) (b out : List ℕ) where
       by true = by-limits (above registers code rs) refl
       by false = inl refl
 
--- what the contract says of an answer and a buffer, with the clause that gives the answer
-abbrev Clauses : Type 0 → List ℕ → List ℕ → Answer → List ℕ → Type 0
-Clauses E b out a out' = record {
+-- what the contract says of a result and a buffer, with the clause that gives the answer
+abbrev Clauses : Type 0 → List ℕ → List ℕ → Result Shortening Refusal → List ℕ → Type 0
+Clauses E b out r out' = record {
   is : E;
-  accepted : a.number ≡ 0 → reading (take a.length out') ≡ answer 0 0;
-  room : 61728 ≤ length out → a.number ≡ 9 → ⊥;
-  unmoved : a.number ≡ 0 → a.moved ≡ 0 → out' ≡ b ++ drop (length b) out;
-  bound : a.number ≡ 0 → instructions (take a.length out') ≤ instructions b + instructions b / 2 + 36;
-  demand3 : a.number ≡ 0 → Tidy (held b) → Demand3 (held b) (held (take a.length out')) a.rescued;
+  accepted : IfOk r (λ s. reading (take s.length out') ≡ answer 0 0);
+  room : 61728 ≤ length out → IfErr r (λ e. e.reason ≢ Output);
+  unmoved : IfOk r (λ s. s.moved ≡ false → out' ≡ b ++ drop (length b) out);
+  bound : IfOk r (λ s. instructions (take s.length out') ≤ instructions b + instructions b / 2 + 36);
+  demand3 : IfOk r (λ s. Tidy (held b) → Demand3 (held b) (held (take s.length out')) s.rescued);
 }
 
 -- an answer and a buffer that are Shorten's
@@ -150,54 +160,67 @@ module _ (b out : List ℕ) (h : Bytes b) (a : Answer) (out' : List ℕ) (e : ou
       subst (λ (o : Outcome). Demand3 (held b) (held (take o.answer.length o.output)) o.answer.rescued) (sym e)
       (promise b out h (sym number ∙ z) t)
 
-  -- all of them
-  all : {E : Type 0} → E → Clauses E b out a out'
-  all f = record { is = f; accepted = result-accepted; room = never-nine; unmoved = result-unmoved; bound = result-few; demand3 = result-promised }
-
--- the clauses behind the equation hold of a refusal
-refused-clauses : (b out : List ℕ) (a : Answer) (out' : List ℕ) → outcome a out' ≡ refusal 8 0 out → {E : Type 0} → E → Clauses E b out a out'
-refused-clauses b out a out' e f =
-    let n : a.number ≡ 8 = ap (λ (o : Outcome). o.answer.number) e in
+-- all of them, of a result that tells it
+all : (b out : List ℕ) → Bytes b → (r : Result Shortening Refusal) (out' : List ℕ) → outcome (told r) out' ≡ shorten b out → {E : Type 0} → E → Clauses E b out r out'
+all b out h (Ok s) out' e f =
+    let a = told (Ok s) in
     record {
       is = f;
-      accepted = λ z. absurd (omega arith);
-      room = λ i z. omega arith;
-      unmoved = λ z m. absurd (omega arith);
-      bound = λ z. absurd (omega arith);
-      demand3 = λ z t. absurd (omega arith);
+      accepted = result-accepted b out h a out' e refl;
+      room = λ i. tt;
+      unmoved = λ m. result-unmoved b out h a out' e refl (rw m refl);
+      bound = result-few b out h a out' e refl;
+      demand3 = result-promised b out h a out' e refl;
+    }
+all b out h (Err x) out' e f =
+    record {
+      is = f;
+      accepted = tt;
+      room = λ i n. never-nine b out h (told (Err x)) out' e i (ap number_of n);
+      unmoved = tt;
+      bound = tt;
+      demand3 = tt;
     }
 
--- and so of every answer within limits of at most 480
-pub clauses : (registers code : ℕ) (b out : List ℕ) → Bytes b → registers ≤ 480 → code ≤ 480 → (a : Answer) (out' : List ℕ)
-    → outcome a out' ≡ shorten_within registers code b out → Clauses (outcome a out' ≡ shorten_within registers code b out) b out a out'
-clauses registers code b out h few less a out' e = by (within registers code b out few less)
+-- the clauses behind the equation hold of a refusal
+refused-clauses : (b out : List ℕ) (r : Result Shortening Refusal) (out' : List ℕ) → outcome (told r) out' ≡ refusal 8 0 out → {E : Type 0} → E → Clauses E b out r out'
+refused-clauses b out (Ok s) out' e f = absurd (let n = ap (λ (o : Outcome). o.answer.number) e in omega arith)
+refused-clauses b out (Err x) out' e f =
+    let n : number_of x.reason ≡ 8 = ap (λ (o : Outcome). o.answer.number) e in
+    let nine : x.reason ≡ Output → ⊥ = λ z. let y = ap number_of z in omega arith in
+    record { is = f; accepted = tt; room = λ i. nine; unmoved = tt; bound = tt; demand3 = tt }
+
+-- and so of every result within limits of at most 480
+pub clauses : (registers code : ℕ) (b out : List ℕ) → Bytes b → registers ≤ 480 → code ≤ 480 → (r : Result Shortening Refusal) (out' : List ℕ)
+    → outcome (told r) out' ≡ shorten_within registers code b out → Clauses (outcome (told r) out' ≡ shorten_within registers code b out) b out r out'
+clauses registers code b out h few less r out' e = by (within registers code b out few less)
   where
     by : (shorten_within registers code b out ≡ shorten b out) ⊎ (shorten_within registers code b out ≡ refusal 8 0 out)
-        → Clauses (outcome a out' ≡ shorten_within registers code b out) b out a out'
-    by (inl s) = all b out h a out' (e ∙ s) e
-    by (inr s) = refused-clauses b out a out' (e ∙ s) e
+        → Clauses (outcome (told r) out' ≡ shorten_within registers code b out) b out r out'
+    by (inl s) = all b out h r out' (e ∙ s) e
+    by (inr s) = refused-clauses b out r out' (e ∙ s) e
 
 -- a file that Tidy refuses
-pub refused-by-tidy : (b out : List ℕ) {t : Tidiness} → t ≡ tidiness b → (t.number ≡ 0 → ⊥) → refusal t.number t.place out ≡ shorten b out
-refused-by-tidy b out e n =
-    let m : (tidiness b).number ≡ 0 → ⊥ = λ z. n (ap (λ (x : Tidiness). x.number) e ∙ z) in
-    ap (λ (x : Tidiness). refusal x.number x.place out) e ∙ refused_is 480 480 b out (refused_too b m) m
+pub refused-by-tidy : (b out : List ℕ) (x : Refusal) → tidiness_of (Err x) ≡ tidiness b → refusal (number_of x.reason) x.place out ≡ shorten b out
+refused-by-tidy b out x e =
+    let m : (tidiness b).number ≡ 0 → ⊥ = λ z. no_zero x.reason (ap (λ (t : Tidiness). t.number) e ∙ z) in
+    ap (λ (t : Tidiness). refusal t.number t.place out) e ∙ refused_is 480 480 b out (refused_too b m) m
 
 -- the answers of Tidy and Shorten together
-pub provisioned : (b out : List ℕ) → Bytes b → (t : Tidiness) → t ≡ tidiness b → (a : Answer) (out' : List ℕ) → outcome a out' ≡ shorten b out
+pub provisioned : (b out : List ℕ) → Bytes b → (t : Result (Option Reg) Refusal) → tidiness_of t ≡ tidiness b
+    → (r : Result Shortening Refusal) (out' : List ℕ) → outcome (told r) out' ≡ shorten b out
     → record {
-      tidiness : t ≡ tidiness b;
-      is : outcome a out' ≡ shorten b out;
-      accepted : a.number ≡ 0 → reading (take a.length out') ≡ answer 0 0;
-      room : 61728 ≤ length out → a.number ≡ 9 → ⊥;
-      unmoved : a.number ≡ 0 → a.moved ≡ 0 → out' ≡ b ++ drop (length b) out;
-      bound : a.number ≡ 0 → instructions (take a.length out') ≤ instructions b + instructions b / 2 + 36;
-      demand3 : a.number ≡ 0 → Tidy (held b) → Demand3 (held b) (held (take a.length out')) a.rescued;
-      promised : a.number ≡ 0 → t.tidy ≡ 1 → Demand3 (held b) (held (take a.length out')) a.rescued;
+      tidiness : tidiness_of t ≡ tidiness b;
+      is : outcome (told r) out' ≡ shorten b out;
+      accepted : IfOk r (λ s. reading (take s.length out') ≡ answer 0 0);
+      room : 61728 ≤ length out → IfErr r (λ e. e.reason ≢ Output);
+      unmoved : IfOk r (λ s. s.moved ≡ false → out' ≡ b ++ drop (length b) out);
+      bound : IfOk r (λ s. instructions (take s.length out') ≤ instructions b + instructions b / 2 + 36);
+      demand3 : IfOk r (λ s. Tidy (held b) → Demand3 (held b) (held (take s.length out')) s.rescued);
+      promised : IfOk r (λ s. t ≡ Ok None → Demand3 (held b) (held (take s.length out')) s.rescued);
     }
-provisioned b out h t f a out' e =
-    let c = all b out h a out' e e in
-    let yes : t.tidy ≡ 1 → Tidy (held b) = λ y. yes_tidy b (ap (λ (x : Tidiness). x.tidy) (sym f) ∙ y) in
+provisioned b out h t f r out' e =
+    let c = all b out h r out' e e in
     record {
       tidiness = f;
       is = e;
@@ -206,5 +229,13 @@ provisioned b out h t f a out' e =
       unmoved = c.unmoved;
       bound = c.bound;
       demand3 = c.demand3;
-      promised = λ z y. c.demand3 z (yes y);
+      promised = yes r c.demand3;
     }
+  where
+    tidy : t ≡ Ok None → Tidy (held b)
+    tidy y = yes_tidy b (ap (λ (x : Tidiness). x.tidy) (sym f) ∙ ap (λ (r : Result (Option Reg) Refusal). (tidiness_of r).tidy) y)
+
+    yes : (r : Result Shortening Refusal) → IfOk r (λ s. Tidy (held b) → Demand3 (held b) (held (take s.length out')) s.rescued)
+        → IfOk r (λ s. t ≡ Ok None → Demand3 (held b) (held (take s.length out')) s.rescued)
+    yes (Ok s) d = λ y. d (tidy y)
+    yes (Err x) d = tt

@@ -9,8 +9,10 @@ use lib.Dec.{eqb}
 use Rattle.records.specs.Record.{records_of}
 use Rattle.read.specs.Reading.{reading, answer}
 use Rattle.procedure.specs.Procedure.{procedure_of}
-use Rattle.tidy.specs.declared.Tidiness.{Tidiness}
-use Rattle.tidy.specs.Tidy.{Tidy, offenders, verdict, told, tidiness}
+use Rattle.std.specs.Prelude.{Option, Some, None, Ok}
+use Rattle.inst.specs.declared.Reg.{Reg}
+use Rattle.tidy.specs.Told.{tidiness_of}
+use Rattle.tidy.specs.Tidy.{Tidiness, Tidy, offenders, verdict, told, tidiness}
 
 -- a verdict is of a file that is read, and yes where nothing offends
 verdict-number : (rs : List ℕ) → (verdict rs).number ≡ 0
@@ -20,6 +22,11 @@ verdict-number (r ∷ rs) = refl
 verdict-tidy : (rs : List ℕ) → (verdict rs).tidy ≡ 1 → rs ≡ []
 verdict-tidy [] e = refl
 verdict-tidy (r ∷ rs) e = absurd (omega arith)
+
+-- a file with a verdict is read
+pub ok_number : (x : Option Reg) → (tidiness_of (Ok x)).number ≡ 0
+ok_number None = refl
+ok_number (Some r) = refl
 
 module _ (b : List ℕ) where
   abbrev bad : List ℕ

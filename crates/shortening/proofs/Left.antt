@@ -32,7 +32,7 @@ use Rattle.emit.specs.Stage.{Ready, Emitted}
 use Rattle.emit.specs.declared.Staged.{Staged}
 use Rattle.output.specs.Filed.{short}
 use Rattle.shortening.specs.Storage.{fronted, Lent, size_of, Enough, Staging, LeftOf, Tells}
-use Rattle.shortening.proofs.Fronts.{fronted-length, fronted_first, fronted-bytes}
+use Rattle.shortening.proofs.Fronts.{fronted-length, fronted_first}
 
 -- a part of whole records that would end past the last ends there
 records_take : (b : List ℕ) (n : ℕ) → records_of (take (32 * min n (length b / 32)) b) ≡ records_of (take (32 * n) b)
@@ -87,7 +87,7 @@ module _ (p : Procedure) (x : Parts) {l : Left} (h : LeftOf p x l) where
         body_is = o.parted.body;
         n-is = n;
         code = fronted_first s.work x.code code_fits;
-        bytes = fronted-bytes s.work x.code h.bytes o.parted.coded.code-bytes;
+        bytes = h.bytes;
         heads = heads_are;
         space = omega arith;
         words = omega arith;

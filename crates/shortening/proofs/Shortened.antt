@@ -1,8 +1,8 @@
 -- Shorten over lent storage that is enough is Shorten of the procedure that the parts hold.
 use Prim.Native.Nat.{ℕ, ◌/◌}
-use mathlib.Core.Path.{◌≡◌, refl, subst, ◌∙◌}
+use mathlib.Core.Path.{◌≡◌, refl, ap, subst, ◌∙◌}
 use mathlib.Core.List.{List, [], map}
-use mathlib.Core.Option.{Option}
+use Rattle.std.proofs.Common.{Option}
 use lib.ListN.{length}
 use Rattle.records.specs.Record.{records_of}
 use Rattle.put_record.specs.Store.{Bytes}
@@ -37,6 +37,6 @@ module _ (b : List ℕ) (l : Layout) where
       → body ≡ x.body → pause ≡ first_of (map (λ r. r.p1) (records_of body))
       → registers ≡ x.registers → operands ≡ x.operands → n ≡ length code / 32
       → z ≡ ran_in pause s.known s.copy operands registers n work table s.kinds s.facts
-      → Bytes s.work → (p : Procedure) → Opened p x → Enough x s → LeftOf p x z
+      → Bytes work → (p : Procedure) → Opened p x → Enough x s → LeftOf p x z
   left_of s c w h t y p r q n z bytes _ o e =
-      record { opened = o; storage = s; enough = e; bytes = bytes; is = z ∙ rw (p, y, q, r, n, w, t, c, h) refl }
+      record { opened = o; storage = s; enough = e; bytes = subst Bytes (w ∙ ap (fronted s.work) c) bytes; is = z ∙ rw (p, y, q, r, n, w, t, c, h) refl }

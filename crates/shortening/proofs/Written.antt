@@ -13,12 +13,16 @@ use Rattle.procedure.specs.Procedure.{Procedure}
 use Rattle.steps.specs.Run.{Shortened}
 use Rattle.steps.specs.Write.{records_for, bytes_of}
 use Rattle.steps.specs.Shorten.{Outcome, fit_if, fit, shortened}
-use Rattle.layout.specs.declared.Layout.{Layout}
 use Rattle.facts.specs.Storage.{kinds_of}
-use Rattle.procedure_parts.specs.Opened.{Parts, parts_of, recoded, Holds}
+use Rattle.procedure_parts.specs.Opened.{Parts, Holds}
 use Rattle.output.specs.declared.Changes.{Changes}
-use Rattle.output.specs.Filed.{filed, counts, short, kind_records, form_records}
+use Rattle.output.specs.declared.Form.{Form}
+use Rattle.output.specs.Filed.{filed, counts, short, kind_records, form_records, records_in}
 use Rattle.shortening.specs.Storage.{Tells}
+
+-- the records of what parts hold, with new registers
+abbrev records_with : Parts → List ℕ → List Record
+records_with x kinds = form_records x.registers kinds x.heads x.body x.code x.operands x.arms
 
 -- `fit` asks a result for its counts alone
 counts-fit : (s : Shortened) (b out : List ℕ) → fit s b out ≡ fit (counts s.moved s.grown s.fresh s.rescued) b out
@@ -47,7 +51,7 @@ registers-front sent kinds rest =
 
 module _ {p : Procedure} {x : Parts} {kinds : List ℕ} (h : Holds p x kinds) where
   -- the records of what parts hold
-  held_records : records_for p ≡ form_records x.registers kinds x.heads x.body x.code x.operands x.arms
+  held_records : records_for p ≡ records_with x kinds
   unfolding records_for
   held_records =
       rw (h.register_records, h.coded.head_records, h.body_records_lem, h.coded.code_records_lem, h.operand_records, h.arm_records, ← h.registers)
@@ -60,16 +64,15 @@ module _ {p : Procedure} {x : Parts} {kinds : List ℕ} (h : Holds p x kinds) wh
       let l = length-append (kinds_of x.registers) kinds in
       omega arith
 
--- by the parts that were cut
-pub held-written : (b : List ℕ) (l : Layout) {code heads kinds registers body operands arms : List ℕ} {did : Changes} {o : Outcome}
-    (out : List ℕ) → registers ≡ (parts_of b l).registers → body ≡ (parts_of b l).body → operands ≡ (parts_of b l).operands → arms ≡ (parts_of b l).arms
-    → o ≡ filed (form_records registers kinds heads body code operands arms) (counts did.moved did.grown (short (length kinds)) did.rescued) out
-    → (s : Shortened) → Holds s.procedure (recoded (parts_of b l) code heads) kinds → Tells s did (length kinds) → o ≡ shortened s out
-held-written b l {code} {heads} {kinds} {did = did} out r y p a e s h t =
+-- by the form that is made of them
+pub held-written : (x : Parts) (form : Form) {did : Changes} {o : Outcome} (out : List ℕ) → records_in form ≡ records_with x form.kinds.now
+    → o ≡ filed (records_in form) (counts did.moved did.grown (short (length form.kinds.now)) did.rescued) out
+    → (s : Shortened) → Holds s.procedure x form.kinds.now → Tells s did (length form.kinds.now) → o ≡ shortened s out
+held-written x form {did} out r e s h t =
+    let kinds = form.kinds.now in
     let few = few-kinds h in
     let n : short (length kinds) ≡ length kinds = omega arith in
-    let x = recoded (parts_of b l) code heads in
     e
-    ∙ rw (r, y, p, a) refl
-    ∙ ap (λ (k : ℕ). filed (form_records x.registers kinds heads x.body code x.operands x.arms) (counts did.moved did.grown k did.rescued) out) n
-    ∙ result s (form_records x.registers kinds heads x.body code x.operands x.arms) out (held_records h) t
+    ∙ ap (λ (rs : List Record). filed rs (counts did.moved did.grown (short (length kinds)) did.rescued) out) r
+    ∙ ap (λ (k : ℕ). filed (records_with x kinds) (counts did.moved did.grown k did.rescued) out) n
+    ∙ result s (records_with x kinds) out (held_records h) t

@@ -59,7 +59,7 @@ pub record LeftOf (p : Procedure) (x : Parts) (l : Left) : Type 0 where
   pub opened : Opened p x
   pub storage : Lent
   pub enough : Enough x storage
-  pub bytes : Bytes storage.work
+  pub bytes : Bytes (fronted storage.work x.code)
   pub is : l ≡ left_in x storage
 
 -- the counts of a result, as they are reported

@@ -3,32 +3,52 @@
 
 ghost use Rattle.std.specs.Prelude.{◌≡◌, true, false, map, length};
 ghost use Rattle.records.specs.Record.{records_of};
+ghost use Rattle.put_record.specs.Store.{Bytes};
 ghost use Rattle.procedure.specs.Procedure.{Procedure, first_of};
 ghost use Rattle.steps.specs.Run.{Shortened, unchanged, run as run_of};
 ghost use Rattle.steps.specs.Shorten.{shortened};
+ghost use Rattle.steps.specs.Told.{told};
 ghost use Rattle.pause.specs.Storage.{body_in};
-ghost use Rattle.procedure_parts.specs.Opened.{parts_of, recoded, Holds, Parted, Opened};
+ghost use Rattle.parts.specs.Parts.{parts_in};
+ghost use Rattle.procedure_parts.specs.Opened.{recoded, Holds, Parted, Opened};
 ghost use Rattle.run.specs.Ran.{left};
 ghost use Rattle.output.specs.Filed.{outcome};
 ghost use Rattle.shortening.specs.Storage.{fronted, lent, NoStepIn, Tells, LeftOf, Enough, Staging};
 
+use blocks::Blocks;
 use inst::BlockId;
-use layout::Layout;
-use output::Changes;
+use output::{Changes, Form};
+use parts::File;
 use pause::Pause;
+use read::Refusal;
 use run::Ran;
-use steps::Answer;
+use steps::Shortening;
+
+// Storage that is lent for a file: code, block table, kinds of new registers, known values, copies and facts.
+#[derive(Drop)]
+pub struct Storage<'a> {
+    pub work: &'a mut [u8],
+    pub table: &'a mut [u8],
+    pub kinds: &'a mut [u8],
+    pub known: &'a mut [u64],
+    pub copy: &'a mut [u32],
+    pub facts: &'a mut [u64],
+}
+
+// And what Emit leaves code and block table in.
+#[derive(Drop)]
+pub struct Stage<'a> {
+    pub code: &'a mut [u8],
+    pub heads: &'a mut [u8],
+}
 
 // Writes some bytes over the start of b, as far as there is room.
 fn put_front(b: &mut [u8], s: &[u8])
-    ensures { b.new ≡ fronted b.old s.now }
+    ensures is { b.new ≡ fronted b.old s.now }
+    ensures bytes { Bytes b.new }
 {
-    let n = general::least(s.len(), b.len());
-    let mut i = 0;
-    while i < n {
-        b[i] = s[i];
-        i += 1;
-    }
+    let n = s.len().min(b.len());
+    b[..n].copy_from_slice(&s[..n]);
 }
 
 // The body, if there is one.
@@ -36,64 +56,58 @@ pub fn pause_of(body: &[u8]) -> Pause
     ensures { body_in result ≡ first_of (map (λ r. r.p1) (records_of body.now)) }
 {
     if body.len() / 32 == 0 {
-        return Pause::Nowhere;
+        return None;
     }
     let r = records::record_at(body, 0);
-    Pause::At(BlockId(r.p1))
+    Some(BlockId(r.p1))
 }
 
 // True implies that no step would change the file.
-pub fn no_step(b: &[u8], l: Layout) -> bool
-    ensures { result ≡ true → NoStepIn (parts_of b.now l) }
+pub fn no_step(file: &File) -> bool
+    ensures { result ≡ true → NoStepIn (parts_in file.now) }
 {
-    let pause = pause_of(parts::part(b, l.bodies, l.code));
-    run::no_step(
-        parts::part(b, l.code, l.operands),
-        parts::part(b, l.blocks, l.bodies),
-        pause,
-    )
+    run::no_step(file.code(), file.heads(), pause_of(file.body()))
 }
 
 // Writes the result in code, block table and new registers, with the other parts of the file, if it
-// fits.
+// fits. Six parameters: tried as a Form that a function makes of a file, and the borrow checker
+// covers no struct that holds references at two lifetimes of a signature.
 fn put(
     out: &mut [u8],
-    b: &[u8],
-    l: Layout,
+    file: &File,
     code: &[u8],
     heads: &[u8],
     kinds: &[u8],
     did: Changes,
-) -> Answer
+) -> Result<Shortening, Refusal>
     ensures { (s : Shortened)
-        → Holds s.procedure (recoded (parts_of b.now l) code.now heads.now) kinds.now
+        → Holds s.procedure (recoded (parts_in file.now) code.now heads.now) kinds.now
         → Tells s did (length kinds.now)
-        → outcome result out.new ≡ shortened s out.old }
+        → outcome (told result) out.new ≡ shortened s out.old }
 {
-    output::put_form(
-        out,
-        parts::part(b, 0, l.blocks),
+    let form = Form {
+        registers: file.registers(),
         kinds,
         heads,
-        parts::part(b, l.bodies, l.code),
+        body: file.body(),
         code,
-        parts::part(b, l.operands, l.arms),
-        parts::part(b, l.arms, l.end),
-        did,
-    )
+        operands: file.operands(),
+        arms: file.arms(),
+    };
+    output::put_form(out, &form, did)
 }
 
 // Writes the parts of a file as they were sent.
-pub fn put_sent(out: &mut [u8], b: &[u8], l: Layout) -> Answer
-    ensures { (p : Procedure) → Parted p (parts_of b.now l) → outcome result out.new ≡ shortened (unchanged p) out.old }
+pub fn put_sent(out: &mut [u8], file: &File) -> Result<Shortening, Refusal>
+    ensures { (p : Procedure) → Parted p (parts_in file.now)
+        → outcome (told result) out.new ≡ shortened (unchanged p) out.old }
 {
     put(
         out,
-        b,
-        l,
-        parts::part(b, l.code, l.operands),
-        parts::part(b, l.blocks, l.bodies),
-        &b[..0],
+        file,
+        file.code(),
+        file.heads(),
+        &[],
         Changes {
             moved: false,
             grown: 0,
@@ -103,47 +117,38 @@ pub fn put_sent(out: &mut [u8], b: &[u8], l: Layout) -> Answer
 }
 
 // Code, block table and new registers hold what Emit left, or what there is if nothing was threaded. Steps after Emit go
-// here, each over the storage in place; then the result is written.
+// here, each over the storage in place; then the result is written. Code and block table are no Stage: tried, and the
+// borrow checker doesn't cover a Stage of parts of the storage that is lent here.
 fn finish(
     out: &mut [u8],
-    b: &[u8],
-    l: Layout,
+    file: &File,
     code: &mut [u8],
     heads: &mut [u8],
     kinds: &[u8],
     did: Changes,
-) -> Answer
+) -> Result<Shortening, Refusal>
     ensures { (s : Shortened)
-        → Holds s.procedure (recoded (parts_of b.now l) code.old heads.old) kinds.now
+        → Holds s.procedure (recoded (parts_in file.now) code.old heads.old) kinds.now
         → Tells s did (length kinds.now)
-        → outcome result out.new ≡ shortened s out.old }
+        → outcome (told result) out.new ≡ shortened s out.old }
 {
-    put(out, b, l, code, heads, kinds, did)
+    put(out, file, code, heads, kinds, did)
 }
 
 // Nothing is threaded: the storage holds the result already, the code with its equal arms joined.
-fn write_same(
-    out: &mut [u8],
-    b: &[u8],
-    l: Layout,
-    work: &mut [u8],
-    table: &mut [u8],
-    kinds: &[u8],
-    facts: &[u64],
-    r: Ran,
-) -> Answer
-    ensures { (p : Procedure) → LeftOf p (parts_of b.now l) (left work.old table.old kinds.now facts.now r)
-        → r.at.edited ≡ false → outcome result out.new ≡ shortened (run_of p) out.old }
+fn write_same(out: &mut [u8], file: &File, s: &mut Storage, r: Ran) -> Result<Shortening, Refusal>
+    ensures { (p : Procedure)
+        → LeftOf p (parts_in file.now) (left s.old.work.now s.old.table.now s.old.kinds.now s.old.facts.now r)
+        → r.at.edited ≡ false → outcome (told result) out.new ≡ shortened (run_of p) out.old }
 {
-    let n = parts::part(b, l.code, l.operands).len() / 32;
-    let m = general::least(n, work.len() / 32);
+    let n = file.code().len() / 32;
+    let m = n.min(s.work.len() / 32);
     finish(
         out,
-        b,
-        l,
-        &mut work[..32 * m],
-        table,
-        &kinds[..0],
+        file,
+        &mut s.work[..32 * m],
+        s.table,
+        &[],
         Changes {
             moved: r.joined,
             grown: 0,
@@ -155,41 +160,32 @@ fn write_same(
 // Threading edited some block: Emit leaves its result in the storage for it.
 fn write_emitted(
     out: &mut [u8],
-    b: &[u8],
-    l: Layout,
-    work: &[u8],
-    table: &[u8],
-    kinds: &[u8],
-    facts: &[u64],
-    code: &mut [u8],
-    heads: &mut [u8],
+    file: &File,
+    s: &Storage,
+    stage: &mut Stage,
     r: Ran,
-) -> Answer
+) -> Result<Shortening, Refusal>
     ensures { (p : Procedure)
-        → LeftOf p (parts_of b.now l) (left work.now table.now kinds.now facts.now r)
-        → Staging (parts_of b.now l) (length code.old) (length heads.old)
-        → r.at.edited ≡ true → outcome result out.new ≡ shortened (run_of p) out.old }
+        → LeftOf p (parts_in file.now) (left s.now.work.now s.now.table.now s.now.kinds.now s.now.facts.now r)
+        → Staging (parts_in file.now) (length stage.old.code.now) (length stage.old.heads.now)
+        → r.at.edited ≡ true → outcome (told result) out.new ≡ shortened (run_of p) out.old }
 {
-    let arms = parts::part(b, l.arms, l.end);
-    let e = emit::emit(code, heads, work, table, arms, facts);
-    let n = e.n;
-    let at = r.at;
-    let m = general::least(at.fresh, kinds.len());
-    let grown = if at.grown < 4294967295 {
-        at.grown as u32
-    } else {
-        4294967295
+    let blocks = Blocks {
+        code: s.work,
+        table: s.table,
     };
+    let e = emit::emit(stage.code, stage.heads, blocks, file.arms(), s.facts);
+    let n = e.n;
+    let m = r.at.fresh.min(s.kinds.len());
     finish(
         out,
-        b,
-        l,
-        &mut code[..32 * n],
-        heads,
-        &kinds[..m],
+        file,
+        &mut stage.code[..32 * n],
+        stage.heads,
+        &s.kinds[..m],
         Changes {
             moved: true,
-            grown,
+            grown: r.at.grown.min(4294967295) as u32,
             rescued: e.rescued,
         },
     )
@@ -198,57 +194,52 @@ fn write_emitted(
 // Emits what `run` left, if threading edited some block, and writes it.
 fn write(
     out: &mut [u8],
-    b: &[u8],
-    l: Layout,
-    work: &mut [u8],
-    table: &mut [u8],
-    kinds: &[u8],
-    facts: &[u64],
-    code: &mut [u8],
-    heads: &mut [u8],
+    file: &File,
+    s: &mut Storage,
+    stage: &mut Stage,
     r: Ran,
-) -> Answer
+) -> Result<Shortening, Refusal>
     ensures { (p : Procedure)
-        → LeftOf p (parts_of b.now l) (left work.old table.old kinds.now facts.now r)
-        → Staging (parts_of b.now l) (length code.old) (length heads.old)
-        → outcome result out.new ≡ shortened (run_of p) out.old }
+        → LeftOf p (parts_in file.now) (left s.old.work.now s.old.table.now s.old.kinds.now s.old.facts.now r)
+        → Staging (parts_in file.now) (length stage.old.code.now) (length stage.old.heads.now)
+        → outcome (told result) out.new ≡ shortened (run_of p) out.old }
 {
-    let at = r.at;
-    if at.edited {
-        return write_emitted(out, b, l, work, table, kinds, facts, code, heads, r);
+    if r.at.edited {
+        write_emitted(out, file, s, stage, r)
+    } else {
+        write_same(out, file, s, r)
     }
-    write_same(out, b, l, work, table, kinds, facts, r)
 }
 
 // Carries out the steps on the parts of a file and writes the result, if it fits.
 pub fn shorten_in(
-    b: &[u8],
-    l: Layout,
+    file: &File,
     out: &mut [u8],
-    work: &mut [u8],
-    table: &mut [u8],
-    kinds: &mut [u8],
-    known: &mut [u64],
-    copy: &mut [u32],
-    facts: &mut [u64],
-    staged: &mut [u8],
-    heads: &mut [u8],
-) -> Answer
-    ensures { (p : Procedure) → Opened p (parts_of b.now l)
-        → Enough (parts_of b.now l)
-        (lent work.old table.old kinds.old facts.old (length known.old) (length copy.old))
-        → Staging (parts_of b.now l) (length staged.old) (length heads.old)
-        → outcome result out.new ≡ shortened (run_of p) out.old }
+    s: &mut Storage,
+    stage: &mut Stage,
+) -> Result<Shortening, Refusal>
+    ensures { (p : Procedure) → Opened p (parts_in file.now)
+        → Enough (parts_in file.now)
+        (lent s.old.work.now s.old.table.now s.old.kinds.now s.old.facts.now (length s.old.known.now) (length s.old.copy.now))
+        → Staging (parts_in file.now) (length stage.old.code.now) (length stage.old.heads.now)
+        → outcome (told result) out.new ≡ shortened (run_of p) out.old }
 {
-    let code = parts::part(b, l.code, l.operands);
-    put_front(work, code);
-    put_front(table, parts::part(b, l.blocks, l.bodies));
-    let pause = pause_of(parts::part(b, l.bodies, l.code));
-    let registers = parts::part(b, 0, l.blocks);
-    let operands = parts::part(b, l.operands, l.arms);
+    let code = file.code();
+    put_front(s.work, code);
+    put_front(s.table, file.heads());
+    let pause = pause_of(file.body());
     let n = code.len() / 32;
     let r = run::run(
-        work, table, kinds, known, copy, facts, operands, registers, pause, n,
+        s.work,
+        s.table,
+        s.kinds,
+        s.known,
+        s.copy,
+        s.facts,
+        file.operands(),
+        file.registers(),
+        pause,
+        n,
     );
-    write(out, b, l, work, table, kinds, facts, staged, heads, r)
+    write(out, file, s, stage, r)
 }

@@ -8,7 +8,7 @@ use mathlib.Core.List.{List, [], ◌∷◌}
 use mathlib.Core.Logic.{◌⊎◌, inl, inr}
 use borrow.Author.Tests.{lt-leb, le-leb, eq-eqb, ne_eqb}
 use lib.Dec.{leb, eqb}
-use lib.ListN.{length, get_or, take, drop, length-append, drop_of_length-le}
+use lib.ListN.{length, get_or, drop, drop_of_length-le}
 use lib.Seq.{drop-cons}
 use Rattle.general.proofs.Booleans.{both, neither, either, otherwise}
 use Rattle.general.proofs.Numbers.{order}
@@ -21,7 +21,7 @@ use Rattle.procedure.specs.Procedure.{codes_of}
 use Rattle.ends.specs.declared.End.{End}
 use Rattle.ends.specs.Forms.{form_of}
 use Rattle.ends.proofs.Laws.{length_codes, same_kind}
-use Rattle.ends.specs.Ends.{code_at, end_of}
+use Rattle.ends.specs.Ends.{end_of}
 use Rattle.inst.specs.Inst.{kind_of}
 use Rattle.inst.specs.declared.Inst.{Inst}
 use Rattle.inst.specs.declared.Inst.TheVariants as i
@@ -39,32 +39,6 @@ module _ {A : Type 0} (p : A → Bool) (l : List A) (k : ℕ) (d : A) where
   pub any_end : length l ≤ k → false ≡ any_of p (drop k l)
   unfolding any_of
   any_end h = sym (ap (any_of p) (drop_of_length-le l h))
-
--- a dupable instruction before the last
-copyable-cons : (x : Code) (c : List Code) → 0 < length c → copyable (x ∷ c) ≡ (dupable x.inst && copyable c)
-unfolding copyable
-copyable-cons x [] h = absurd (omega arith)
-copyable-cons x (y ∷ c) h = refl
-
-module _ (c : List Code) (k : ℕ) where
-  split : k + 1 < length c → copyable (drop k c) ≡ (dupable (code_at c k).inst && copyable (drop (k + 1) c))
-  split h =
-      ap copyable (drop-cons c k (Rattle.codec.specs.Codec.code_of Rattle.records.specs.Record.blank) (omega arith))
-      ∙ copyable-cons (code_at c k) (drop (suc k) c) (let e = lib.ListN.length-drop (suc k) c in omega arith)
-      ∙ ap (λ (n : ℕ). dupable (code_at c k).inst && copyable (drop n c)) (sym (add-one k))
-
-  pub copyable_pass : k + 1 < length c → dupable (code_at c k).inst ≡ true → copyable (drop (k + 1) c) ≡ copyable (drop k c)
-  copyable_pass h e = sym (split h ∙ rw e)
-
-  pub copyable_stop : k + 1 < length c → dupable (code_at c k).inst ≡ false → false ≡ copyable (drop k c)
-  copyable_stop h e = sym (split h ∙ rw e)
-
-  pub copyable-last : k + 1 ≡ length c → small_end (code_at c k).inst ≡ copyable (drop k c)
-  unfolding copyable
-  copyable-last h =
-      sym
-      (ap copyable (drop-cons c k (Rattle.codec.specs.Codec.code_of Rattle.records.specs.Record.blank) (omega arith))
-      ∙ ap (λ (r : List Code). copyable (code_at c k ∷ r)) (drop_of_length-le c {i = suc k} (omega arith)))
 
 pub copyable-none : (c : List Code) → length c ≡ 0 → copyable c ≡ false
 unfolding copyable
@@ -134,6 +108,14 @@ dupable_record r = same_kind s.dupable_kind dupable-past r
 
 end-past : (k : ℕ) → 23 ≤ k → s.small_end_kind k ≡ s.small_end_kind 23
 end-past k h = rw (ne_eqb k 18 (omega arith), ne_eqb k 19 (omega arith), ne_eqb k 21 (omega arith))
+
+-- Br and CondBr
+pub ends_br : (k : ℕ) → 18 ≤ k → k ≤ 19 → s.small_end_kind k ≡ true
+ends_br k h i = go (order 18 k)
+  where
+    go : (18 < k) ⊎ (k ≤ 18) → s.small_end_kind k ≡ true
+    go (inl l) = let e : k ≡ 19 = omega arith in rw e
+    go (inr l) = let e : k ≡ 18 = omega arith in rw e
 
 pub end_record : (r : Record) → small_end (inst_of r) ≡ s.small_end_kind r.kind
 end_record r = same_kind s.small_end_kind end-past r

@@ -8,32 +8,27 @@ ghost use Rattle.procedure.specs.Lists.{any_of};
 ghost use Rattle.steps.specs.Small as steps;
 
 use ends::End;
-use inst::{BlockId, Inst, IntOp, kinds};
+use inst::{BlockId, Inst, IntOp, Kind};
 use records::Record;
 
 // Whether a record's kind is cheap and has no effects: what a copied block may hold besides its
 // end.
+// By the record's kind: by the instruction, this and the next cost 5.0 % more (docs/DECISIONS.md).
+#[tactic(auto, using(codec::proofs::Table::inst_by_kind))]
 pub fn dupable(r: Record) -> bool
     ensures { result ≡ steps.dupable (inst_of r) }
 {
-    let kind = r.kind;
-    if kinds::BOOL < kind {
-        return false;
-    }
-    kind != kinds::ADDR_OF
+    matches!(
+        Kind::from(r.kind),
+        Kind::Const | Kind::ConstF | Kind::Move | Kind::Select | Kind::Cmp | Kind::Bool
+    )
 }
 
+#[tactic(auto, using(codec::proofs::Table::inst_by_kind))]
 fn small_end(r: Record) -> bool
     ensures { result ≡ steps.small_end (inst_of r) }
 {
-    let kind = r.kind;
-    if kind == kinds::BR {
-        return true;
-    }
-    if kind == kinds::COND_BR {
-        return true;
-    }
-    kind == kinds::RET
+    matches!(Kind::from(r.kind), Kind::Br | Kind::CondBr | Kind::Ret)
 }
 
 // Whether there are at most four instructions: dupable ones, then a Br, CondBr or Ret.
@@ -47,28 +42,14 @@ pub fn small(code: &[u8]) -> bool
     if n == 0 {
         return false;
     }
-    let mut k = 0;
-    while k + 1 < n {
-        if !dupable(records::record_at(code, k)) {
-            return false;
-        }
-        k += 1;
-    }
-    small_end(records::record_at(code, k))
+    (0..n - 1).all(|k| dupable(records::record_at(code, k)))
+        && small_end(records::record_at(code, n - 1))
 }
 
 fn add_or_sub(op: IntOp) -> bool
     ensures { result ≡ steps.add_or_sub op }
 {
-    match op {
-        IntOp::Add => true,
-        IntOp::Sub => true,
-        IntOp::Mul => false,
-        IntOp::Div => false,
-        IntOp::Rem => false,
-        IntOp::Mod => false,
-        IntOp::Pow => false,
-    }
+    matches!(op, IntOp::Add | IntOp::Sub)
 }
 
 // Whether it is a Bin, or if `wide` a BinRange, that adds or subtracts.
@@ -85,15 +66,7 @@ fn step_by(wide: bool, i: Inst) -> bool
 fn any_step(wide: bool, code: &[u8]) -> bool
     ensures { result ≡ any_of (λ x. steps.step_by wide x.inst) (codes_of code.now) }
 {
-    let n = code.len() / 32;
-    let mut k = 0;
-    while k < n {
-        if step_by(wide, ends::inst_at(code, k)) {
-            return true;
-        }
-        k += 1;
-    }
-    false
+    (0..code.len() / 32).any(|k| step_by(wide, ends::inst_at(code, k)))
 }
 
 // Whether it is a CondBr with an arm to the block after l.
@@ -101,35 +74,20 @@ fn tests_after(l: BlockId, e: End) -> bool
     ensures { result ≡ steps.tests_into (l.0 + 1) e }
 {
     let next = l.0 as u64 + 1;
-    match e {
-        End::Br(_) => false,
-        End::CondBr(_, t, f) => t.0 as u64 == next || f.0 as u64 == next,
-        End::Case(_) => false,
-        End::Other => false,
-    }
+    matches!(e, End::CondBr(_, t, f) if t.0 as u64 == next || f.0 as u64 == next)
 }
 
 // Whether it is a Br to block l or an earlier one.
 fn jumps_back(l: BlockId, e: End) -> bool
     ensures { result ≡ steps.jumps_back l.0 e }
 {
-    match e {
-        End::Br(to) => to.0 <= l.0,
-        End::CondBr(_, _, _) => false,
-        End::Case(_) => false,
-        End::Other => false,
-    }
+    matches!(e, End::Br(to) if to.0 <= l.0)
 }
 
 fn is_br(e: End) -> bool
     ensures { result ≡ steps.is_br e }
 {
-    match e {
-        End::Br(_) => true,
-        End::CondBr(_, _, _) => false,
-        End::Case(_) => false,
-        End::Other => false,
-    }
+    matches!(e, End::Br(_))
 }
 
 fn two_to_br(n: usize, e: End) -> bool

@@ -12,7 +12,7 @@ use Rattle.record_rules.specs.declared.exist.Counts.{Counts}
 use Rattle.real.specs.Real.{canonical}
 use Rattle.inst.specs.Inst.{kind_of}
 use Rattle.inst.specs.declared.Reg.{Reg}
-use Rattle.inst.specs.declared.OptReg.TheVariants as o
+use Rattle.std.specs.Prelude.{Some, None}
 use Rattle.inst.specs.declared.BoolOp.{BoolOp}
 use Rattle.inst.specs.declared.BoolOp.TheVariants as b
 use Rattle.inst.specs.declared.CheckKind.{CheckKind}
@@ -20,7 +20,8 @@ use Rattle.inst.specs.declared.CheckKind.TheVariants as k
 use Rattle.inst.specs.declared.Inst.{Inst}
 use Rattle.inst.specs.declared.Inst.TheVariants as i
 use Rattle.ops.specs.Ops.{space_num, space_arg}
-use Rattle.codec.specs.Codec.{inst_record, words, space_in_range, in_range}
+use Rattle.ops.specs.Ops.{space_in_range}
+use Rattle.codec.specs.Codec.{inst_record, words, in_range}
 use Rattle.roles.specs.Exchange.{bool_second, check_low, check_high, exchanged}
 use Rattle.step_laws.proofs.Names.{Named, with_regs, more_exists}
 
@@ -83,13 +84,13 @@ module _ (σ τ : ℕ → ℕ) (n : Counts) (m : ℕ) (more : n.registers ≤ m)
   exchange_named (i.BoundsLen d l r k) h = (to h.0, (from h.1.0, (from h.1.1.0, (from h.1.1.1.0, tt))))
   exchange_named (i.Alloc d s) h = (to h.0, (from h.1.0, tt))
   exchange_named (i.TakeBounds l r k) h = (to h.0, (to h.1.0, (to h.1.1.0, tt)))
-  exchange_named (i.CallNative x a (o.Some d)) h = (tt, (h.1.0, (tt, (to h.1.1.1.0, tt))))
-  exchange_named (i.CallNative x a o.None) h = h
+  exchange_named (i.CallNative x a (Some d)) h = (tt, (h.1.0, (tt, (to h.1.1.1.0, tt))))
+  exchange_named (i.CallNative x a None) h = h
   exchange_named (i.Br t) h = h
   exchange_named (i.CondBr c t f) h = (from h.0, h.1)
   exchange_named (i.Case v t) h = (from h.0, h.1)
-  exchange_named (i.Ret (o.Some v)) h = (from h.0, tt)
-  exchange_named (i.Ret o.None) h = h
+  exchange_named (i.Ret (Some v)) h = (from h.0, tt)
+  exchange_named (i.Ret None) h = h
   exchange_named (i.Unreachable w) h = h
   exchange_named i.Stmt h = h
 
@@ -159,16 +160,16 @@ module _ (σ τ : ℕ → ℕ) (from : (r : ℕ) → r < 2 ^ 32 → σ r < 2 ^ 3
       (to d.0, (from l.0, (from r.0, (from k.0, tt)))) h
   exchange_range (i.Alloc d s) h = turn (d.0 ∷ s.0 ∷ []) (τ d.0 ∷ σ s.0 ∷ []) (to d.0, (from s.0, tt)) h
   exchange_range (i.TakeBounds l r k) h = turn (l.0 ∷ r.0 ∷ k.0 ∷ []) (τ l.0 ∷ τ r.0 ∷ τ k.0 ∷ []) (to l.0, (to r.0, (to k.0, tt))) h
-  exchange_range (i.CallNative x a (o.Some d)) h =
+  exchange_range (i.CallNative x a (Some d)) h =
       turn (x ∷ a.start ∷ a.len ∷ d.0 ∷ [])
       (x ∷ a.start ∷ a.len ∷ τ d.0 ∷ [])
       (same, (same, (same, (to d.0, tt)))) h
-  exchange_range (i.CallNative x a o.None) h = h
+  exchange_range (i.CallNative x a None) h = h
   exchange_range (i.Br t) h = h
   exchange_range (i.CondBr c t f) h = turn (c.0 ∷ t.0 ∷ f.0 ∷ []) (σ c.0 ∷ t.0 ∷ f.0 ∷ []) (from c.0, (same, (same, tt))) h
   exchange_range (i.Case v t) h = turn (v.0 ∷ t ∷ []) (σ v.0 ∷ t ∷ []) (from v.0, (same, tt)) h
-  exchange_range (i.Ret (o.Some v)) h = turn (v.0 ∷ []) (σ v.0 ∷ []) (from v.0, tt) h
-  exchange_range (i.Ret o.None) h = h
+  exchange_range (i.Ret (Some v)) h = turn (v.0 ∷ []) (σ v.0 ∷ []) (from v.0, tt) h
+  exchange_range (i.Ret None) h = h
   exchange_range (i.Unreachable w) h = h
   exchange_range i.Stmt h = h
 

@@ -5,7 +5,7 @@ use mathlib.Core.Path.{◌≡◌, refl}
 use mathlib.Core.Bool.{Bool, true, false, ◌&&◌, ◌||◌, cond}
 use mathlib.Core.List.{List, [], ◌∷◌}
 use mathlib.Core.Logic.{◌⊎◌, inl, inr}
-use mathlib.Core.Option.{Option, none, some}
+use Rattle.std.proofs.Common.{Option, None, Some}
 use borrow.Author.Tests.{eqb-true}
 use lib.Dec.{eqb}
 use lib.ListN.{length, get_or, get_or-eq_default}
@@ -26,7 +26,7 @@ unfolding found
 found_in m [] h r i = i
 found_in m (x ∷ xs) h r i = by (eqb x.0 r) (found_in m xs h.1 r i)
   where
-    by : (t : Bool) → value_or r (found r xs) < m → value_or r (cond t (some x.1) (found r xs)) < m
+    by : (t : Bool) → value_or r (found r xs) < m → value_or r (cond t (Some x.1) (found r xs)) < m
     by true j = h.0
     by false j = j
 
@@ -54,8 +54,8 @@ module _ (f : Facts) where
   forget-in (d ∷ c ∷ g ∷ ds) k h = tt
 
   value_in : (d : ℕ) (o : Option ℕ) (k : Known) → CopiesIn k → CopiesIn (with_value_if d o k)
-  value_in d none k h = h
-  value_in d (some v) k h = h
+  value_in d None k h = h
+  value_in d (Some v) k h = h
 
   -- a kind that is 0 or 2 is that of a register
   kind-in : (kind s : ℕ) → (eqb kind (get_or f.registers s 5) && (eqb kind 0 || eqb kind 2)) ≡ true → s < n

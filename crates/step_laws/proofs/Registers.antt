@@ -2,7 +2,7 @@
 use Prim.Native.Nat.{ℕ, ◌<◌}
 use mathlib.Core.List.{◌++◌}
 use Rattle.record_rules.specs.declared.exist.Counts.{Counts}
-use Rattle.inst.specs.declared.OptReg.TheVariants as o
+use Rattle.std.specs.Prelude.{Some, None}
 use Rattle.inst.specs.declared.BoolOp.TheVariants as b
 use Rattle.inst.specs.declared.CheckKind.TheVariants as k
 use Rattle.inst.specs.declared.Inst.{Inst}
@@ -42,12 +42,12 @@ module _ (n : Counts) where
   regs-exist (i.BoundsLen d l r e) h = (h.0, (h.1.0, (h.1.1.0, (h.1.1.1.0, tt))))
   regs-exist (i.Alloc d s) h = (h.0, (h.1.0, tt))
   regs-exist (i.TakeBounds l r e) h = (h.0, (h.1.0, (h.1.1.0, tt)))
-  regs-exist (i.CallNative m a (o.Some d)) h = (h.1.1.1.0, tt)
-  regs-exist (i.CallNative m a o.None) h = tt
+  regs-exist (i.CallNative m a (Some d)) h = (h.1.1.1.0, tt)
+  regs-exist (i.CallNative m a None) h = tt
   regs-exist (i.Br t) h = tt
   regs-exist (i.CondBr c t f) h = (h.0, tt)
   regs-exist (i.Case v t) h = (h.0, tt)
-  regs-exist (i.Ret (o.Some v)) h = (h.0, tt)
-  regs-exist (i.Ret o.None) h = tt
+  regs-exist (i.Ret (Some v)) h = (h.0, tt)
+  regs-exist (i.Ret None) h = tt
   regs-exist (i.Unreachable w) h = tt
   regs-exist i.Stmt h = tt

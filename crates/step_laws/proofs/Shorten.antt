@@ -14,8 +14,7 @@ use Rattle.records.specs.declared.Record.{Record}
 use Rattle.records.specs.Record.{records_of}
 use Rattle.put_record.specs.Store.{Bytes}
 use Rattle.layout.specs.Classes.{of_class}
-use Rattle.read.specs.declared.Reading.{Reading}
-use Rattle.read.specs.Reading.{unless, answer, checked, read_records, read_blocks, read_tables, wrong_length, beyond_limit}
+use Rattle.read.specs.Reading.{Reading, unless, answer, checked, read_records, read_blocks, read_tables, wrong_length, beyond_limit}
 use Rattle.procedure.specs.Procedure.{procedure_of}
 use Rattle.word.specs.Word.{bit}
 use Rattle.steps.specs.Run.{Shortened, run}

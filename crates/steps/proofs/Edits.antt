@@ -2,7 +2,7 @@
 use Prim.Native.Nat.{ℕ, zero, suc}
 use mathlib.Core.Path.{◌≡◌, refl}
 use mathlib.Core.List.{List, []}
-use mathlib.Core.Option.{Option, none, some}
+use Rattle.std.proofs.Common.{Option, None, Some}
 use mathlib.Core.Bool.{Bool, true, false, ◌&&◌}
 use lib.Dec.{eqb}
 use lib.ListN.{length}
@@ -45,7 +45,7 @@ module _ (f : Facts) where
     joins : (w : Work) (a : ℕ) (l : BlockId) → end_of (block_at w a) ≡ v.Br l → stops f w a l.0 ≡ false → Edit w (joined_to w a l.0)
     -- a CondBr of a known value becomes a Br
     folds : (w : Work) (a : ℕ) (c : Reg) (t e : BlockId) (n : ℕ) → end_of (block_at w a) ≡ v.CondBr c t e
-        → value_of f (known_at w a) (source_at w a c.0) ≡ some n
+        → value_of f (known_at w a) (source_at w a c.0) ≡ Some n
         → Edit w (edit w a (with_end (i.Br (block_of (choose n t.0 e.0))) (block_at w a)) [] 0)
     -- a CondBr takes its copy's source and the arms of lone CondBrs
     turns : (w : Work) (a : ℕ) (c : Reg) (t e : BlockId) → end_of (block_at w a) ≡ v.CondBr c t e
@@ -82,8 +82,8 @@ module _ (f : Facts) where
     rewrite_ok false = turns w a c t e p
 
     decide_ok : (o : Option ℕ) → value_of f (known_at w a) source ≡ o → HopOk w (decide f w a c.0 t.0 e.0 source o)
-    decide_ok (some n) q = folds w a c t e n p q
-    decide_ok none q = rewrite_ok (eqb source c.0 && eqb (arm true t) t.0 && eqb (arm false e) e.0)
+    decide_ok (Some n) q = folds w a c t e n p q
+    decide_ok None q = rewrite_ok (eqb source c.0 && eqb (arm true t) t.0 && eqb (arm false e) e.0)
 
   hop_at_ok : (w : Work) (a : ℕ) (x : End) → end_of (block_at w a) ≡ x → HopOk w (hop_at f w a x)
   unfolding hop_br hop_cond_br

@@ -1,6 +1,5 @@
 -- What Thread needs to know about the file: it is counted once, after the equal-arms step.
-use Rattle.std.specs.Prelude.{ℕ, ◌+◌, ◌/◌, List, [], ◌∷◌, Bool, true, false, ◌&&◌, not, cond, eqb, length}
-use Rattle.std.proofs.Math.Option.{Option, none, some}
+use Rattle.std.specs.Prelude.{ℕ, ◌+◌, ◌/◌, List, [], ◌∷◌, Bool, true, false, ◌&&◌, not, cond, eqb, length, Option, None, Some}
 use Rattle.inst.specs.declared.Code.{Code}
 use Rattle.inst.specs.declared.Inst.{Inst}
 use Rattle.roles.specs.Roles.{defs_of}
@@ -9,10 +8,10 @@ use Rattle.procedure.specs.Counts.{singly, use_count}
 use Rattle.ends.specs.Forms.{Fixed, word, real, address, varying, fixed_of}
 
 abbrev pub word_of : Fixed → Option ℕ
-word_of (word v) = some v
-word_of real = none
-word_of (address up) = none
-word_of varying = none
+word_of (word v) = Some v
+word_of real = None
+word_of (address up) = None
+word_of varying = None
 
 -- "Const, ConstF or non-Up AddrOf"
 abbrev pub bound : Fixed → Bool
@@ -27,12 +26,12 @@ writes r x = any_of (eqb r) (defs_of x)
 
 -- the v of the first Const that writes a register
 unfoldable pub const_in : List Code → ℕ → Option ℕ
-const_in [] r = none
-const_in (x ∷ c) r = or_else (cond (writes r x.inst) (word_of (fixed_of x.inst)) none) (const_in c r)
+const_in [] r = None
+const_in (x ∷ c) r = or_else (cond (writes r x.inst) (word_of (fixed_of x.inst)) None) (const_in c r)
 
 -- `kc`: the v of a register singly written, by a Const
 unfoldable pub const_of : List Code → ℕ → Option ℕ
-const_of c r = cond (singly c r) (const_in c r) none
+const_of c r = cond (singly c r) (const_in c r) None
 
 -- `kdef`: "a singly written Const, ConstF or non-Up AddrOf register"
 unfoldable pub konst_of : List Code → ℕ → Bool

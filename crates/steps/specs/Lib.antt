@@ -9,3 +9,4 @@ pub mod Emit
 pub mod Run
 pub mod Write
 pub mod Shorten
+pub mod Told

@@ -1,6 +1,5 @@
 -- Document 01, "Thread": "`note` gathers known values and copies".
-use Rattle.std.specs.Prelude.{ℕ, List, [], ◌∷◌, ◌++◌, Bool, ◌&&◌, ◌||◌, cond, eqb, get_or}
-use Rattle.std.proofs.Math.Option.{Option, none, some}
+use Rattle.std.specs.Prelude.{ℕ, List, [], ◌∷◌, ◌++◌, Bool, ◌&&◌, ◌||◌, cond, eqb, get_or, Option, None, Some}
 use Rattle.inst.specs.declared.Code.{Code}
 use Rattle.inst.specs.declared.BoolOp.{BoolOp}
 use Rattle.inst.specs.declared.BoolOp.TheVariants as b
@@ -46,8 +45,8 @@ abbrev pub with_copy : ℕ → ℕ → Known → Known
 with_copy d s k = record { values = k.values; copies = k.copies ++ ((d, s) ∷ []) }
 
 abbrev pub with_value_if : ℕ → Option ℕ → Known → Known
-with_value_if d none k = k
-with_value_if d (some v) k = with_value d v k
+with_value_if d None k = k
+with_value_if d (Some v) k = with_value d v k
 
 -- the source of a register's copy, or the register
 abbrev pub source_of : Known → ℕ → ℕ
@@ -71,16 +70,16 @@ note_move f d s k =
 
 -- Bool with one known operand: Not reads only the first
 abbrev pub bool_of_one : BoolOp → ℕ → Option ℕ
-bool_of_one b.And x = none
-bool_of_one b.Or x = none
-bool_of_one b.Xor x = none
-bool_of_one b.Not x = some (tests b.Not x 0)
+bool_of_one b.And x = None
+bool_of_one b.Or x = None
+bool_of_one b.Xor x = None
+bool_of_one b.Not x = Some (tests b.Not x 0)
 
 -- Bool, from what is known of its operands, by the machine's rule
 abbrev pub bool_of : BoolOp → Option ℕ → Option ℕ → Option ℕ
-bool_of op none y = none
-bool_of op (some x) none = bool_of_one op x
-bool_of op (some x) (some y) = some (tests op x y)
+bool_of op None y = None
+bool_of op (Some x) None = bool_of_one op x
+bool_of op (Some x) (Some y) = Some (tests op x y)
 
 -- what an instruction adds, once what it writes is forgotten: "Const, Move, Bool"
 abbrev pub learnt : Facts → Known → Form → Known

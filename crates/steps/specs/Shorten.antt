@@ -3,13 +3,21 @@ use Rattle.std.specs.Prelude.{ℕ, List, ◌++◌, Bool, true, false, ◌||◌, 
 use Rattle.records.specs.declared.Record.{Record}
 use Rattle.records.specs.Record.{records_of}
 use Rattle.layout.specs.Classes.{of_class}
-use Rattle.read.specs.declared.Reading.{Reading}
-use Rattle.read.specs.Reading.{reading}
+use Rattle.read.specs.Reading.{Reading, reading}
 use Rattle.procedure.specs.Procedure.{procedure_of}
 use Rattle.word.specs.Word.{bit}
-use Rattle.steps.specs.declared.Answer.{Answer}
 use Rattle.steps.specs.Run.{Shortened, run}
 use Rattle.steps.specs.Write.{records_for, bytes_of}
+
+-- number is 0 on success; on a refusal, place is the offending record; length is in bytes
+pub record Answer : Type 0 where
+  pub number : ℕ
+  pub place : ℕ
+  pub length : ℕ
+  pub moved : ℕ
+  pub grown : ℕ
+  pub fresh : ℕ
+  pub rescued : ℕ
 
 -- the answer, and the output buffer at exit
 pub record Outcome : Type 0 where
@@ -17,11 +25,11 @@ pub record Outcome : Type 0 where
   pub output : List ℕ
 
 -- "A refusal gives zero counts and alters no output byte."
+abbrev pub refused : ℕ → ℕ → Answer
+refused number place = record { number = number; place = place; length = 0; moved = 0; grown = 0; fresh = 0; rescued = 0 }
+
 abbrev pub refusal : ℕ → ℕ → List ℕ → Outcome
-refusal number place out = record {
-  answer = record { number = number; place = place; length = 0; moved = 0; grown = 0; fresh = 0; rescued = 0 };
-  output = out;
-}
+refusal number place out = record { answer = refused number place; output = out }
 
 -- "Success gives the byte length and leaves bytes past it."
 abbrev pub success : Shortened → List ℕ → List ℕ → Outcome

@@ -1,6 +1,5 @@
 -- Document 01, "Thread": "Blocks ascending, 6 hops each; targets are read in their current form; the hop loop over one block is left from inside."
-use Rattle.std.specs.Prelude.{ℕ, zero, suc, ◌+◌, List, [], ◌++◌, Bool, true, false, ◌&&◌, ◌||◌, not, cond, eqb, ltb, length, get_or, set}
-use Rattle.std.proofs.Math.Option.{Option, none, some}
+use Rattle.std.specs.Prelude.{ℕ, zero, suc, ◌+◌, List, [], ◌++◌, Bool, true, false, ◌&&◌, ◌||◌, not, cond, eqb, ltb, length, get_or, set, Option, None, Some}
 use Rattle.inst.specs.declared.Code.{Code}
 use Rattle.inst.specs.declared.Inst.TheVariants as i
 use Rattle.codec.specs.Codec.{reg_of, block_of}
@@ -59,8 +58,8 @@ rewrite w a c t e c' t' e' = rewrite_if (eqb c' c && eqb t' t && eqb e' e) w a c
 
 -- "A known value makes a Br; the next hop follows."
 abbrev pub decide : Facts → Work → ℕ → ℕ → ℕ → ℕ → ℕ → Option ℕ → Hop
-decide f w a c t e c' (some v) = next (edit w a (with_end (i.Br (block_of (choose v t e))) (block_at w a)) [] 0)
-decide f w a c t e c' none = rewrite w a c t e c' (arm_of f w a c' true t) (arm_of f w a c' false e)
+decide f w a c t e c' (Some v) = next (edit w a (with_end (i.Br (block_of (choose v t e))) (block_at w a)) [] 0)
+decide f w a c t e c' None = rewrite w a c t e c' (arm_of f w a c' true t) (arm_of f w a c' false e)
 
 -- "c becomes its copy's source."
 abbrev pub decide_from : Facts → Work → ℕ → ℕ → ℕ → ℕ → Known → Hop

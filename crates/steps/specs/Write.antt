@@ -1,6 +1,5 @@
 -- Document 01, "File": the records of a procedure, and their bytes.
-use Rattle.std.specs.Prelude.{ℕ, suc, ◌+◌, List, [], ◌∷◌, ◌++◌, map, true, false, length}
-use Rattle.std.proofs.Math.Option.{Option, none, some}
+use Rattle.std.specs.Prelude.{ℕ, suc, ◌+◌, List, [], ◌∷◌, ◌++◌, map, true, false, length, Option, None, Some}
 use Rattle.records.specs.declared.Record.{Record}
 use Rattle.put_record.specs.Store.{record_bytes}
 use Rattle.inst.specs.declared.Code.{Code}
@@ -16,8 +15,8 @@ block_records start [] = []
 block_records start (c ∷ cs) = block_record (record { start = start; end = start + length c }) ∷ block_records (start + length c) cs
 
 abbrev pub body_records : Option ℕ → List Record
-body_records none = []
-body_records (some b) = body_record (block_of b) ∷ []
+body_records None = []
+body_records (Some b) = body_record (block_of b) ∷ []
 
 -- an arm of table n
 abbrev pub case_record : ℕ → Arm → Record

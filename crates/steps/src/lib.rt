@@ -1,13 +1,12 @@
-// Definitions of document 01's steps and of Shorten. The only code is Shorten's answer.
+// Definitions of document 01's steps and of Shorten. The only code is what Shorten did.
 #![tactic(auto)]
 
-// number is 0 on success; on a refusal, place is the offending record; length is in bytes.
-#[derive(Clone, Copy)]
-pub struct Answer {
-    pub number: u32,
-    pub place: u32,
+// What Shorten did to a file: how many bytes the result has, whether anything changed, and how many instructions were copied,
+// registers are new and instructions are rescued. A flag by itself: where arms were joined, the counts may be 0.
+#[derive(Clone, Copy, Debug, PartialEq, Eq)]
+pub struct Shortening {
     pub length: usize,
-    pub moved: u32,
+    pub moved: bool,
     pub grown: u32,
     pub fresh: u32,
     pub rescued: u32,

@@ -3,9 +3,9 @@ use Prim.Native.Nat.{ℕ, suc, ◌+◌, ◌-◌, ◌/◌, ◌≤◌, ◌<◌}
 use native.Mathlib.Numerals.{add-one}
 use native.Mathlib.Omega.{arith}
 use mathlib.Core.Path.{◌≡◌, refl, sym, ap, ◌∙◌}
-use mathlib.Core.Bool.{Bool, true, false, ◌&&◌, ◌||◌, not}
+use mathlib.Core.Bool.{Bool, true, false, ◌&&◌, ◌||◌, not, false≢true, true≢false}
 use mathlib.Core.List.{List, [], ◌∷◌, ◌++◌}
-use mathlib.Core.Option.{Option}
+use Rattle.std.proofs.Common.{Option}
 use borrow.Author.Tests.{ltb-false}
 use lib.Dec.{eqb, ltb, leb}
 use lib.ListN.{length, get_or, length-take}
@@ -30,8 +30,16 @@ use Rattle.hop_cond_br.specs.Storage.{turned, before, turned_in}
 use Rattle.arena.specs.Arena.{Arena, arena}
 use Rattle.hop_br.specs.Storage.{left, grown_to, next_in, target_in, join_of}
 use Rattle.thread.specs.declared.Threaded.{Threaded}
-use Rattle.thread.specs.declared.Hopped.{Hopped}
-use Rattle.thread.specs.Storage.{Store, store, Hopping, hopped, hopping, stay_in, turn_at, turned_at, fresh_to, joined_at, append_in}
+use Rattle.arena.specs.declared.Space.{Space}
+use Rattle.hop_br.specs.declared.Added.{Added}
+use Rattle.hop_cond_br.specs.declared.Room.{Room}
+use Rattle.hop_cond_br.specs.Kept.{SameRoom}
+use Rattle.thread.specs.Threading.{goes_on, at_in, store_in, hopping_to, Edited}
+use Rattle.std.specs.declared.ops.ControlFlow.{ControlFlow}
+use Rattle.std.specs.declared.ops.ControlFlow.TheVariants.{Continue, Break}
+use Rattle.std.specs.ControlFlow.{break_value}
+use Rattle.std.specs.Prelude.{is_some}
+use Rattle.thread.specs.Storage.{Store, store, Hopped, Hopping, hopped, hopping, stay_in, turn_at, turned_at, joined_at, append_in}
 use Rattle.thread.specs.Storage.{hop_br_in, hop_cond_br_in, hop_at_in, hop_in, onward_in, hops_in, thread_from_in}
 
 place_short : (w : How) (x : Code) (local : List (ℕ × ℕ)) (m n : ℕ) (rest : List (ℕ × ℕ) → ℕ → List Code)
@@ -73,25 +81,23 @@ module _ (facts : List ℕ) (body : Option ℕ) (budget known copy : ℕ) (work 
   unfolding hop_br_in
   br_stays l e = ap (λ (b : Bool). append_in facts body budget known copy b s a l) (sym e)
 
-  pub br_joins : (l : ℕ) {work' table' kinds' : List ℕ} {top n fresh f : ℕ}
+  pub br_joins : (l : ℕ) {work' table' kinds' : List ℕ} {top n fresh : ℕ}
       → stops (facts_in facts body budget) (grown_to (blocks_of work table) at.grown) a l ≡ false
       → left (arena work' table' top) kinds' n fresh ≡ join_of facts body budget a l at.fresh (arena work table at.top) kinds
-      → f ≡ fresh_to at.fresh fresh
-      → hopping work' table' kinds' (hopped (record { top = top; grown = at.grown + n; fresh = f; edited = true }) true)
+      → hopping work' table' kinds' (hopped (record { top = top; grown = at.grown + n; fresh = fresh; edited = true }) true)
       ≡ hop_br_in facts body budget known copy s a l
   unfolding hop_br_in
-  br_joins l {work' = work'} {table' = table'} {kinds' = kinds'} {top = top} {n = n} e g h =
-      ap (λ (x : ℕ). hopping work' table' kinds' (hopped (record { top = top; grown = at.grown + n; fresh = x; edited = true }) true)) h
-      ∙ ap (joined_at at) g
+  br_joins l e g =
+      ap (joined_at at) g
       ∙ ap (λ (b : Bool). append_in facts body budget known copy b s a l) (sym e)
 
-  pub cond_br_turns : (c t f : ℕ) {z : Hopped} {n : Turn} {code : List ℕ} → z ≡ turn_at n at
+  pub cond_br_turns : (c t f : ℕ) {table' code : List ℕ} {top : ℕ} {n : Turn} → table' ≡ table → top ≡ at.top
       → turned code n
       ≡ turned_in table a facts body work c t f
       (leb (length (before table a work)) (known / 2) && leb (length (before table a work)) (copy / 2))
-      → hopping code table kinds z ≡ hop_cond_br_in facts body budget known copy s a c t f
+      → hopping code table' kinds (turn_at n (record at { top = top })) ≡ hop_cond_br_in facts body budget known copy s a c t f
   unfolding hop_cond_br_in
-  cond_br_turns c t f {code = code} e g = ap (hopping code table kinds) e ∙ ap (turned_at s) g
+  cond_br_turns c t f e i g = rw (e, i) (ap (turned_at s) g)
 
   -- the hop, by how the block ends
   module _ (x : End) (ends : x ≡ end_of (get_or (blocks_of work table) a [])) where
@@ -103,11 +109,10 @@ module _ (facts : List ℕ) (body : Option ℕ) (budget known copy : ℕ) (work 
         → z ≡ hop_in facts body budget known copy s a
     hop_br_lem e h = h ∙ hop_by e
 
-    pub hop_cond_br_lem : {known' copy' : ℕ} {c : Reg} {t f : BlockId} {z : Hopping} → known' ≡ known → copy' ≡ copy
-        → x ≡ e.CondBr c t f → z ≡ hop_cond_br_in facts body budget known' copy' s a c.0 t.0 f.0
+    pub hop_cond_br_lem : {c : Reg} {t f : BlockId} {z : Hopping}
+        → x ≡ e.CondBr c t f → z ≡ hop_cond_br_in facts body budget known copy s a c.0 t.0 f.0
         → z ≡ hop_in facts body budget known copy s a
-    hop_cond_br_lem {c = c} {t = t} {f = f} {z = z} i j e h =
-        (rw (i, j) at h) ∙ hop_by e
+    hop_cond_br_lem e h = h ∙ hop_by e
 
     pub hop_case : {n : ℕ} → x ≡ e.Case n → stay_in s ≡ hop_in facts body budget known copy s a
     hop_case e = hop_by e
@@ -157,3 +162,28 @@ module _ (facts : List ℕ) (body : Option ℕ) (budget known copy : ℕ) where
       let e : n - a ≡ suc (n - (a + 1)) = omega arith in
       let g = rw (i, j) at h in
       rw (e, g, add-one a) refl
+
+-- whether the next hop follows
+pub over : {B T : Type 0} (z : ControlFlow B T) → is_some (break_value z) ≡ true → goes_on z ≡ false
+over (Continue x) e = absurd (false≢true e)
+over (Break b) e = refl
+
+pub onward : {B T : Type 0} (z : ControlFlow B T) → is_some (break_value z) ≡ false → goes_on z ≡ true
+onward (Continue x) e = refl
+onward (Break b) e = absurd (true≢false e)
+
+-- it is still the same room after one step more
+pub same_then : {s t u : Room} → SameRoom s t → SameRoom t u → SameRoom s u
+same_then p q = record {
+  known = q.known ∙ p.known;
+  copy = q.copy ∙ p.copy;
+  known-length = q.known-length ∙ p.known-length;
+  copy-length = q.copy-length ∙ p.copy-length;
+}
+
+-- what a turn leaves
+pub edited : {x y : Added} {n : Turn} {B T : Type 0} {z : ControlFlow B T} → Edited x n y z → (s : Space)
+    → hopping_to (store_in s y) z ≡ hopping s.work.now s.table.now x.kinds.now (turn_at n (at_in s x))
+edited {x = x} {y = y} {n = n} e s =
+    ap (λ (h : Hopped). hopping s.work.now s.table.now y.kinds.now h) (e.at s)
+    ∙ ap (λ k. hopping s.work.now s.table.now k.now (turn_at n (at_in s x))) e.kinds

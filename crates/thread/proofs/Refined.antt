@@ -4,7 +4,7 @@ use native.Mathlib.Omega.{arith}
 use mathlib.Core.Path.{◌≡◌, refl, sym, ap, ◌∙◌}
 use mathlib.Core.Bool.{Bool, true, false, ◌&&◌, cond, true≢false}
 use mathlib.Core.List.{List, [], ◌++◌, map}
-use mathlib.Core.Option.{Option, none, some}
+use Rattle.std.proofs.Common.{Option, None, Some}
 use lib.Dec.{eqb, leb}
 use lib.ListN.{length, get_or, take}
 use lib.Seq.{length-take-le}
@@ -26,10 +26,10 @@ use Rattle.arena.specs.Arena.{Arena, arena, room, to_end}
 use Rattle.arena.proofs.Moved.{Sound, last_top}
 use Rattle.arena.proofs.Grown.{Grown, front_records}
 use Rattle.arena.proofs.Appended.{AllInRange}
-use Rattle.hop_br.specs.Storage.{target_in, copy_in, given_in, kinds_put, cut, replaced}
+use Rattle.hop_br.specs.Storage.{target_in, copy_in, given_in, kinds_put, fresh_to, cut, replaced}
 use Rattle.hop_br.proofs.Blocks.{cut-top, replaced-block}
 use Rattle.hop_br.proofs.Hop as j
-use Rattle.thread.specs.Storage.{Store, store, Hopping, turned_at, fresh_to, append_in, hop_br_in, hop_cond_br_in}
+use Rattle.thread.specs.Storage.{Store, store, Hopping, turned_at, append_in, hop_br_in, hop_cond_br_in}
 
 -- what the definition sees of the storage
 abbrev pub work_of : Store → Work
@@ -60,8 +60,8 @@ module _ (table : List ℕ) (a : ℕ) (code : List ℕ) (body : Option ℕ) (c t
 
   stay-decide : (c' : ℕ) (o : Option ℕ) → is_stay (decide_in table a code body c t e c' o).turn ≡ true
       → (decide_in table a code body c t e c' o).code ≡ code
-  stay-decide c' (some v) h = absurd (true≢false (sym h))
-  stay-decide c' none h =
+  stay-decide c' (Some v) h = absurd (true≢false (sym h))
+  stay-decide c' None h =
       let t' = arm_in table a code body c' true t in
       let e' = arm_in table a code body c' false e in
       stay_if (eqb c' c && eqb t' t && eqb e' e) c' t' e' h

@@ -5,7 +5,7 @@ use mathlib.Core.Path.{◌≡◌, refl, sym, ap, subst, ◌∙◌}
 use mathlib.Core.Bool.{Bool, true, false, ◌&&◌, ◌||◌, not, false≢true}
 use mathlib.Core.List.{List, [], ◌∷◌}
 use mathlib.Core.Logic.{◌⊎◌, inl, inr}
-use mathlib.Core.Option.{Option}
+use Rattle.std.proofs.Common.{Option}
 use borrow.Author.Tests.{le-leb, not-false}
 use lib.Dec.{eqb, ltb}
 use lib.ListN.{length, get_or, take, drop, length-take, length-drop, length-map, get_or-eq_default}

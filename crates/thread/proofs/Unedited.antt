@@ -4,7 +4,7 @@ use mathlib.Core.Path.{◌≡◌, refl, sym, ap, ◌∙◌}
 use mathlib.Core.Bool.{Bool, true, false, ◌&&◌, true≢false}
 use mathlib.Core.List.{List, []}
 use mathlib.Core.Logic.{◌⊎◌, inl, inr}
-use mathlib.Core.Option.{Option}
+use Rattle.std.proofs.Common.{Option}
 use lib.Dec.{leb}
 use lib.ListN.{length, get_or}
 use Rattle.ends.specs.declared.End.{End}

@@ -1,6 +1,5 @@
 -- Storage, not the paper's: how the hops leave code, block table, the new registers' kinds and the counts, for any bytes.
-use Rattle.std.specs.Prelude.{ℕ, zero, suc, ◌+◌, ◌/◌, min, List, [], Bool, true, false, ◌&&◌, leb, length, get_or}
-use Rattle.std.proofs.Math.Option.{Option}
+use Rattle.std.specs.Prelude.{ℕ, zero, suc, ◌+◌, ◌/◌, min, List, [], Bool, true, false, ◌&&◌, leb, length, get_or, Option}
 use Rattle.ends.specs.declared.End.{End}
 use Rattle.ends.specs.declared.End.TheVariants as e
 use Rattle.ends.specs.Ends.{end_of}
@@ -13,7 +12,6 @@ use Rattle.hop_cond_br.specs.Storage.{Turned, before, turned_in}
 use Rattle.arena.specs.Arena.{arena}
 use Rattle.hop_br.specs.Storage.{Left, grown_to, join_of}
 use Rattle.thread.specs.declared.Threaded.{Threaded}
-use Rattle.thread.specs.declared.Hopped.{Hopped}
 
 -- the bytes, and the counts
 pub record Store : Type 0 where
@@ -24,6 +22,11 @@ pub record Store : Type 0 where
 
 abbrev pub store : List ℕ → List ℕ → List ℕ → Threaded → Store
 store work table kinds at = record { work = work; table = table; kinds = kinds; at = at }
+
+-- the counts after a hop, and whether the next hop follows
+pub record Hopped : Type 0 where
+  pub at : Threaded
+  pub more : Bool
 
 -- what a hop leaves, and whether the next hop follows
 pub record Hopping : Type 0 where
@@ -52,17 +55,13 @@ turn_at u.Next s = hopped (edited_at s) true
 abbrev pub turned_at : Store → Turned → Hopping
 turned_at s z = hopping z.code s.table s.kinds (turn_at z.turn s.at)
 
--- the new registers, at most 65535
-abbrev pub fresh_to : ℕ → ℕ → ℕ
-fresh_to fresh n = min (fresh + n) 65535
-
 -- as many blocks of a table as a BlockId can name
 abbrev pub nameable : List ℕ → ℕ
 nameable table = min (length table / 32) 4294967296
 
 abbrev pub joined_at : Threaded → Left → Hopping
 joined_at s z =
-    let at : Threaded = record { top = z.blocks.top; grown = s.grown + z.n; fresh = fresh_to s.fresh z.fresh; edited = true } in
+    let at : Threaded = record { top = z.blocks.top; grown = s.grown + z.n; fresh = z.fresh; edited = true } in
     hopping z.blocks.work z.blocks.table z.kinds (hopped at true)
 
 -- a file's facts, its body and budget, and how many words there are for known values and for copies

@@ -1,17 +1,23 @@
 // Thread: goes over the blocks in order, with at most six hops for each.
 #![tactic(auto)]
 
-ghost use Rattle.std.specs.Prelude.{◌≡◌, List, ℕ, length};
+ghost use Rattle.std.specs.Prelude.{◌≡◌, ℕ, length};
 ghost use Rattle.pause.specs.Storage.{body_in};
-ghost use Rattle.thread.specs.Storage.{store, hopping, edited_at, turn_at, fresh_to, hop_br_in, hop_cond_br_in, hops_in, thread_in};
+ghost use Rattle.arena.specs.Arena.{SameSlices};
+ghost use Rattle.hop_cond_br.specs.Kept.{SameRoom};
+ghost use Rattle.thread.specs.Storage.{hop_br_in, hop_in, hops_in, thread_in};
+ghost use Rattle.thread.specs.Threading.{Edited, at_in, store_in, hopping_to};
 
+use arena::Space;
 use ends::End;
-use hop_cond_br::Turn;
-use inst::{BlockId, Reg};
-use pause::Pause;
+use hop_br::Added;
+use hop_cond_br::{CondBr, Room, Turn};
+use inst::BlockId;
+use pause::Facts;
+use std::ops::ControlFlow;
 
 // How far threading got: the arena's top, how many instructions and registers were added, whether a
-// block was edited.
+// block was edited. The flag is no Option of the counts, since the C interface has all four.
 #[derive(Clone, Copy)]
 pub struct Threaded {
     pub top: usize,
@@ -20,170 +26,117 @@ pub struct Threaded {
     pub edited: bool,
 }
 
-// The same after a hop, and whether the next hop follows.
-#[derive(Clone, Copy)]
-pub struct Hopped {
-    pub at: Threaded,
-    pub more: bool,
-}
-
-fn edited(s: Threaded) -> Threaded
-    ensures { result ≡ edited_at s }
-{
-    Threaded {
-        top: s.top,
-        grown: s.grown,
-        fresh: s.fresh,
-        edited: true,
-    }
-}
-
-fn turned(t: Turn, s: Threaded) -> Hopped
-    ensures { result ≡ turn_at t s }
+// What a hop over a CondBr adds, and whether the next hop follows.
+fn turned(t: Turn, added: &mut Added) -> ControlFlow<()>
+    ensures { Edited added.old t added.new result }
 {
     match t {
-        Turn::Stay => Hopped { at: s, more: false },
-        Turn::Last => Hopped {
-            at: edited(s),
-            more: false,
-        },
-        Turn::Next => Hopped {
-            at: edited(s),
-            more: true,
-        },
+        Turn::Stay => ControlFlow::Break(()),
+        Turn::Last => {
+            added.edited = true;
+            ControlFlow::Break(())
+        }
+        Turn::Next => {
+            added.edited = true;
+            ControlFlow::Continue(())
+        }
     }
 }
 
-// A hop of block a, which ends with CondBr c t e.
-fn hop_cond_br(
-    work: &mut [u8],
-    table: &[u8],
-    known: &mut [u64],
-    copy: &mut [u32],
-    facts: &[u64],
-    pause: Pause,
-    a: BlockId,
-    s: Threaded,
-    c: Reg,
-    t: BlockId,
-    e: BlockId,
-) -> Hopped
-    ensures { (budget : ℕ) (kinds : List ℕ) → hopping work.new table.now kinds result
-        ≡ hop_cond_br_in facts.now (body_in pause) budget (length known.old) (length copy.old)
-        (store work.old table.now kinds s) a.0 c.0 t.0 e.0 }
-{
-    let n = hop_cond_br::hop_cond_br(work, table, known, copy, facts, pause, a, c, t, e);
-    turned(n, s)
-}
-
-// The new registers given so far plus n more, at most 65535.
-fn fresh_to(fresh: usize, n: usize) -> usize
-    ensures { result ≡ fresh_to fresh n }
-{
-    let m = general::least(fresh, 65535);
-    m + general::least(n, 65535 - m)
-}
-
-// A hop of block a, which ends with Br l.
+// A hop of block a, which ends with Br l; whether the next hop follows.
 fn hop_br(
-    work: &mut [u8],
-    table: &mut [u8],
-    kinds: &mut [u8],
-    facts: &[u64],
-    pause: Pause,
-    budget: u32,
+    space: &mut Space,
+    added: &mut Added,
+    facts: &Facts,
     a: BlockId,
-    s: Threaded,
     l: BlockId,
-) -> Hopped
-    ensures { (known copy : ℕ) → hopping work.new table.new kinds.new result
-        ≡ hop_br_in facts.now (body_in pause) budget known copy
-        (store work.old table.old kinds.old s) a.0 l.0 }
+) -> ControlFlow<()>
+    ensures same { SameSlices space.old space.new }
+    ensures same_kinds { added.new.kinds.ghost_name ≡ added.old.kinds.ghost_name }
+    ensures hopped { (known copy : ℕ) → hopping_to (store_in space.new added.new) result
+        ≡ hop_br_in facts.now.table.now (body_in facts.now.pause) facts.now.budget known copy
+        (store_in space.old added.old) a.0 l.0 }
 {
-    if hop_br::stops(work, table, facts, pause, budget, s.grown, a, l) {
-        return Hopped { at: s, more: false };
+    if hop_br::stops(space, facts, added.grown, a, l) {
+        return ControlFlow::Break(());
     }
-    let z = hop_br::join(work, table, kinds, facts, a, l, s.top, s.fresh);
-    Hopped {
-        at: Threaded {
-            top: z.top,
-            grown: s.grown + z.n as u64,
-            fresh: fresh_to(s.fresh, z.fresh),
-            edited: true,
-        },
-        more: true,
+    let n = hop_br::join(space, added, facts.table, a, l);
+    added.grown += n as u64;
+    added.edited = true;
+    ControlFlow::Continue(())
+}
+
+// A hop of block a.
+fn hop(
+    space: &mut Space,
+    added: &mut Added,
+    room: &mut Room,
+    facts: &Facts,
+    a: BlockId,
+) -> ControlFlow<()>
+    ensures same { SameSlices space.old space.new }
+    ensures same_kinds { added.new.kinds.ghost_name ≡ added.old.kinds.ghost_name }
+    ensures same_room { SameRoom room.old room.new }
+    ensures hopped { hopping_to (store_in space.new added.new) result
+        ≡ hop_in facts.now.table.now (body_in facts.now.pause) facts.now.budget
+        (length room.old.known.now) (length room.old.copy.now)
+        (store_in space.old added.old) a.0 }
+{
+    let blocks = space.blocks();
+    match blocks.end_at(a.0 as usize) {
+        End::CondBr(c, t, f) => {
+            let n = hop_cond_br::hop_cond_br(space, room, facts, a, CondBr { c, t, f });
+            turned(n, added)
+        }
+        End::Br(l) => hop_br(space, added, facts, a, l),
+        End::Case(_) => ControlFlow::Break(()),
+        End::Other => ControlFlow::Break(()),
     }
 }
 
 // The hops of block a, at most six.
-fn hops(
-    work: &mut [u8],
-    table: &mut [u8],
-    kinds: &mut [u8],
-    known: &mut [u64],
-    copy: &mut [u32],
-    facts: &[u64],
-    pause: Pause,
-    budget: u32,
-    a: BlockId,
-    mut s: Threaded,
-) -> Threaded
-    ensures { store work.new table.new kinds.new result ≡ hops_in facts.now (body_in pause) budget
-        (length known.old) (length copy.old) 6 a.0 (store work.old table.old kinds.old s) }
+fn hops(space: &mut Space, added: &mut Added, room: &mut Room, facts: &Facts, a: BlockId)
+    ensures same { SameSlices space.old space.new }
+    ensures same_kinds { added.new.kinds.ghost_name ≡ added.old.kinds.ghost_name }
+    ensures same_room { SameRoom room.old room.new }
+    ensures hopped { store_in space.new added.new
+        ≡ hops_in facts.now.table.now (body_in facts.now.pause) facts.now.budget
+        (length room.old.known.now) (length room.old.copy.now)
+        6 a.0 (store_in space.old added.old) }
 {
-    let mut h: usize = 0;
-    'hops: while h < 6 {
-        match blocks::end_at(work, table, a) {
-            End::CondBr(c, t, e) => {
-                let z = hop_cond_br(work, table, known, copy, facts, pause, a, s, c, t, e);
-                s = z.at;
-                if !z.more {
-                    break 'hops;
-                }
-            }
-            End::Br(l) => {
-                let z = hop_br(work, table, kinds, facts, pause, budget, a, s, l);
-                s = z.at;
-                if !z.more {
-                    break 'hops;
-                }
-            }
-            End::Case(_) => break 'hops,
-            End::Other => break 'hops,
+    'hops: for _ in 0..6u32 {
+        let z = hop(space, added, room, facts, a);
+        if z.is_break() {
+            break 'hops;
         }
-        h += 1;
     }
-    s
 }
 
-// Threads the blocks in order, each with its hops: those that a BlockId can name.
-pub fn thread(
-    work: &mut [u8],
-    table: &mut [u8],
-    kinds: &mut [u8],
-    known: &mut [u64],
-    copy: &mut [u32],
-    facts: &[u64],
-    pause: Pause,
-    budget: u32,
-    top: usize,
-) -> Threaded
-    ensures { store work.new table.new kinds.new result
-        ≡ thread_in facts.now (body_in pause) budget (length known.old) (length copy.old)
-        work.old table.old kinds.old top }
+// Threads the blocks in order, each with its hops: those that a BlockId can name. A `try_from` of
+// each number would need a way out of the loop, and is no plainer. What was added before is
+// forgotten.
+pub fn thread(space: &mut Space, added: &mut Added, room: &mut Room, facts: &Facts) -> Threaded
+    ensures same { SameSlices space.old space.new }
+    ensures same_kinds { added.new.kinds.ghost_name ≡ added.old.kinds.ghost_name }
+    ensures same_known { room.new.known.ghost_name ≡ room.old.known.ghost_name }
+    ensures same_copy { room.new.copy.ghost_name ≡ room.old.copy.ghost_name }
+    ensures at { result ≡ at_in space.new added.new }
+    ensures threaded { store_in space.new added.new
+        ≡ thread_in facts.now.table.now (body_in facts.now.pause) facts.now.budget
+        (length room.old.known.now) (length room.old.copy.now)
+        space.old.work.now space.old.table.now added.old.kinds.now space.old.top }
 {
-    let n = general::least(table.len() / 32, 4294967296);
-    let mut s = Threaded {
-        top,
-        grown: 0,
-        fresh: 0,
-        edited: false,
-    };
-    let mut a = 0;
-    while a < n {
-        let b = BlockId(a as u32);
-        s = hops(work, table, kinds, known, copy, facts, pause, budget, b, s);
-        a += 1;
+    added.fresh = 0;
+    added.grown = 0;
+    added.edited = false;
+    let n = (space.table.len() / 32).min(4294967296);
+    for a in 0..n {
+        hops(space, added, room, facts, BlockId(a as u32));
     }
-    s
+    Threaded {
+        top: space.top,
+        grown: added.grown,
+        fresh: added.fresh,
+        edited: added.edited,
+    }
 }

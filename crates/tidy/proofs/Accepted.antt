@@ -1,9 +1,9 @@
 -- What a file that Read accepts is, for the steps of Tidy.
 use Prim.Native.Nat.{ℕ, ◌-◌, ◌%◌, ◌≤◌, ◌<◌}
 use native.Mathlib.Omega.{arith}
-use mathlib.Core.Path.{◌≡◌, sym, ap, subst, ◌∙◌}
+use mathlib.Core.Path.{◌≡◌, refl, sym, ap, subst, ◌∙◌}
 use mathlib.Core.Bool.{false, not, cond}
-use mathlib.Core.List.{List, [], map}
+use mathlib.Core.List.{List, [], ◌∷◌, map}
 use borrow.Author.Tests.{ltb-false, eq-eqb, ne_eqb}
 use lib.Dec.{eqb, ltb}
 use lib.ListN.{length, get_or, replicate, length-map, length-replicate, get_or-replicate, get_or-map}
@@ -14,9 +14,8 @@ use Rattle.layout.specs.declared.Layout.{Layout}
 use Rattle.layout.specs.Classes.{of_class, in_order, ordered}
 use Rattle.general.proofs.Booleans.{or_first, or_second}
 use Rattle.layout.proofs.Walks.{walk_le}
-use Rattle.read.specs.declared.Reading.{Reading}
 use Rattle.read.specs.Structure.{tiles, next_block, tiled, code_of as recordsOfBlock}
-use Rattle.read.specs.Reading.{answer, checked, read_records, read_blocks, beyond, beyond_limit, wrong_length}
+use Rattle.read.specs.Reading.{Reading, answer, checked, read_records, read_blocks, beyond, beyond_limit, wrong_length}
 use Rattle.read.specs.Work.{InCode, LaidOut}
 use Rattle.read.proofs.Laid.{passed, held, sizes, class-part, in-tiles}
 use Rattle.codec.specs.Codec.{code_of}
@@ -24,10 +23,15 @@ use Rattle.procedure.specs.Procedure.{procedure_of}
 use Rattle.ends.specs.Ends.{end_of, targets}
 use Rattle.paths.specs.Paths.{reached_from}
 use Rattle.inst.specs.declared.Code.{Code}
-use Rattle.tidy.specs.declared.Tidiness.{Tidiness}
-use Rattle.tidy.specs.Tidy.{placed_from, placed, written, reads, writers, edges_of, leads, offenders, verdict, told, tidiness}
+use Rattle.inst.specs.declared.Reg.{Reg}
+use Rattle.std.specs.Prelude.{Option, None, Ok}
+use Rattle.tidy.specs.declared.targets.Targets.{Targets}
+use Rattle.tidy.specs.declared.writers.Writer.{Writer}
+use Rattle.tidy.specs.declared.writers.Writer.TheVariants as w
+use Rattle.tidy.specs.Tidy.{placed_from, placed, written, reads, writers, edges_of, leads, offenders, verdict, Tidiness, told, tidiness}
+use Rattle.tidy.specs.Told.{tidiness_of}
 use Rattle.tidy.specs.Work.Writers.{noted}
-use Rattle.tidy.specs.Work.Reads.{judged_all, judged_in, reads_in}
+use Rattle.tidy.specs.Work.Reads.{lowest_of, judged_all, judged_in, reads_in}
 use Rattle.tidy.specs.Work.Marks.{edges_in, PairAt, TargetsIn}
 use Rattle.tidy.specs.Work.Parts.{block_records, block_code, code_records, blocks_in, operands_in, Fit}
 use Rattle.tidy.proofs.Tables.{blocks-length}
@@ -101,18 +105,18 @@ module _ (b : List ℕ) (e : (checked b).number ≡ 0) where
       }
 
 -- the steps over a file that fits
-module _ {rs : List Record} {l : Layout} (h : LaidOut rs l) (f : Fit rs l) (n : ℕ) (size : n ≡ 756) (ts : List ℕ) {ws : List ℕ}
-    (e : ws ≡ noted (replicate n 0) (written (placed_from 0 (blocks_in rs l)))) (t : TargetsIn rs l ts) where
+module _ {rs : List Record} {l : Layout} (h : LaidOut rs l) (f : Fit rs l) (n : ℕ) (size : n ≡ 756) (ts : List Targets) {ws : List Writer}
+    (e : ws ≡ noted (replicate n w.Nothing) (written (placed_from 0 (blocks_in rs l)))) (t : TargetsIn rs l ts) where
   few-blocks : length (procedure_of rs).blocks ≤ 160
   few-blocks = let i = ap length (the_blocks h) ∙ length-map (block_records rs l) (block_code rs l) ∙ blocks-length f in omega arith
 
-  table_is : (r : ℕ) → r < length (procedure_of rs).registers → get_or ws r 0 ≡ tally 0 (writers r (written (placed (procedure_of rs))))
+  table_is : (r : ℕ) → r < length (procedure_of rs).registers → get_or ws r w.Nothing ≡ tally w.Nothing (writers r (written (placed (procedure_of rs))))
   table_is r i =
       let k : r < n = let g = the_registers h in omega arith in
-      ap (λ (w : List ℕ). get_or w r 0) e
-      ∙ tally-at (written (placed_from 0 (blocks_in rs l))) (replicate n 0) r (rw (length-replicate {A = ℕ} n 0) k)
-      ∙ ap (λ (m : ℕ). tally m (writers r (written (placed_from 0 (blocks_in rs l))))) (get_or-replicate {A = ℕ} n r 0 0 k)
-      ∙ ap (λ (bs : List (List Code)). tally 0 (writers r (written (placed_from 0 bs)))) (sym (the_blocks h))
+      ap (λ (u : List Writer). get_or u r w.Nothing) e
+      ∙ tally-at (written (placed_from 0 (blocks_in rs l))) (replicate n w.Nothing) r (rw (length-replicate {A = Writer} n w.Nothing) k)
+      ∙ ap (λ (m : Writer). tally m (writers r (written (placed_from 0 (blocks_in rs l))))) (get_or-replicate {A = Writer} n r w.Nothing w.Nothing k)
+      ∙ ap (λ (bs : List (List Code)). tally w.Nothing (writers r (written (placed_from 0 bs)))) (sym (the_blocks h))
 
   abbrev edges : List (List ℕ)
   edges = edges_of (procedure_of rs)
@@ -128,19 +132,24 @@ module _ {rs : List Record} {l : Layout} (h : LaidOut rs l) (f : Fit rs l) (n : 
       ∙ get_or-map (λ (c : List Code). targets (end_of c)) (blocks_in rs l) a []))
       (t.each a i)
 
-  pub judge_is : {s : Tidiness} → s ≡ judged_in ts ws l (told 0 0 1 0) (reads_in rs l (placed_from 0 (blocks_in rs l))) → s ≡ verdict (offenders (procedure_of rs))
+  pub judge_is : {s : Option Reg} → s ≡ judged_in ts ws l None (reads_in rs l (placed_from 0 (blocks_in rs l))) → s ≡ lowest_of (offenders (procedure_of rs))
   judge_is i =
       let p = procedure_of rs in
       let same : (a t : ℕ) → t < length p.blocks → get_or (reached_from (edges_in ts) a) t false ≡ leads p a t =
       λ a x k. table-leads edges ts t.size edges_few edges_are a x (rw (length-map p.blocks (λ c. targets (end_of c))) k)
       in
       i
-      ∙ ap (λ (m : ℕ). judged_all (edges_in ts) m ws (told 0 0 1 0) (reads_in rs l (placed_from 0 (blocks_in rs l)))) (sym (the_registers h))
-      ∙ ap (λ (ops : List ℕ). judged_all (edges_in ts) (length p.registers) ws (told 0 0 1 0) (reads ops (placed_from 0 (blocks_in rs l))))
+      ∙ ap (λ (m : ℕ). judged_all (edges_in ts) m ws None (reads_in rs l (placed_from 0 (blocks_in rs l)))) (sym (the_registers h))
+      ∙ ap (λ (ops : List ℕ). judged_all (edges_in ts) (length p.registers) ws None (reads ops (placed_from 0 (blocks_in rs l))))
       (sym (the_operands h))
-      ∙ ap (λ (bs : List (List Code)). judged_all (edges_in ts) (length p.registers) ws (told 0 0 1 0) (reads p.operands (placed_from 0 bs)))
+      ∙ ap (λ (bs : List (List Code)). judged_all (edges_in ts) (length p.registers) ws None (reads p.operands (placed_from 0 bs)))
       (sym (the_blocks h))
       ∙ answer-is p (edges_in ts) ws few-blocks same table_is
+
+-- by the lowest offending register, if there is one
+pub verdict-is : (rs : List ℕ) {x : Option Reg} → x ≡ lowest_of rs → tidiness_of (Ok x) ≡ verdict rs
+verdict-is [] e = rw e refl
+verdict-is (r ∷ rs) e = rw e refl
 
 -- the answer by Read's number
 module _ (b : List ℕ) {r : Reading} (e : r ≡ checked b) where

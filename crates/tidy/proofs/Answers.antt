@@ -1,11 +1,11 @@
 -- What the steps come to is the definition's answer.
-use Prim.Native.Nat.{ℕ, suc, ◌+◌, ◌*◌, ◌-◌, ◌/◌, ◌%◌, ◌≤◌, ◌<◌, min}
+use Prim.Native.Nat.{ℕ, suc, ◌+◌, ◌≤◌, ◌<◌, min}
 use native.Mathlib.Omega.{arith}
 use mathlib.Core.Path.{◌≡◌, refl, sym, ap, subst, ◌∙◌}
 use mathlib.Core.Bool.{Bool, true, false, ◌&&◌, cond}
 use mathlib.Core.List.{List, [], ◌∷◌, ◌++◌, cons≢nil}
 use mathlib.Core.Logic.{◌⊎◌, inl, inr, ⊎_elim, ◌↔◌}
-use borrow.Author.Tests.{le-ltb, ne_eqb, eqb-true, eqb-false, ltb-true}
+use borrow.Author.Tests.{eqb-true, eqb-false, ltb-true}
 use lib.Dec.{eqb, ltb}
 use lib.ListN.{length, get_or, length-map}
 use lib.Seq.{get_or-set_same, get_or-set_other}
@@ -17,14 +17,17 @@ use Rattle.roles.specs.Roles.{defs_of}
 use Rattle.ends.specs.Ends.{end_of, targets}
 use Rattle.paths.specs.Paths.{reached_from}
 use Rattle.paths.proofs.Paths.{reached-is}
-use Rattle.tidy.specs.declared.Tidiness.{Tidiness}
+use Rattle.inst.specs.declared.Reg.{Reg}
+use Rattle.std.specs.Prelude.{Option, Some, None}
+use Rattle.tidy.specs.declared.writers.Writer.{Writer}
+use Rattle.tidy.specs.declared.writers.Writer.TheVariants as w
 use Rattle.tidy.specs.Tidy.{Placed, Field, placed_in, placed_from, placed, fields_at, written, reads, writers, edges_of, LeadsTo, leads}
-use Rattle.tidy.specs.Tidy.{wrong, wrong_for, only_one, offends, regs_of, offenders, Tidy, told, lowest, verdict}
-use Rattle.tidy.specs.Work.Writers.{pack, note, noted}
-use Rattle.tidy.specs.Work.Reads.{judged, offence, lower, lowered, step, judged_all}
-use Rattle.tidy.proofs.Fields.{kind-most}
+use Rattle.tidy.specs.Tidy.{wrong, wrong_for, only_one, offends, regs_of, offenders, Tidy, lowest}
+use Rattle.tidy.specs.Work.Writers.{one_of, joined, note, noted}
+use Rattle.tidy.specs.Work.Reads.{lowest_of, judged, offence, lower, lowered, step, judged_all}
+use Rattle.tidy.specs.Work.Marks.{Leading, leading}
+use Rattle.tidy.proofs.Fields.{kind-again}
 use Rattle.tidy.proofs.Tables.{length-note}
-use Rattle.tidy.proofs.Judging.{judged-none}
 
 -- `leads` is what the paper says: over any number of blocks
 pub leads-is : (p : Procedure) (t : ℕ) → t < length p.blocks → (a : ℕ) → (leads p a t ≡ true) ↔ LeadsTo p a t
@@ -83,64 +86,53 @@ module _ (n r : ℕ) where
       subst (Low n) (sym (writers-append r fs (written xs)))
       (low-append n (writers r fs) (writers r (written xs)) (low-fields x (defs_of x.inst) l.0) (low-writers xs l.1))
 
--- a number of the table: none, one, or more
-pub tally : ℕ → List Placed → ℕ
+-- a writer of the table, after more
+pub tally : Writer → List Placed → Writer
 tally s [] = s
-tally s (w ∷ ws) = tally (cond (eqb s 0) (pack w) 1) ws
+tally s (x ∷ xs) = tally (joined s (one_of x)) xs
 
-pub tally-at : (fs : List Field) (ws : List ℕ) (r : ℕ) → r < length ws → get_or (noted ws fs) r 0 ≡ tally (get_or ws r 0) (writers r fs)
+pub tally-at : (fs : List Field) (ws : List Writer) (r : ℕ) → r < length ws
+    → get_or (noted ws fs) r w.Nothing ≡ tally (get_or ws r w.Nothing) (writers r fs)
 unfolding noted writers tally note
 tally-at [] ws r h = refl
-tally-at (f ∷ fs) ws r h = by (tally-at fs (note ws f.reg (pack f.at)) r (rw (length-note ws f.reg (pack f.at)) h)) (cases (eqb f.reg r))
+tally-at (f ∷ fs) ws r h = by (tally-at fs (note ws f.reg (one_of f.at)) r (rw (length-note ws f.reg (one_of f.at)) h)) (cases (eqb f.reg r))
   where
-    here : f.reg ≡ r → get_or (note ws f.reg (pack f.at)) r 0 ≡ cond (eqb (get_or ws r 0) 0) (pack f.at) 1
-    here e = rw e (get_or-set_same ws r (cond (eqb (get_or ws r 0) 0) (pack f.at) 1) 0 h)
+    here : f.reg ≡ r → get_or (note ws f.reg (one_of f.at)) r w.Nothing ≡ joined (get_or ws r w.Nothing) (one_of f.at)
+    here e = rw e (get_or-set_same ws r (joined (get_or ws r w.Nothing) (one_of f.at)) w.Nothing h)
 
-    there : (f.reg ≡ r → ⊥) → get_or (note ws f.reg (pack f.at)) r 0 ≡ get_or ws r 0
-    there e = get_or-set_other ws f.reg r (cond (eqb (get_or ws f.reg 0) 0) (pack f.at) 1) 0 (λ i. e (sym i))
+    there : (f.reg ≡ r → ⊥) → get_or (note ws f.reg (one_of f.at)) r w.Nothing ≡ get_or ws r w.Nothing
+    there e = get_or-set_other ws f.reg r (joined (get_or ws f.reg w.Nothing) (one_of f.at)) w.Nothing (λ i. e (sym i))
 
     by :
-        get_or (noted (note ws f.reg (pack f.at)) fs) r 0 ≡ tally (get_or (note ws f.reg (pack f.at)) r 0) (writers r fs)
+        get_or (noted (note ws f.reg (one_of f.at)) fs) r w.Nothing ≡ tally (get_or (note ws f.reg (one_of f.at)) r w.Nothing) (writers r fs)
         → (eqb f.reg r ≡ true) ⊎ (eqb f.reg r ≡ false)
-        → get_or (noted (note ws f.reg (pack f.at)) fs) r 0 ≡ tally (get_or ws r 0) (writers r (f ∷ fs))
-    by e (inl t) = e ∙ ap (λ (n : ℕ). tally n (writers r fs)) (here (eqb-true f.reg r t)) ∙ sym (rw t)
-    by e (inr t) = e ∙ ap (λ (n : ℕ). tally n (writers r fs)) (there (eqb-false f.reg r t)) ∙ sym (rw t)
+        → get_or (noted (note ws f.reg (one_of f.at)) fs) r w.Nothing ≡ tally (get_or ws r w.Nothing) (writers r (f ∷ fs))
+    by e (inl t) = e ∙ ap (λ (n : Writer). tally n (writers r fs)) (here (eqb-true f.reg r t)) ∙ sym (rw t)
+    by e (inr t) = e ∙ ap (λ (n : Writer). tally n (writers r fs)) (there (eqb-false f.reg r t)) ∙ sym (rw t)
 
-tally-many : (ws : List Placed) → tally 1 ws ≡ 1
+tally-many : (xs : List Placed) → tally w.More xs ≡ w.More
 unfolding tally
 tally-many [] = refl
-tally-many (w ∷ ws) = tally-many ws
+tally-many (x ∷ xs) = tally-many xs
 
 -- one writer, judged as the definition does, by a lead that is the same at its block
-module _ (es : List (List ℕ)) (lead : ℕ → ℕ → Bool) (n : ℕ) (few : n ≤ 160) (b k : ℕ)
-    (same : (t : ℕ) → t < n → get_or (reached_from es b) t false ≡ lead b t) where
-  judged-pack : (w : Placed) → w.block < n → judged es (pack w) b k ≡ wrong lead (kind_of w.inst) w.block w.place b k
-  unfolding judged
-  judged-pack w h =
-      let m = kind-most w.inst in
-      let x : (pack w - 2) % 32 ≡ kind_of w.inst = omega arith in
-      let u : (pack w - 2) / 32 ≡ w.block + 256 * w.place = omega arith in
-      let y : (w.block + 256 * w.place) % 256 ≡ w.block = omega arith in
-      let z : (w.block + 256 * w.place) / 256 ≡ w.place = omega arith in
-      rw (le-ltb (pack w) 2 (omega arith), x, u, y, z, same w.block h)
+module _ (m : Leading) (lead : ℕ → ℕ → Bool) (n k : ℕ) (same : (t : ℕ) → t < n → get_or m.marks t false ≡ lead m.block t) where
+  judged-one : (x : Placed) → x.block < n → judged m (one_of x) k ≡ wrong lead (kind_of x.inst) x.block x.place m.block k
+  judged-one x h = rw (kind-again x.inst, same x.block h)
 
-  judged-tally : (ws : List Placed) → Low n ws → judged es (tally 0 ws) b k ≡ only_one (λ w. wrong lead (kind_of w.inst) w.block w.place b k) ws
+  judged-tally : (xs : List Placed) → Low n xs → judged m (tally w.Nothing xs) k ≡ only_one (λ x. wrong lead (kind_of x.inst) x.block x.place m.block k) xs
   unfolding tally Low
-  judged-tally [] l = sym (judged-none es 0 b k (omega arith))
-  judged-tally (w ∷ []) l = judged-pack w l.0
-  judged-tally (w ∷ v ∷ ws) l =
-      let e : eqb (pack w) 0 ≡ false = ne_eqb (pack w) 0 (λ i. omega arith) in
-      ap (λ (t : Bool). judged es (tally (cond t (pack v) 1) ws) b k) e
-      ∙ ap (λ (m : ℕ). judged es m b k) (tally-many ws)
-      ∙ sym (judged-none es 1 b k (omega arith))
+  judged-tally [] l = refl
+  judged-tally (x ∷ []) l = judged-one x l.0
+  judged-tally (x ∷ y ∷ xs) l = ap (λ (v : Writer). judged m v k) (tally-many xs)
 
 -- the table of a procedure's writers tells which reads offend
 module _
-    (p : Procedure) (es : List (List ℕ)) (ws : List ℕ) (few : length p.blocks ≤ 160)
+    (p : Procedure) (es : List (List ℕ)) (ws : List Writer) (few : length p.blocks ≤ 160)
     (same : (a t : ℕ) → t < length p.blocks → get_or (reached_from es a) t false ≡ leads p a t)
-    (table : (r : ℕ) → r < length p.registers → get_or ws r 0 ≡ tally 0 (writers r (written (placed p))))
+    (table : (r : ℕ) → r < length p.registers → get_or ws r w.Nothing ≡ tally w.Nothing (writers r (written (placed p))))
   where
-    offence-is : (f : Field) → offence es (length p.registers) ws f.reg f.at.block f.at.place ≡ offends p f
+    offence-is : (f : Field) → offence (leading es f.at.block) (length p.registers) ws f.reg f.at.place ≡ offends p f
     unfolding offence offends
     offence-is f = ⊎_elim is (λ (e : ltb f.reg (length p.registers) ≡ false). rw e) (cases (ltb f.reg (length p.registers)))
       where
@@ -152,39 +144,41 @@ module _
 
         is :
             there ≡ true
-            → (there && judged es (get_or ws f.reg 0) f.at.block f.at.place) ≡ (there && only_one (λ w. wrong_for (leads p) w f.at) ones)
+            → (there && judged (leading es f.at.block) (get_or ws f.reg w.Nothing) f.at.place) ≡ (there && only_one (λ w. wrong_for (leads p) w f.at) ones)
         is e =
             ap (λ (b : Bool). there && b)
-            (ap (λ (n : ℕ). judged es n f.at.block f.at.place) (table f.reg (ltb-true f.reg (length p.registers) e))
-            ∙ judged-tally es (leads p) (length p.blocks) few f.at.block f.at.place (same f.at.block) ones
+            (ap (λ (n : Writer). judged (leading es f.at.block) n f.at.place) (table f.reg (ltb-true f.reg (length p.registers) e))
+            ∙ judged-tally (leading es f.at.block) (leads p) (length p.blocks) f.at.place (same f.at.block) ones
             (low-writers (length p.blocks) f.reg (placed p) (low-from (length p.blocks) 0 p.blocks (omega arith))))
 
-    judged-regs : (fs : List Field) (s : Tidiness) → judged_all es (length p.registers) ws s fs ≡ lowered s (regs_of (offends p) fs)
+    judged-regs : (fs : List Field) (s : Option Reg) → judged_all es (length p.registers) ws s fs ≡ lowered s (regs_of (offends p) fs)
     unfolding judged_all lowered regs_of step
     judged-regs [] s = refl
     judged-regs (f ∷ fs) s = by (offends p f) (offence-is f) (judged-regs fs)
       where
         by :
-            (b : Bool) → offence es (length p.registers) ws f.reg f.at.block f.at.place ≡ b
-            → ((t : Tidiness) → judged_all es (length p.registers) ws t fs ≡ lowered t (regs_of (offends p) fs))
+            (b : Bool) → offence (leading es f.at.block) (length p.registers) ws f.reg f.at.place ≡ b
+            → ((t : Option Reg) → judged_all es (length p.registers) ws t fs ≡ lowered t (regs_of (offends p) fs))
             → judged_all es (length p.registers) ws
-            (cond (offence es (length p.registers) ws f.reg f.at.block f.at.place) (lower s f.reg) s) fs
+            (cond (offence (leading es f.at.block) (length p.registers) ws f.reg f.at.place) (Some (record { 0 = lower s f.reg })) s) fs
             ≡ lowered s (cond b (f.reg ∷ regs_of (offends p) fs) (regs_of (offends p) fs))
-        by true e more = ap (λ (b : Bool). judged_all es (length p.registers) ws (cond b (lower s f.reg) s) fs) e ∙ more (lower s f.reg)
-        by false e more = ap (λ (b : Bool). judged_all es (length p.registers) ws (cond b (lower s f.reg) s) fs) e ∙ more s
+        by true e more =
+            ap (λ (b : Bool). judged_all es (length p.registers) ws (cond b (Some (record { 0 = lower s f.reg })) s) fs) e
+            ∙ more (Some (record { 0 = lower s f.reg }))
+        by false e more = ap (λ (b : Bool). judged_all es (length p.registers) ws (cond b (Some (record { 0 = lower s f.reg })) s) fs) e ∙ more s
 
-    lowered-lowest : (r : ℕ) (rs : List ℕ) → lowered (told 0 0 0 r) rs ≡ told 0 0 0 (lowest r rs)
+    lowered-lowest : (r : ℕ) (rs : List ℕ) → lowered (Some (record { 0 = r })) rs ≡ Some (record { 0 = lowest r rs })
     unfolding lowered lower
     lowered-lowest r [] = refl
     lowered-lowest r (q ∷ rs) = lowered-lowest (min r q) rs
 
-    lowered-verdict : (rs : List ℕ) → lowered (told 0 0 1 0) rs ≡ verdict rs
+    lowered-all : (rs : List ℕ) → lowered None rs ≡ lowest_of rs
     unfolding lowered lower
-    lowered-verdict [] = refl
-    lowered-verdict (r ∷ rs) = lowered-lowest r rs
+    lowered-all [] = refl
+    lowered-all (r ∷ rs) = lowered-lowest r rs
 
-    pub answer-is : judged_all es (length p.registers) ws (told 0 0 1 0) (reads p.operands (placed p)) ≡ verdict (offenders p)
-    answer-is = judged-regs (reads p.operands (placed p)) (told 0 0 1 0) ∙ lowered-verdict (offenders p)
+    pub answer-is : judged_all es (length p.registers) ws None (reads p.operands (placed p)) ≡ lowest_of (offenders p)
+    answer-is = judged-regs (reads p.operands (placed p)) None ∙ lowered-all (offenders p)
 
 -- a field is one of some
 abbrev pub Among : Field → List Field → Type 0

@@ -2,12 +2,11 @@
 use Prim.Native.Nat.{ℕ}
 use mathlib.Core.Path.{◌≡◌, refl}
 use mathlib.Core.List.{List, [], ◌∷◌, map}
-use mathlib.Core.Option.{none}
+use Rattle.std.proofs.Common.{Some, None}
 use lib.ListN.{replicate}
 use Rattle.codec.specs.Codec.{reg_of, block_of, regs_of as list_of}
 use Rattle.inst.specs.declared.Inst.{Inst}
 use Rattle.inst.specs.declared.Inst.TheVariants as i
-use Rattle.inst.specs.declared.OptReg.TheVariants as o
 use Rattle.inst.specs.declared.AddrSpace.TheVariants as s
 use Rattle.read.proofs.Table.{P7}
 use Rattle.procedure.specs.Procedure.{Procedure}
@@ -22,7 +21,7 @@ blocks bs = record {
   registers = replicate 10 0;
   blocks = map
       (map (λ x. record { inst = x; stmt = record { 0 = 0 } })) bs;
-  body = none;
+  body = None;
   operands = 5 ∷ [];
   tables = [];
 }
@@ -37,7 +36,7 @@ br : ℕ → Inst
 br t = i.Br (block_of t)
 
 ret : ℕ → Inst
-ret r = i.Ret (o.Some (reg_of r))
+ret r = i.Ret (Some (reg_of r))
 
 -- read later in its block; nothing writes 1
 read-later : offenders (blocks ((move 3 1 ∷ ret 3 ∷ []) ∷ [])) ≡ []
@@ -55,7 +54,7 @@ unfolding blocks move ret placed_in placed_from written reads writers offends re
 read_early = refl
 
 -- a list operand is read
-read-in-list : offenders (blocks ((i.CallNative 0 (list_of 0 1) o.None ∷ move 5 1 ∷ ret 1 ∷ []) ∷ [])) ≡ 5 ∷ []
+read-in-list : offenders (blocks ((i.CallNative 0 (list_of 0 1) None ∷ move 5 1 ∷ ret 1 ∷ []) ∷ [])) ≡ 5 ∷ []
 unfolding blocks move ret placed_in placed_from written reads writers offends regs_of
 read-in-list = refl
 

@@ -3,7 +3,6 @@ pub mod Fields
 pub mod Ending
 pub mod Edges
 pub mod Marks
-pub mod Judging
 pub mod Verdicts
 pub mod Answers
 pub mod Accepted

@@ -3,10 +3,8 @@ use Prim.Native.Nat.{ℕ, ◌+◌, ◌-◌, ◌≤◌, ◌<◌}
 use native.Mathlib.Numerals.{add-one}
 use native.Mathlib.Omega.{arith}
 use mathlib.Core.Path.{◌≡◌, refl, sym, ap, ◌∙◌}
-use mathlib.Core.Bool.{cond}
 use mathlib.Core.List.{List, [], ◌∷◌, ◌++◌, map, append_assoc}
-use borrow.Author.Tests.{eq-eqb, ne_eqb}
-use lib.Dec.{eqb}
+use Rattle.general.proofs.Lists.{get_d_any}
 use lib.ListN.{length, get_or, set, drop, length-set, length-map, get_or-map, drop_of_length-le}
 use lib.Seq.{drop-cons, set_out}
 use Rattle.records.specs.declared.Record.{Record}
@@ -16,51 +14,61 @@ use Rattle.read.specs.Work.{part}
 use Rattle.read.proofs.Laws.{part_length, part_at, code-part}
 use Rattle.inst.specs.declared.Code.{Code}
 use Rattle.codec.specs.Codec.{code_of, inst_of}
-use Rattle.roles.specs.Roles.{defs_of, reads_of}
+use Rattle.inst.specs.declared.Reg.{Reg}
+use Rattle.roles.specs.Roles.{defs_of, reads_of, numbers_of, reg_of}
+use Rattle.roles.proofs.Laws.{numbers-length, number_at}
 use Rattle.tidy.specs.Tidy.{Placed, Field, placed_in, placed_from, fields_at, written, reads}
-use Rattle.tidy.specs.Work.Writers.{pack, note, notes, noted}
-use Rattle.tidy.specs.Work.Parts.{placed_at, block_records, block_code, Fit}
+use Rattle.tidy.specs.declared.writers.Writer.{Writer}
+use Rattle.tidy.specs.declared.writers.Writer.TheVariants as w
+use Rattle.tidy.specs.Work.Writers.{one_of, joined, note, notes, noted}
+use Rattle.tidy.specs.Work.Parts.{placed_at, block_records, block_code, Fit, BlockPart}
 
 -- one writer more
-module _ (ws : List ℕ) (r v : ℕ) where
+module _ (ws : List Writer) (r : ℕ) (v : Writer) where
   pub note_out : length ws ≤ r → ws ≡ note ws r v
   unfolding note
-  note_out h = sym (set_out ws r (cond (eqb (get_or ws r 0) 0) v 1) h)
+  note_out h = sym (set_out ws r (joined (get_or ws r w.Nothing) v) h)
 
-  pub note_first : get_or ws r 0 ≡ 0 → set ws r v ≡ note ws r v
+  pub note_in : (d : Writer) → r < length ws → {x : Writer} → x ≡ joined (get_or ws r d) v → set ws r x ≡ note ws r v
   unfolding note
-  note_first e = sym (rw (eq-eqb (get_or ws r 0) 0 e))
-
-  pub note_again : (get_or ws r 0 ≡ 0 → ⊥) → set ws r 1 ≡ note ws r v
-  unfolding note
-  note_again e = sym (rw (ne_eqb (get_or ws r 0) 0 e))
+  note_in d h e = ap (set ws r) (e ∙ ap (λ (x : Writer). joined x v) (get_d_any ws r d w.Nothing h))
 
   pub length-note : length (note ws r v) ≡ length ws
   unfolding note
-  length-note = length-set ws r (cond (eqb (get_or ws r 0) 0) v 1)
+  length-note = length-set ws r (joined (get_or ws r w.Nothing) v)
 
-pub length-noted : (fs : List Field) (ws : List ℕ) → length (noted ws fs) ≡ length ws
+pub length-noted : (fs : List Field) (ws : List Writer) → length (noted ws fs) ≡ length ws
 unfolding noted
 length-noted [] ws = refl
-length-noted (f ∷ fs) ws = length-noted fs (note ws f.reg (pack f.at)) ∙ length-note ws f.reg (pack f.at)
+length-noted (f ∷ fs) ws = length-noted fs (note ws f.reg (one_of f.at)) ∙ length-note ws f.reg (one_of f.at)
 
-pub notes-step : (ws : List ℕ) (v : ℕ) (l : List ℕ) (j : ℕ) → j < length l → notes (note ws (get_or l j 0) v) v (drop (j + 1) l) ≡ notes ws v (drop j l)
+pub notes-step : (ws : List Writer) (v : Writer) (l : List ℕ) (j : ℕ) → j < length l → notes (note ws (get_or l j 0) v) v (drop (j + 1) l) ≡ notes ws v (drop j l)
 unfolding notes
 notes-step ws v l j h = rw (add-one j) (sym (ap (notes ws v) (drop-cons l j 0 h)))
 
-pub notes-end : (ws : List ℕ) (v : ℕ) (l : List ℕ) (j : ℕ) → length l ≤ j → ws ≡ notes ws v (drop j l)
+-- one register more
+pub notes-more :
+    (ws : List Writer) (v : Writer) (l : List Reg) (j : ℕ) → j < length l → {us : List Writer} → us ≡ note ws (get_or l j (reg_of 0)).0 v
+    → (length us ≡ length ws) × (notes us v (drop (j + 1) (numbers_of l)) ≡ notes ws v (drop j (numbers_of l)))
+notes-more ws v l j h e =
+    let i = e ∙ ap (λ (r : ℕ). note ws r v) (sym (number_at l j 0)) in (
+      ap length i ∙ length-note ws (get_or (numbers_of l) j 0) v,
+      ap (λ (us : List Writer). notes us v (drop (j + 1) (numbers_of l))) i ∙ notes-step ws v (numbers_of l) j (rw (numbers-length l) h),
+    )
+
+pub notes-end : (ws : List Writer) (v : Writer) (l : List ℕ) (j : ℕ) → length l ≤ j → ws ≡ notes ws v (drop j l)
 unfolding notes
 notes-end ws v l j h = sym (ap (notes ws v) (drop_of_length-le l h))
 
-pub notes-noted : (ws : List ℕ) (x : Placed) (rs : List ℕ) → notes ws (pack x) rs ≡ noted ws (fields_at x rs)
+pub notes-noted : (ws : List Writer) (x : Placed) (rs : List ℕ) → notes ws (one_of x) rs ≡ noted ws (fields_at x rs)
 unfolding notes noted
 notes-noted ws x [] = refl
-notes-noted ws x (r ∷ rs) = notes-noted (note ws r (pack x)) x rs
+notes-noted ws x (r ∷ rs) = notes-noted (note ws r (one_of x)) x rs
 
-pub noted-append : (fs gs : List Field) (ws : List ℕ) → noted ws (fs ++ gs) ≡ noted (noted ws fs) gs
+pub noted-append : (fs gs : List Field) (ws : List Writer) → noted ws (fs ++ gs) ≡ noted (noted ws fs) gs
 unfolding noted
 noted-append [] gs ws = refl
-noted-append (f ∷ fs) gs ws = noted-append fs gs (note ws f.reg (pack f.at))
+noted-append (f ∷ fs) gs ws = noted-append fs gs (note ws f.reg (one_of f.at))
 
 pub written-append : (xs ys : List Placed) → written (xs ++ ys) ≡ written xs ++ written ys
 unfolding written
@@ -101,7 +109,7 @@ unfolding placed_from
 from_end f l k h = ap (placed_from k) (drop_of_length-le (map f l) {i = k} (rw (length-map l f) h))
 
 -- the table after one more, in a block and block by block
-module _ (ws : List ℕ) where
+module _ (ws : List Writer) where
   pub noted-inst :
       (l : List Record) (b k : ℕ) → k < length l
       → noted (noted ws (fields_at (placed_at b k (get_or l k blank)) (defs_of (inst_of (get_or l k blank)))))
@@ -114,13 +122,13 @@ module _ (ws : List ℕ) where
 
   -- the instruction was read from the file
   pub noted-next :
-      (rs : List Record) (first count : ℕ) → first + count ≤ length rs → (b k : ℕ) {w : List ℕ} → k < count
-      → w ≡ noted ws (fields_at (placed_at b k (get_or rs (first + k) blank)) (defs_of (inst_of (get_or rs (first + k) blank))))
-      → noted w (written (placed_in b (k + 1) (drop (k + 1) (map code_of (part first count rs)))))
+      (rs : List Record) (first count : ℕ) → first + count ≤ length rs → (b k : ℕ) {u : List Writer} → k < count
+      → u ≡ noted ws (fields_at (placed_at b k (get_or rs (first + k) blank)) (defs_of (inst_of (get_or rs (first + k) blank))))
+      → noted u (written (placed_in b (k + 1) (drop (k + 1) (map code_of (part first count rs)))))
       ≡ noted ws (written (placed_in b k (drop k (map code_of (part first count rs)))))
   noted-next rs first count h b k i e =
       let l = part first count rs in
-      ap (λ (u : List ℕ). noted u (written (placed_in b (k + 1) (drop (k + 1) (map code_of l)))))
+      ap (λ (u : List Writer). noted u (written (placed_in b (k + 1) (drop (k + 1) (map code_of l)))))
       (e ∙ ap (λ (r : Record). noted ws (fields_at (placed_at b k r) (defs_of (inst_of r)))) (sym (part_at rs first count h k i)))
       ∙ noted-inst l b k (rw (part_length rs first count h) i)
 
@@ -159,3 +167,10 @@ module _ {rs : List Record} {l : Layout} (h : Fit rs l) where
       let z = block_in k i e in
       ap (map code_of) (code-part rs l.code (l.operands - l.code) r z.0 z.1)
       ∙ ap (block_code rs l) (block-at k i e)
+
+  pub block_part :
+      (k : ℕ) {r : Record} → k < l.bodies - l.blocks → r ≡ get_or rs (l.blocks + k) blank
+      → BlockPart rs l k (l.code + r.p1) (r.p2 - r.p1)
+  block_part k i e =
+      let z = block_in k i e in
+      record { some = omega arith; few = omega arith; within = omega arith; code = block-code k i e }

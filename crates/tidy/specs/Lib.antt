@@ -1,2 +1,3 @@
 pub mod Tidy
+pub mod Told
 pub mod Work

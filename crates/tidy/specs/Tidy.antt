@@ -9,7 +9,6 @@ use Rattle.roles.specs.Roles.{defs_of, reads_of}
 use Rattle.procedure.specs.Procedure.{Procedure, procedure_of}
 use Rattle.ends.specs.Ends.{end_of, targets}
 use Rattle.paths.specs.Paths.{Leads, reached_from}
-use Rattle.tidy.specs.declared.Tidiness.{Tidiness}
 
 -- an instruction, its block, and its place in that block
 pub record Placed : Type 0 where
@@ -103,6 +102,13 @@ offenders p = regs_of (offends p) (reads p.operands (placed p))
 
 abbrev pub Tidy : Procedure → Type 0
 Tidy p = offenders p ≡ []
+
+-- Read's number and place; then 1 if the file is tidy, or 0 and the lowest offending register
+pub record Tidiness : Type 0 where
+  pub number : ℕ
+  pub place : ℕ
+  pub tidy : ℕ
+  pub reg : ℕ
 
 abbrev pub told : ℕ → ℕ → ℕ → ℕ → Tidiness
 told number place tidy reg = record { number = number; place = place; tidy = tidy; reg = reg }

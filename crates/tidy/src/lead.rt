@@ -1,38 +1,74 @@
 ghost use Rattle.std.specs.Prelude.{◌≡◌, false, ◌<◌, length, get_or};
 ghost use Rattle.paths.specs.Paths.{reached_from};
-ghost use Rattle.search.specs.Search.{clear};
-ghost use Rattle.tidy.specs.Work.Marks.{edges_in, Kept};
+ghost use Rattle.tidy.specs.Work.Marks.{edges_in, leading};
 
+use crate::targets::Targets;
 use inst::BlockId;
+use search::Search;
+use std::marker::Model;
 
-// Marks a block and the blocks that it leads to.
-fn reach(targets: &[u32; 320], from: BlockId, marks: &mut [bool; 160])
-    requires { (from.0 < 160) × (length targets.now ≡ 320) × (marks.old ≡ clear) }
-    ensures { marks.new ≡ reached_from (edges_in targets.now) from.0 }
-{
-    let mut stack = [0u32; 160];
-    let mut top = search::push(marks, &mut stack, 0, 160, from);
-    while 0 < top {
-        let b = stack[top - 1] as usize;
-        top = search::push(marks, &mut stack, top - 1, 160, BlockId(targets[2 * b]));
-        top = search::push(marks, &mut stack, top, 160, BlockId(targets[2 * b + 1]));
-    }
+// A block, and the marks of the blocks that it leads to: they are made once, when first needed.
+#[derive(Drop)]
+pub struct Lead<'a> {
+    targets: &'a [Targets; 160],
+    block: BlockId,
+    marks: Option<[bool; 160]>,
 }
 
-// Whether a block leads to another. The blocks that it leads to are marked once, when first needed.
-pub fn leads(targets: &[u32; 320], marks: &mut [bool; 160], from: BlockId, to: BlockId) -> bool
-    requires { Kept targets.now from.0 marks.old }
-    ensures kept { Kept targets.now from.0 marks.new }
-    ensures value { result ≡ get_or (reached_from (edges_in targets.now) from.0) to.0 false }
+impl<'a> Model for Lead<'a> {
+    ghost use Rattle.tidy.specs.Work.Marks.{edges_in, Leading, leading, Kept};
+
+    ghost Value = { Leading };
+
+    ghost view = { λ s. leading (edges_in s.targets.now) s.block.0 };
+
+    ghost invariant = { λ s. Kept s.targets.now s.block.0 s.marks };
+}
+
+// The marks of a block and the blocks that it leads to.
+fn reach(targets: &[Targets; 160], from: BlockId) -> [bool; 160]
+    requires { (from.0 < 160) × (length targets.now ≡ 160) }
+    ensures { result ≡ reached_from (edges_in targets.now) from.0 }
 {
-    let t = to.0 as usize;
-    if 160 <= t {
-        return false;
+    let mut s = Search::new(160);
+    s.push(from);
+    while let Some(b) = s.pop() {
+        let t = targets[b.0 as usize];
+        s.push(t.one);
+        s.push(t.two);
     }
-    let a = from.0 as usize;
-    if marks[a] {
-        return marks[t];
+    *s.marks()
+}
+
+impl<'a> Lead<'a> {
+    pub fn new(targets: &'a [Targets; 160], block: BlockId) -> Lead<'a>
+        requires { (block.0 < 160) × (length targets.now ≡ 160) }
+        ensures { result ≡ leading (edges_in targets.now) block.0 }
+    {
+        Lead {
+            targets,
+            block,
+            marks: None,
+        }
     }
-    reach(targets, from, marks);
-    marks[t]
+
+    pub fn block(&self) -> BlockId
+        ensures { result.0 ≡ self.now.block }
+    {
+        self.block
+    }
+
+    // Whether the block leads to another.
+    pub fn leads(&mut self, to: BlockId) -> bool
+        ensures kept { self.new ≡ self.old }
+        ensures value { result ≡ get_or self.old.marks to.0 false }
+    {
+        let t = to.0 as usize;
+        if let Some(m) = &self.marks {
+            return t < 160 && m[t];
+        }
+        let m = reach(self.targets, self.block);
+        self.marks = Some(m);
+        t < 160 && m[t]
+    }
 }

@@ -3,58 +3,48 @@
 
 ghost use Rattle.std.specs.Prelude.{◌≡◌};
 ghost use Rattle.records.specs.Record.{records_of};
-ghost use Rattle.read.specs.Work.{LaidOut};
 ghost use Rattle.procedure.specs.Procedure.{procedure_of};
-ghost use Rattle.tidy.specs.Tidy.{offenders, verdict, tidiness};
-ghost use Rattle.tidy.specs.Work.Parts.{Fit};
+ghost use Rattle.tidy.specs.Tidy.{offenders, tidiness};
+ghost use Rattle.tidy.specs.Told.{tidiness_of};
+ghost use Rattle.tidy.specs.Work.Reads.{lowest_of};
 
-use layout::Layout;
+use file::File;
+use inst::{BlockId, Reg};
+use read::Refusal;
+use reads::Reads;
+use targets::Targets;
+use writers::Writer;
 
+mod file;
 mod lead;
 mod reads;
 mod targets;
 mod writers;
 
-// The answer of Tidy: Read's number and place; then 1 if the file is tidy, or 0 and the lowest
-// offending register.
-#[derive(Clone, Copy)]
-pub struct Tidiness {
-    pub number: u32,
-    pub place: u32,
-    pub tidy: u32,
-    pub reg: u32,
-}
-
-fn judge(b: &[u8], l: Layout) -> Tidiness
-    requires { LaidOut (records_of b.now) l × Fit (records_of b.now) l }
-    ensures { result ≡ verdict (offenders (procedure_of (records_of b.now))) }
+fn judge(f: File) -> Option<Reg>
+    ensures { result ≡ lowest_of (offenders (procedure_of (records_of f.entry.b.now))) }
 {
-    let mut ws = [0u32; 756];
-    writers::note_blocks(b, l, &mut ws);
-    let mut targets = [160u32; 320];
-    targets::note_targets(b, l, &mut targets);
-    let s = Tidiness {
-        number: 0,
-        place: 0,
-        tidy: 1,
-        reg: 0,
+    let mut ws = [Writer::Nothing; 756];
+    writers::note_blocks(f, &mut ws);
+    let none = BlockId(160);
+    let mut targets = [Targets {
+        one: none,
+        two: none,
+    }; 160];
+    targets::note_targets(f, &mut targets);
+    let r = Reads {
+        f,
+        ws: &ws,
+        targets: &targets,
     };
-    reads::read_blocks(b, l, &ws, &targets, s)
+    r.read_blocks()
 }
 
-// Whether a file is tidy.
-pub fn tidy(b: &[u8]) -> Tidiness
-    ensures { result ≡ tidiness b.now }
+// The lowest offending register, or none if the file is tidy.
+pub fn tidy(b: &[u8]) -> Result<Option<Reg>, Refusal>
+    ensures { tidiness_of result ≡ tidiness b.now }
 {
-    let r = read::read(b);
-    if r.number != 0 {
-        return Tidiness {
-            number: r.number,
-            place: r.place,
-            tidy: 0,
-            reg: 0,
-        };
-    }
+    read::read(b)?;
     let l = parts::starts(b);
-    judge(b, l)
+    Ok(judge(File { b, l }))
 }

@@ -1,82 +1,89 @@
-ghost use Rattle.std.specs.Prelude.{◌≡◌, map, ◌+◌, ◌≤◌, ◌<◌, length, take};
+ghost use Rattle.std.specs.Prelude.{◌≡◌, map, ◌+◌, ◌≤◌, ◌<◌, length};
 ghost use Rattle.records.specs.Record.{records_of};
 ghost use Rattle.read.specs.Work.{part};
 ghost use Rattle.codec.specs.Codec.{code_of};
 ghost use Rattle.roles.specs.Roles.{numbers_of};
 ghost use Rattle.tidy.specs.Tidy.{placed_in, placed_from, written};
-ghost use Rattle.tidy.specs.Work.Parts.{blocks_in, Fit};
-ghost use Rattle.tidy.specs.Work.Writers.{note, notes, noted, written_at};
+ghost use Rattle.tidy.specs.Work.Parts.{blocks_in};
+ghost use Rattle.tidy.specs.Work.Writers.{joined, note, notes, noted, written_at};
 
-use inst::{BlockId, Reg};
-use layout::Layout;
-use roles::Roles;
+use crate::file::{File, Part};
+use inst::{BlockId, Kind, Reg};
 
-// Adds a writer of r: the first is kept, a second leaves 1.
-fn note_write(ws: &mut [u32], r: Reg, v: u32)
-    ensures { ws.new ≡ note ws.old r.0 v }
+// A place of the code: a block, and an instruction of it.
+#[derive(Clone, Copy)]
+struct At {
+    block: BlockId,
+    place: u32,
+}
+
+// What writes a register: nothing, one register field of an instruction, or more.
+#[derive(Clone, Copy)]
+pub enum Writer {
+    Nothing,
+    One { kind: Kind, block: u8, place: u16 },
+    More,
+}
+
+impl Writer {
+    // With one more.
+    fn with(self, one: Writer) -> Writer
+        ensures { result ≡ joined self one }
+    {
+        match self {
+            Writer::Nothing => one,
+            Writer::One { .. } | Writer::More => Writer::More,
+        }
+    }
+}
+
+// Adds a writer of r.
+#[tactic(auto, using(crate::proofs::Tables::note_out, crate::proofs::Tables::note_in))]
+fn note_write(ws: &mut [Writer], r: Reg, one: Writer)
+    ensures { ws.new ≡ note ws.old r.0 one }
 {
     let k = r.0 as usize;
-    if ws.len() <= k {
-        return;
-    }
-    if ws[k] == 0 {
-        ws[k] = v;
-        return;
-    }
-    ws[k] = 1;
-}
-
-fn note_defs(ws: &mut [u32], roles: Roles, v: u32)
-    requires { (roles.defs ≤ 5) × (length roles.reg ≡ 5) }
-    ensures { ws.new ≡ notes ws.old v (take roles.defs (numbers_of roles.reg)) }
-{
-    let reg = roles.reg;
-    let defs = roles.defs;
-    let mut j = 0;
-    while j < defs {
-        let r = reg[j];
-        note_write(ws, r, v);
-        j += 1;
+    if k < ws.len() {
+        ws[k] = ws[k].with(one);
     }
 }
 
-fn note_inst(b: &[u8], at: usize, block: BlockId, place: u32, ws: &mut [u32])
-    requires { (block.0 < 160) × (place ≤ 2048) }
-    ensures { ws.new ≡ noted ws.old (written_at b.now at block.0 place) }
+fn note_defs(ws: &mut [Writer], written: &[Reg], one: Writer)
+    ensures { ws.new ≡ notes ws.old one (numbers_of written.now) }
 {
-    let i = ends::inst_at(b, at);
-    let v = 2 + (inst::kind(i) + 32 * (block.0 + 256 * place));
-    note_defs(ws, roles::roles_of(i), v);
+    for r in written {
+        note_write(ws, *r, one);
+    }
 }
 
-fn note_block(b: &[u8], first: usize, count: usize, block: BlockId, ws: &mut [u32])
-    requires { (first + count ≤ length (records_of b.now)) × (count ≤ 2048) × (block.0 < 160) }
-    ensures { ws.new ≡ noted ws.old (written (placed_in block.0 0 (map code_of (part first count (records_of b.now))))) }
+fn note_inst(b: &[u8], k: usize, at: At, ws: &mut [Writer])
+    requires { (at.block.0 < 160) × (at.place ≤ 2048) }
+    ensures { ws.new ≡ noted ws.old (written_at b.now k at.block.0 at.place) }
 {
-    let mut k = 0;
-    while k < count {
-        note_inst(b, first + k, block, k as u32, ws);
-        k += 1;
+    let i = ends::inst_at(b, k);
+    let one = Writer::One {
+        kind: i.kind(),
+        block: at.block.0 as u8,
+        place: at.place as u16,
+    };
+    note_defs(ws, roles::roles_of(i).written(), one);
+}
+
+fn note_block(b: &[u8], p: Part, block: BlockId, ws: &mut [Writer])
+    requires { (p.first + p.count ≤ length (records_of b.now)) × (p.count ≤ 2048) × (block.0 < 160) }
+    ensures { ws.new ≡ noted ws.old (written (placed_in block.0 0 (map code_of (part p.first p.count (records_of b.now))))) }
+{
+    for k in 0..p.count {
+        let place = k as u32;
+        note_inst(b, p.first + k, At { block, place }, ws);
     }
 }
 
 // The writers of all registers.
-pub fn note_blocks(b: &[u8], l: Layout, ws: &mut [u32])
-    requires { Fit (records_of b.now) l }
-    ensures { ws.new ≡ noted ws.old (written (placed_from 0 (blocks_in (records_of b.now) l))) }
+pub fn note_blocks(f: File, ws: &mut [Writer])
+    ensures { ws.new ≡ noted ws.old (written (placed_from 0 (blocks_in (records_of f.entry.b.now) f.entry.l))) }
 {
-    let count = l.bodies - l.blocks;
-    let mut k = 0;
-    while k < count {
-        let r = records::record_at(b, l.blocks + k);
-        let start = r.p1 as usize;
-        note_block(
-            b,
-            l.code + start,
-            r.p2 as usize - start,
-            BlockId(k as u32),
-            ws,
-        );
-        k += 1;
+    for k in 0..f.blocks() {
+        note_block(f.b, f.part(k), BlockId(k as u32), ws);
     }
 }

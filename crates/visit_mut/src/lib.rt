@@ -2,22 +2,20 @@
 #![tactic(auto)]
 
 ghost use Rattle.std.specs.Prelude.{◌≡◌, ℕ};
-ghost use Rattle.roles.specs.Exchange.{over, over_optional, bool_second, check_low, check_high, exchanged, through, written, first_pairs};
+ghost use Rattle.roles.specs.Exchange.{over, bool_second, check_low, check_high, exchanged, through, written};
+ghost use Rattle.roles.specs.Work.{Maps};
+ghost use Rattle.visit_mut.specs.Pairs.{pairs_in};
 
-use inst::{BoolOp, CheckKind, Inst, OptReg, Reg};
+use inst::{BoolOp, CheckKind, Inst, Reg};
 
-// The new number of a register, by the first of n pairs (old, new) that has it; n is at most four.
-fn read_as(r: Reg, from: [Reg; 4], to: [Reg; 4], n: usize) -> Reg
-    ensures { result ≡ over (through (first_pairs n from to)) r }
+// The new number of a register, by the first pair (old, new) that has it.
+fn read_as(r: Reg, pairs: &[(Reg, Reg)]) -> Reg
+    ensures { result ≡ over (through (pairs_in pairs.now)) r }
 {
-    let mut k = 0;
-    while k < n && k < 4 {
-        let old = from[k];
-        let new = to[k];
-        if old.0 == r.0 {
-            return new;
+    for p in pairs {
+        if p.0 == r {
+            return p.1;
         }
-        k += 1;
     }
     r
 }
@@ -25,111 +23,80 @@ fn read_as(r: Reg, from: [Reg; 4], to: [Reg; 4], n: usize) -> Reg
 fn write_as(r: Reg, old: Reg, new: Reg) -> Reg
     ensures { result ≡ over (written old.0 new.0) r }
 {
-    if r.0 == old.0 {
+    if r == old {
         return new;
     }
     r
 }
 
-fn read_optional(v: OptReg, from: [Reg; 4], to: [Reg; 4], n: usize) -> OptReg
-    ensures { result ≡ over_optional (through (first_pairs n from to)) v }
+// The registers that only some ops and kinds read.
+
+fn bool_second<R: Fn(Reg) -> Reg>(op: BoolOp, read: &R, r: Reg) -> Reg
+    requires { R.IsAlwaysCallable read.now }
+    ensures { (σ : ℕ → ℕ) → Maps σ (R.post read.now) → result ≡ bool_second op σ r }
 {
-    match v {
-        OptReg::Some(r) => OptReg::Some(read_as(r, from, to, n)),
-        OptReg::None => OptReg::None,
-    }
+    if op == BoolOp::Not { r } else { read(r) }
 }
 
-fn write_optional(d: OptReg, old: Reg, new: Reg) -> OptReg
-    ensures { result ≡ over_optional (written old.0 new.0) d }
+fn check_low<R: Fn(Reg) -> Reg>(kind: CheckKind, read: &R, r: Reg) -> Reg
+    requires { R.IsAlwaysCallable read.now }
+    ensures { (σ : ℕ → ℕ) → Maps σ (R.post read.now) → result ≡ check_low kind σ r }
 {
-    match d {
-        OptReg::Some(r) => OptReg::Some(write_as(r, old, new)),
-        OptReg::None => OptReg::None,
-    }
+    if kind == CheckKind::Null { r } else { read(r) }
 }
 
-fn bool_second(op: BoolOp, r: Reg, from: [Reg; 4], to: [Reg; 4], n: usize) -> Reg
-    ensures { result ≡ bool_second op (through (first_pairs n from to)) r }
-{
-    match op {
-        BoolOp::And => read_as(r, from, to, n),
-        BoolOp::Or => read_as(r, from, to, n),
-        BoolOp::Xor => read_as(r, from, to, n),
-        BoolOp::Not => r,
-    }
-}
-
-fn check_low(kind: CheckKind, r: Reg, from: [Reg; 4], to: [Reg; 4], n: usize) -> Reg
-    ensures { result ≡ check_low kind (through (first_pairs n from to)) r }
+fn check_high<R: Fn(Reg) -> Reg>(kind: CheckKind, read: &R, r: Reg) -> Reg
+    requires { R.IsAlwaysCallable read.now }
+    ensures { (σ : ℕ → ℕ) → Maps σ (R.post read.now) → result ≡ check_high kind σ r }
 {
     match kind {
-        CheckKind::Range => read_as(r, from, to, n),
-        CheckKind::Index => read_as(r, from, to, n),
-        CheckKind::IndexDown => read_as(r, from, to, n),
-        CheckKind::Length => read_as(r, from, to, n),
-        CheckKind::Null => r,
+        CheckKind::Range | CheckKind::Index | CheckKind::IndexDown => read(r),
+        CheckKind::Length | CheckKind::Null => r,
     }
 }
 
-fn check_high(kind: CheckKind, r: Reg, from: [Reg; 4], to: [Reg; 4], n: usize) -> Reg
-    ensures { result ≡ check_high kind (through (first_pairs n from to)) r }
-{
-    match kind {
-        CheckKind::Range => read_as(r, from, to, n),
-        CheckKind::Index => read_as(r, from, to, n),
-        CheckKind::IndexDown => read_as(r, from, to, n),
-        CheckKind::Length => r,
-        CheckKind::Null => r,
-    }
-}
-
-// An instruction with the registers that it reads replaced by the first n pairs, and `new` for
-// `old` where it writes.
-pub fn exchange(i: Inst, from: [Reg; 4], to: [Reg; 4], n: usize, old: Reg, new: Reg) -> Inst
-    ensures { result ≡ exchanged (through (first_pairs n from to)) (written old.0 new.0) i }
+// An instruction with `read` applied to the registers that it reads, and `write` to those that it writes.
+#[tactic(auto, unfolding(roles::specs::Exchange::exchanged))]
+fn visited<R: Fn(Reg) -> Reg, W: Fn(Reg) -> Reg>(i: Inst, read: R, write: W) -> Inst
+    requires reads { R.IsAlwaysCallable read }
+    requires writes { W.IsAlwaysCallable write }
+    ensures { (σ τ : ℕ → ℕ) → Maps σ (R.post read) → Maps τ (W.post write) → result ≡ exchanged σ τ i }
 {
     match i {
-        Inst::Const { dst, v } => Inst::Const {
-            dst: write_as(dst, old, new),
-            v,
-        },
-        Inst::ConstF { dst, v } => Inst::ConstF {
-            dst: write_as(dst, old, new),
-            v,
-        },
+        Inst::Const { dst, v } => Inst::Const { dst: write(dst), v },
+        Inst::ConstF { dst, v } => Inst::ConstF { dst: write(dst), v },
         Inst::Move { dst, src } => Inst::Move {
-            dst: write_as(dst, old, new),
-            src: read_as(src, from, to, n),
+            dst: write(dst),
+            src: read(src),
         },
         Inst::AddrOf { dst, space, off } => Inst::AddrOf {
-            dst: write_as(dst, old, new),
+            dst: write(dst),
             space,
             off,
         },
         Inst::Select { dst, c, a, b } => Inst::Select {
-            dst: write_as(dst, old, new),
-            c: read_as(c, from, to, n),
-            a: read_as(a, from, to, n),
-            b: read_as(b, from, to, n),
+            dst: write(dst),
+            c: read(c),
+            a: read(a),
+            b: read(b),
         },
         Inst::Cmp { op, dst, a, b } => Inst::Cmp {
             op,
-            dst: write_as(dst, old, new),
-            a: read_as(a, from, to, n),
-            b: read_as(b, from, to, n),
+            dst: write(dst),
+            a: read(a),
+            b: read(b),
         },
         Inst::Bool { op, dst, a, b } => Inst::Bool {
             op,
-            dst: write_as(dst, old, new),
-            a: read_as(a, from, to, n),
-            b: bool_second(op, b, from, to, n),
+            dst: write(dst),
+            a: read(a),
+            b: bool_second(op, &read, b),
         },
         Inst::Bin { op, dst, a, b } => Inst::Bin {
             op,
-            dst: write_as(dst, old, new),
-            a: read_as(a, from, to, n),
-            b: read_as(b, from, to, n),
+            dst: write(dst),
+            a: read(a),
+            b: read(b),
         },
         Inst::BinRange {
             op,
@@ -141,21 +108,21 @@ pub fn exchange(i: Inst, from: [Reg; 4], to: [Reg; 4], n: usize, old: Reg, new: 
             what,
         } => Inst::BinRange {
             op,
-            dst: write_as(dst, old, new),
-            a: read_as(a, from, to, n),
-            b: read_as(b, from, to, n),
-            lo: read_as(lo, from, to, n),
-            hi: read_as(hi, from, to, n),
+            dst: write(dst),
+            a: read(a),
+            b: read(b),
+            lo: read(lo),
+            hi: read(hi),
             what,
         },
         Inst::Load { dst, addr, w } => Inst::Load {
-            dst: write_as(dst, old, new),
-            addr: read_as(addr, from, to, n),
+            dst: write(dst),
+            addr: read(addr),
             w,
         },
         Inst::Store { addr, src, w } => Inst::Store {
-            addr: read_as(addr, from, to, n),
-            src: read_as(src, from, to, n),
+            addr: read(addr),
+            src: read(src),
             w,
         },
         Inst::Check {
@@ -166,18 +133,18 @@ pub fn exchange(i: Inst, from: [Reg; 4], to: [Reg; 4], n: usize, old: Reg, new: 
             what,
         } => Inst::Check {
             kind,
-            v: read_as(v, from, to, n),
-            lo: check_low(kind, lo, from, to, n),
-            hi: check_high(kind, hi, from, to, n),
+            v: read(v),
+            lo: check_low(kind, &read, lo),
+            hi: check_high(kind, &read, hi),
             what,
         },
         Inst::MakeDope { at, parts } => Inst::MakeDope {
-            at: read_as(at, from, to, n),
+            at: read(at),
             parts,
         },
         Inst::DopeLen { dst, dope, dim } => Inst::DopeLen {
-            dst: write_as(dst, old, new),
-            dope: read_as(dope, from, to, n),
+            dst: write(dst),
+            dope: read(dope),
             dim,
         },
         Inst::BoundsLen {
@@ -186,47 +153,45 @@ pub fn exchange(i: Inst, from: [Reg; 4], to: [Reg; 4], n: usize, old: Reg, new: 
             right,
             dir,
         } => Inst::BoundsLen {
-            dst: write_as(dst, old, new),
-            left: read_as(left, from, to, n),
-            right: read_as(right, from, to, n),
-            dir: read_as(dir, from, to, n),
+            dst: write(dst),
+            left: read(left),
+            right: read(right),
+            dir: read(dir),
         },
         Inst::Alloc { dst, size } => Inst::Alloc {
-            dst: write_as(dst, old, new),
-            size: read_as(size, from, to, n),
+            dst: write(dst),
+            size: read(size),
         },
         Inst::TakeBounds { left, right, dir } => Inst::TakeBounds {
-            left: write_as(left, old, new),
-            right: write_as(right, old, new),
-            dir: write_as(dir, old, new),
+            left: write(left),
+            right: write(right),
+            dir: write(dir),
         },
         Inst::CallNative { native, args, dst } => Inst::CallNative {
             native,
             args,
-            dst: write_optional(dst, old, new),
+            dst: dst.map(write),
         },
         Inst::Br { to } => Inst::Br { to },
-        Inst::CondBr { c, t, f } => Inst::CondBr {
-            c: read_as(c, from, to, n),
-            t,
-            f,
-        },
-        Inst::Case { v, table } => Inst::Case {
-            v: read_as(v, from, to, n),
-            table,
-        },
-        Inst::Ret { v } => Inst::Ret {
-            v: read_optional(v, from, to, n),
-        },
+        Inst::CondBr { c, t, f } => Inst::CondBr { c: read(c), t, f },
+        Inst::Case { v, table } => Inst::Case { v: read(v), table },
+        Inst::Ret { v } => Inst::Ret { v: v.map(read) },
         Inst::Unreachable { what } => Inst::Unreachable { what },
         Inst::Stmt => Inst::Stmt,
     }
 }
 
-// visit_mut for what is read: each register is replaced by the first of n pairs (old, new); n is at
-// most four.
-pub fn renamed(i: Inst, from: [Reg; 4], to: [Reg; 4], n: usize) -> Inst
-    ensures { result ≡ exchanged (through (first_pairs n from to)) (λ (r : ℕ). r) i }
+// An instruction with the registers that it reads replaced by some pairs, and `new` for `old` where
+// it writes.
+pub fn exchange(i: Inst, pairs: &[(Reg, Reg)], old: Reg, new: Reg) -> Inst
+    ensures { result ≡ exchanged (through (pairs_in pairs.now)) (written old.0 new.0) i }
 {
-    exchange(i, from, to, n, Reg(0), Reg(0))
+    visited(i, |r| read_as(r, pairs), |r| write_as(r, old, new))
+}
+
+// visit_mut for what is read: each register is replaced by the first of some pairs (old, new).
+pub fn renamed(i: Inst, pairs: &[(Reg, Reg)]) -> Inst
+    ensures { result ≡ exchanged (through (pairs_in pairs.now)) (λ (r : ℕ). r) i }
+{
+    visited(i, |r| read_as(r, pairs), |r| r)
 }

@@ -2,25 +2,18 @@
 #![tactic(auto)]
 
 ghost use Rattle.std.specs.Prelude.{◌≡◌};
-ghost use Rattle.word.specs.Word.{bit as bit_of, choose as chosen, signed as signed_of, ordered as orderedOf, compares as comparesOf, tests as testsOf};
+ghost use Rattle.word.specs.Word.{choose as chosen, signed as signed_of, ordered as orderedOf, compares as comparesOf, tests as testsOf};
 
 use inst::{BoolOp, CmpOp};
 
 // The bit of a word that says whether it is negative: 2^63.
 const SIGN: u64 = 0x8000_0000_0000_0000;
 
-// 1 or 0, by a test.
-fn bit(b: bool) -> u64
-    ensures { result ≡ bit_of b }
-{
-    if b { 1 } else { 0 }
-}
-
-// The signed order of words is the order of these.
+// The signed order of words is the order of these. A cast to i64 is no plainer: Word.signed counts them up from 0.
 fn signed(x: u64) -> u64
     ensures { result ≡ signed_of x }
 {
-    std::num::wrapping_add_u64(x, SIGN)
+    x.wrapping_add(SIGN)
 }
 
 fn ordered(op: CmpOp, x: u64, y: u64) -> bool
@@ -37,10 +30,11 @@ fn ordered(op: CmpOp, x: u64, y: u64) -> bool
 }
 
 // Cmp of two words: 1 or 0 by their signed order. Nothing depends yet on the kinds of their registers.
+#[tactic(auto, unfolding(crate::specs::Word::compares))]
 pub fn compares(kind: u32, other: u32, op: CmpOp, x: u64, y: u64) -> u64
     ensures { result ≡ comparesOf kind other op x y }
 {
-    bit(ordered(op, signed(x), signed(y)))
+    u64::from(ordered(op, signed(x), signed(y)))
 }
 
 // Select: the first of two words if c isn't 0, else the second.
@@ -55,9 +49,9 @@ pub fn tests(op: BoolOp, x: u64, y: u64) -> u64
     ensures { result ≡ testsOf op x y }
 {
     match op {
-        BoolOp::And => choose(x, bit(y != 0), 0),
-        BoolOp::Or => choose(x, 1, bit(y != 0)),
-        BoolOp::Xor => choose(x, bit(y == 0), bit(y != 0)),
-        BoolOp::Not => bit(x == 0),
+        BoolOp::And => u64::from(x != 0 && y != 0),
+        BoolOp::Or => u64::from(x != 0 || y != 0),
+        BoolOp::Xor => u64::from((x != 0) != (y != 0)),
+        BoolOp::Not => u64::from(x == 0),
     }
 }

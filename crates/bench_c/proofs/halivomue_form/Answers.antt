@@ -1,23 +1,25 @@
+use native.Mathlib.Omega.{arith}
 use mathlib.Core.Path.{ap, ◌∙◌}
-use Rattle.steps.specs.declared.Answer.{Answer}
+use Rattle.steps.specs.Shorten.{Answer}
 use Rattle.output.specs.Filed.{outcome}
 use Rattle.bench_c.proofs.Forms.{threaded-is, form-sent, form-threaded, form-none}
 use Rattle.bench_c.proofs.halivomue_form.Goals as goal
 
-pub returns-then-which-eq0 : goal.returns-then-which-eq0
-returns-then-which-eq0 c =
-    ap (λ (a : Answer). outcome a c.sent.new.out) c.told.ensures ∙ c.sent.ensures
-    ∙ form-sent c.args.bytes.now c.args.out.now c.if-which-eq0.true
-
-pub returns-then-which-eq1 : goal.returns-then-which-eq1
-returns-then-which-eq1 c =
+pub returns-in-0 : goal.returns-in-0
+returns-in-0 c =
     let b = c.args.bytes.now in
     let o = c.args.out.now in
-    ap (λ (a : Answer). outcome a c.shorten.new.out) c.told-then-which-eq1.ensures ∙ c.shorten.ensures.is ∙ threaded-is b o
-    ∙ form-threaded b o c.if-which-eq0.false c.if-which-eq1.true
+    ap (λ (a : Answer). outcome a c.sent.new.out) c.into.ensures ∙ c.sent.ensures ∙ form-sent b o {which = c.args.which} (omega arith)
 
-pub returns : goal.returns
-returns c =
+pub returns-in-1 : goal.returns-in-1
+returns-in-1 c =
     let b = c.args.bytes.now in
     let o = c.args.out.now in
-    ap (λ (a : Answer). outcome a o) c.told-2.ensures ∙ c.refused.ensures o ∙ form-none b o c.if-which-eq0.false c.if-which-eq1.false
+    ap (λ (a : Answer). outcome a c.shorten.new.out) c.into-in-1.ensures ∙ c.shorten.ensures.is
+    ∙ threaded-is b o ∙ form-threaded b o {which = c.args.which} (λ z. omega arith) (omega arith)
+
+pub returns-in_default : goal.returns-in_default
+returns-in_default c =
+    let b = c.args.bytes.now in
+    let o = c.args.out.now in
+    ap (λ (a : Answer). outcome a o) c.refused.ensures ∙ form-none b o {which = c.args.which} (λ z. omega arith) (λ z. omega arith)

@@ -1,6 +1,6 @@
 use Prim.Native.Nat.{ℕ}
 use mathlib.Core.Path.{ap, ◌∙◌}
-use mathlib.Core.Option.{Option}
+use Rattle.std.proofs.Common.{Option}
 use lib.ListN.{length}
 use Rattle.run.specs.Ran.{ran_in}
 use Rattle.bench_c.proofs.halivomue_run.Goals as goal

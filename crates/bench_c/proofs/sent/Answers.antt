@@ -1,18 +1,19 @@
 use Prim.Native.Nat.{ℕ}
 use native.Mathlib.Omega.{arith}
-use mathlib.Core.Path.{◌∙◌}
+use mathlib.Core.Path.{refl}
+use Rattle.std.proofs.lemmas.Result.{err_from_is_err_and}
+use Rattle.read.proofs.Reasons.{no_zero}
 use Rattle.put_record.specs.Store.{Bytes}
 use Rattle.bench_c.proofs.Forms.{sent_refused, sent-put}
 use Rattle.bench_c.proofs.sent.Goals as goal
 
-pub returns-then-r-ne0 : goal.returns-then-r-ne0
-returns-then-r-ne0 c =
-    let b = c.args.bytes.now in
-    let o = c.args.out.now in
-    c.refused.ensures o ∙ sent_refused b o c.read-r.ensures c.if-r-ne0.true
+pub returns-in_err-read : goal.returns-in_err-read
+returns-in_err-read c =
+    let q = err_from_is_err_and c.from_residual.result c.from_residual.ensures.1 in
+    rw (q.1, q.2) (sent_refused c.args.bytes.now c.args.out.now c.in_err-read.ensures (no_zero _))
 
 pub returns : goal.returns
 returns c =
     let b = c.args.bytes.now in
     let bytes : Bytes b = λ (k : ℕ). omega (arith, c.type_inv.bytes k) in
-    sent-put b c.args.out.now bytes c.read-r.ensures c.if-r-ne0.false c.starts.ensures c.put_sent.ensures
+    sent-put b c.args.out.now c.open.result bytes c.in_ok-read.ensures refl c.open.ensures.bytes c.open.ensures.layout c.put_sent.ensures

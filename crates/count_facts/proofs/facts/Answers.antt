@@ -12,21 +12,21 @@ use Rattle.count_facts.proofs.facts.Goals as goal
 
 pub slice_bounds-fill-end-2 : goal.slice_bounds-fill-end-2
 slice_bounds-fill-end-2 c =
-    let e = c.least-n.ensures in
+    let e = c.min-n.ensures in
     simp length-take (omega arith)
 
 pub fill-requires : goal.fill-requires
 fill-requires c =
-    let n = c.least-n.result in
+    let n = c.min-n.result in
     let t = c.args.table.now in
-    let e = c.least-n.ensures in
+    let e = c.min-n.ensures in
     let long : length (take (5 * n) t) ≡ 5 * n = length-take-le (5 * n) t (omega arith) in
     omega arith
 
 pub returns : goal.returns
 returns c =
     let a = c.args in
-    let e = c.least-n.ensures in
+    let e = c.min-n.ensures in
     let l = all_kinds a.registers.now a.kinds.now in
     put_back a.table.now (kinds_of a.registers.now ++ a.kinds.now) (operands_in a.operands.now) (codes_of a.code.now)
-    c.least-n.result (omega arith) c.fill.ensures
+    c.min-n.result (omega arith) c.fill.ensures

@@ -5,8 +5,4 @@ use Rattle.equal_arms.specs.Joined.{joined, join_from, equal_arms_in}
 use Rattle.equal_arms.proofs.equal_arms.Given as goal
 
 abbrev pub invariant-loop-k : goal.invariant-loop-k
-invariant-loop-k l =
-    (l.n ≡ length l.table / 32) × (length l.code ≡ length l.initial.code) × (join_from l.table (l.n - l.k) l.k (joined l.code l.edited) ≡ equal_arms_in l.table l.initial.code)
-
-abbrev pub decreases-loop-k : goal.decreases-loop-k
-decreases-loop-k l = l.n - l.k
+invariant-loop-k l = join_from l.table (length l.table / 32 - l.k) l.k (joined l.code l.edited) ≡ equal_arms_in l.table l.initial.code

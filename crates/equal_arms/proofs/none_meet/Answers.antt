@@ -1,39 +1,29 @@
-use mathlib.Core.Bool.{false, false≢true}
-use Prim.Native.Nat.{ℕ, suc, ◌+◌, ◌-◌, ◌/◌}
-use mathlib.Core.Path.{◌≡◌, refl, sym, ap, ◌∙◌}
+use Rattle.std.proofs.Common.{rules}
 use native.Mathlib.Omega.{arith}
+use mathlib.Core.Path.{◌≡◌, subst, ◌∙◌}
+use mathlib.Core.Bool.{Bool, false}
+use borrow.Author.Tests.{tests}
+use Prim.Native.Nat.{ℕ, ◌+◌, ◌/◌}
 use lib.ListN.{length}
-use Rattle.equal_arms.specs.declared.Meeting.{Meeting}
-use Rattle.equal_arms.specs.Joined.{joined, join_met, join_from}
-use Rattle.equal_arms.proofs.Laws.{from_pass}
+use Rattle.std.specs.List.{AllWithin, range_with_len}
+use Rattle.std.proofs.lemmas.List.FromFn.{length-range_with_len, get_or-range_with_len}
+use Rattle.std.proofs.lemmas.Iterator.{YieldsList-from_range, cases_from_all}
+use Rattle.blocks.proofs.Parts.{length-blocks}
+use Rattle.equal_arms.specs.Joined.{joined, join_arms}
+use Rattle.equal_arms.proofs.Laws.{from_all}
 use Rattle.equal_arms.proofs.none_meet.Goals as goal
 
-pub loop-k-init : goal.loop-k-init
-loop-k-init c =
-    let a = c.args in
-    let e : length a.table.now / 32 - 0 ≡ length a.table.now / 32 = omega arith in
-    (refl, c.next_meeting-k.ensures.1 false ∙ ap (λ (m : ℕ). join_from a.table.now m 0 (joined a.code.now false)) e)
-
-pub returns-in-At : goal.returns-in-At
-returns-in-At c e = absurd (false≢true e)
-
-pub loop-k-smaller : goal.loop-k-smaller
-loop-k-smaller c = let h = c.next_meeting-k-in-loop-k.ensures.0 in omega arith
-
-pub loop-k-preserved : goal.loop-k-preserved
-loop-k-preserved c =
-    let a = c.args in
-    let table = a.table.now in
-    let s = joined a.code.now false in
-    let k = c.loop-k.k in
-    let m : length table / 32 - k ≡ suc (length table / 32 - (k + 1)) = omega arith in
-    let same = sym (ap (λ (m : Meeting). join_met table m k s) (sym c.in_default.is) ∙ c.meet-m.ensures false) in
-    (c.loop-k.invariant.0, c.next_meeting-k-in-loop-k.ensures.1 false ∙ sym (from_pass table k s m same) ∙ c.loop-k.invariant.1)
-
 pub returns : goal.returns
-unfolding join_from
-returns c e =
-    let a = c.args in
-    let table = a.table.now in
-    let m : 0 ≡ length table / 32 - c.loop-k.k = omega arith in
-    sym (ap (λ (x : ℕ). join_from table x c.loop-k.k (joined a.code.now false)) m ∙ c.loop-k.invariant.1)
+returns c z = let b = c.args.blocks in
+    let table = b.table.now in
+    let n = length table / 32 in
+    let s = joined b.code.now false in
+    let Stays : ℕ → Type 0 = λ k. (edited : Bool) → join_arms table k (joined b.code.now edited) ≡ joined b.code.now edited in
+    let h = cases_from_all _ _ _ Stays (λ k. Unit {0}) c.all.ensures.ran
+    (YieldsList-from_range 0 n n (rw (c.len.ensures, length-blocks b.code.now table)) (omega arith))
+    (λ x q k. search (rules, tests)) (λ x q k. tt) in
+    let w : AllWithin Stays (range_with_len 0 n) 0 (length (range_with_len 0 n)) = rw z at h in
+    let l = length-range_with_len 0 n in
+    from_all table s n
+    (λ k i. let e : 0 + k ≡ k = omega arith in subst Stays (get_or-range_with_len 0 n k 0 i ∙ e) (w k 0 (omega arith) (omega arith)) false)
+    n 0 (omega arith)

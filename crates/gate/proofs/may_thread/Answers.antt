@@ -1,38 +1,22 @@
-use mathlib.Core.Path.{refl, sym, ◌∙◌}
+use Rattle.std.proofs.Common.{rules}
 use native.Mathlib.Omega.{arith}
-use Rattle.blocks.specs.Blocks.{blocks_of}
-use Rattle.blocks.proofs.Parts.{length-blocks}
-use Rattle.gate.proofs.Laws.{hop_pass, hop_stop, hop-end}
+use mathlib.Core.Path.{◌∙◌}
+use mathlib.Core.List.{[]}
+use borrow.Author.Tests.{tests}
+use Prim.Native.Nat.{ℕ}
+use lib.ListN.{length, get_or}
+use Rattle.std.proofs.lemmas.Iterator.{YieldsList-from_range}
+use Rattle.std.proofs.lemmas.Iterator.Search.{any_from_yields_List}
+use Rattle.ends.specs.Ends.{end_of}
+use Rattle.steps.specs.Gate.{may_hop}
+use Rattle.blocks.specs.Blocks.{blocks_in}
+use Rattle.gate.proofs.Laws.{hop_places}
 use Rattle.gate.proofs.may_thread.Goals as goal
-
-pub loop-a-init : goal.loop-a-init
-loop-a-init c = (refl, c.next_hop-a.ensures.1 c.args.wide)
-
-pub returns-then-may_hop : goal.returns-then-may_hop
-returns-then-may_hop c =
-    let a = c.args in
-    let p = blocks_of a.code.now a.table.now in
-    let n = length-blocks a.code.now a.table.now in
-    hop_stop p c.loop-a.a a.wide p (rw n (omega (arith, c.loop-a.invariant.0, c.loop-a-test.true)))
-    (sym c.may_hop.ensures ∙ c.if-may_hop.true)
-    ∙ c.loop-a.invariant.1
-
-pub loop-a-smaller : goal.loop-a-smaller
-loop-a-smaller c = let h = c.next_hop-a-in-loop-a.ensures.0 in omega arith
-
-pub loop-a-preserved : goal.loop-a-preserved
-loop-a-preserved c =
-    let a = c.args in
-    let p = blocks_of a.code.now a.table.now in
-    let n = length-blocks a.code.now a.table.now in
-    let e = hop_pass p c.loop-a.a a.wide p (rw n (omega (arith, c.loop-a.invariant.0, c.loop-a-test.true)))
-    (sym c.may_hop.ensures ∙ c.if-may_hop.false)
-    in
-    (c.loop-a.invariant.0, c.next_hop-a-in-loop-a.ensures.1 a.wide ∙ e ∙ c.loop-a.invariant.1)
 
 pub returns : goal.returns
 returns c =
-    let a = c.args in
-    let p = blocks_of a.code.now a.table.now in
-    let n = length-blocks a.code.now a.table.now in
-    hop-end p c.loop-a.a a.wide p (rw n (omega (arith, c.loop-a.invariant.0))) ∙ c.loop-a.invariant.1
+    let p = blocks_in c.args.blocks in
+    let n = length p in
+    any_from_yields_List (λ (k : ℕ). may_hop c.args.wide p k (end_of (get_or p k []))) _ _ c.any.result c.any.ensures.ran
+    (YieldsList-from_range 0 n n (rw c.len.ensures) (omega arith)) (λ x r q k. search (rules, tests))
+    ∙ hop_places p c.args.wide

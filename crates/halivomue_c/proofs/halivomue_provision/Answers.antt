@@ -1,28 +1,51 @@
-use mathlib.Core.Path.{ap}
-use Rattle.tidy.specs.declared.Tidiness.{Tidiness}
-use Rattle.steps.specs.Shorten.{Outcome}
+use Rattle.std.proofs.Common.{◌≡◌, refl, sym, ap, ◌∙◌, arith, Option, Some, None, Result, Ok, Err}
+use Rattle.std.specs.Prelude.{◌+◌, ◌/◌, ◌≤◌, take}
+use Rattle.inst.specs.declared.Reg.{Reg}
+use Rattle.read.specs.declared.Refusal.{Refusal}
+use Rattle.tidy.specs.Told.{tidiness_of}
+use Rattle.read.specs.Reading.{reading, answer}
+use Rattle.tidy.specs.Tidy.{Tidiness, Tidy}
+use Rattle.steps.specs.Shorten.{Outcome, instructions}
+use Rattle.machine.specs.Demand.{Demand3}
+use Rattle.promise.specs.Promise.{held}
+use Rattle.halivomue_c.proofs.Answered.{on_success, unmoved, never_nine}
 use Rattle.halivomue_c.proofs.halivomue_provision.Goals as goal
+
+-- the answer that is yes
+yes_none : (t : Result (Option Reg) Refusal) → (tidiness_of t).tidy ≡ 1 → t ≡ Ok None
+yes_none (Ok None) e = refl
+yes_none (Ok (Some r)) e = absurd (omega arith)
+yes_none (Err x) e = absurd (omega arith)
 
 pub returns : goal.returns
 returns c =
+    let b = c.args.bytes.now in
+    let out = c.tidy_and_shorten-p.new.out in
+    let r = c.tidy_and_shorten-p.result.shortening in
     let s = c.tidy_and_shorten-p.ensures in
-    let t = s.tidiness in
+    let m = c.answer_of-a.ensures in
     let e = s.is in
+    let t = c.tidy_and_shorten-p.result.tidiness in
+    let y = c.members-t.ensures in
     record {
-      number = ap (λ (o : Outcome). o.answer.number) e;
-      place = ap (λ (o : Outcome). o.answer.place) e;
-      tidy = ap (λ (t : Tidiness). t.tidy) t;
-      reg = ap (λ (t : Tidiness). t.reg) t;
-      length = ap (λ (o : Outcome). o.answer.length) e;
-      moved = ap (λ (o : Outcome). o.answer.moved) e;
-      grown = ap (λ (o : Outcome). o.answer.grown) e;
-      fresh = ap (λ (o : Outcome). o.answer.fresh) e;
-      rescued = ap (λ (o : Outcome). o.answer.rescued) e;
+      number = m.number ∙ ap (λ (o : Outcome). o.answer.number) e;
+      place = m.place ∙ ap (λ (o : Outcome). o.answer.place) e;
+      tidy = y.tidy ∙ ap (λ (t : Tidiness). t.tidy) s.tidiness;
+      reg = y.reg ∙ ap (λ (t : Tidiness). t.reg) s.tidiness;
+      length = m.length ∙ ap (λ (o : Outcome). o.answer.length) e;
+      moved = m.moved ∙ ap (λ (o : Outcome). o.answer.moved) e;
+      grown = m.grown ∙ ap (λ (o : Outcome). o.answer.grown) e;
+      fresh = m.fresh ∙ ap (λ (o : Outcome). o.answer.fresh) e;
+      rescued = m.rescued ∙ ap (λ (o : Outcome). o.answer.rescued) e;
       output = ap (λ (o : Outcome). o.output) e;
-      accepted = s.accepted;
-      room = s.room;
-      unmoved = s.unmoved;
-      bound = s.bound;
-      demand3 = s.demand3;
-      promised = s.promised;
+      accepted = λ z. rw m.length (on_success r (λ a. reading (take a.length out) ≡ answer 0 0) s.accepted (sym m.number ∙ z));
+      room = λ i z. never_nine r (s.room i) (sym m.number ∙ z);
+      unmoved = λ z y. unmoved r s.unmoved (sym m.number ∙ z) (sym m.moved ∙ y);
+      bound = λ z. rw m.length (on_success r (λ a. instructions (take a.length out) ≤ instructions b + instructions b / 2 + 36) s.bound (sym m.number ∙ z));
+      demand3 = λ z.
+          rw (m.length, m.rescued)
+          (on_success r (λ a. Tidy (held b) → Demand3 (held b) (held (take a.length out)) a.rescued) s.demand3 (sym m.number ∙ z));
+      promised = λ z x.
+          rw (m.length, m.rescued)
+          (on_success r (λ a. t ≡ Ok None → Demand3 (held b) (held (take a.length out)) a.rescued) s.promised (sym m.number ∙ z) (yes_none t (sym y.tidy ∙ x)));
     }

@@ -1,23 +1,35 @@
-use mathlib.Core.Path.{ap}
-use Rattle.steps.specs.Shorten.{Outcome}
+use Rattle.std.specs.Prelude.{◌+◌, ◌/◌, ◌≤◌, ◌≡◌, take}
+use mathlib.Core.Path.{sym, ap, ◌∙◌}
+use Rattle.read.specs.Reading.{reading, answer}
+use Rattle.tidy.specs.Tidy.{Tidy}
+use Rattle.steps.specs.Shorten.{Outcome, instructions}
+use Rattle.machine.specs.Demand.{Demand3}
+use Rattle.promise.specs.Promise.{held}
+use Rattle.halivomue_c.proofs.Answered.{on_success, unmoved, never_nine}
 use Rattle.halivomue_c.proofs.halivomue_shorten.Goals as goal
 
 pub returns : goal.returns
 returns c =
-    let s = c.shorten-s.ensures in
+    let b = c.args.bytes.now in
+    let out = c.shorten.new.out in
+    let r = c.shorten.result in
+    let s = c.shorten.ensures in
+    let m = c.answer_of.ensures in
     let e = s.is in
     record {
-      number = ap (λ (o : Outcome). o.answer.number) e;
-      place = ap (λ (o : Outcome). o.answer.place) e;
-      length = ap (λ (o : Outcome). o.answer.length) e;
-      moved = ap (λ (o : Outcome). o.answer.moved) e;
-      grown = ap (λ (o : Outcome). o.answer.grown) e;
-      fresh = ap (λ (o : Outcome). o.answer.fresh) e;
-      rescued = ap (λ (o : Outcome). o.answer.rescued) e;
+      number = m.number ∙ ap (λ (o : Outcome). o.answer.number) e;
+      place = m.place ∙ ap (λ (o : Outcome). o.answer.place) e;
+      length = m.length ∙ ap (λ (o : Outcome). o.answer.length) e;
+      moved = m.moved ∙ ap (λ (o : Outcome). o.answer.moved) e;
+      grown = m.grown ∙ ap (λ (o : Outcome). o.answer.grown) e;
+      fresh = m.fresh ∙ ap (λ (o : Outcome). o.answer.fresh) e;
+      rescued = m.rescued ∙ ap (λ (o : Outcome). o.answer.rescued) e;
       output = ap (λ (o : Outcome). o.output) e;
-      accepted = s.accepted;
-      room = s.room;
-      unmoved = s.unmoved;
-      bound = s.bound;
-      demand3 = s.demand3;
+      accepted = λ z. rw m.length (on_success r (λ a. reading (take a.length out) ≡ answer 0 0) s.accepted (sym m.number ∙ z));
+      room = λ i z. never_nine r (s.room i) (sym m.number ∙ z);
+      unmoved = λ z y. unmoved r s.unmoved (sym m.number ∙ z) (sym m.moved ∙ y);
+      bound = λ z. rw m.length (on_success r (λ a. instructions (take a.length out) ≤ instructions b + instructions b / 2 + 36) s.bound (sym m.number ∙ z));
+      demand3 = λ z.
+          rw (m.length, m.rescued)
+          (on_success r (λ a. Tidy (held b) → Demand3 (held b) (held (take a.length out)) a.rescued) s.demand3 (sym m.number ∙ z));
     }

@@ -1,33 +1,28 @@
-use mathlib.Core.Path.{sym, ap, ◌∙◌}
-use Rattle.facts.specs.Storage.{word_in}
+use Rattle.std.proofs.Common.{◌∙◌}
 use Rattle.pause.specs.Storage.{body_in}
-use Rattle.hop_cond_br.proofs.Turns.{turned_full, turned-at}
+use Rattle.hop_cond_br.proofs.Turns.{turned-by}
 use Rattle.hop_cond_br.proofs.hop_cond_br.Goals as goal
 
-pub returns-in-Some : goal.returns-in-Some
-returns-in-Some c =
+pub returns-in-None-clause-turned : goal.returns-in-None-clause-turned
+returns-in-None-clause-turned c =
     let a = c.args in
-    let table = a.table.now in
-    let code = a.code.now in
-    c.fold.ensures
-    ∙ turned-at table a.a.0 a.facts.now (body_in a.pause) code a.c.0 a.t.0 a.e.0 a.known.now a.copy.now
-    c.block.ensures c.front.ensures c.notes-n.new.known c.notes-n.new.copy c.notes-n.ensures c.in-At.h c.in-At.is
-    c.source_of-d.ensures (sym (ap word_in c.in-Some.is) ∙ c.value_of-v.ensures)
+    let s = a.space.now in
+    let by = turned-by s.table.now a.a.0 a.facts.now.table.now (body_in a.facts.now.pause) s.work.now a.b.c.0 a.b.t.0 a.b.f.0
+    a.room.now.known.now a.room.now.copy.now (rw (c.blocks-blocks.ensures.code, c.blocks-blocks.ensures.table) at c.block.ensures) c.front-front.ensures c.tested-n.ensures in
+    rw c.in-None.is at by
 
-pub returns-in-None : goal.returns-in-None
-returns-in-None c =
+pub returns-in-Some-v-clause-turned : goal.returns-in-Some-v-clause-turned
+returns-in-Some-v-clause-turned c =
     let a = c.args in
-    let table = a.table.now in
-    let code = a.code.now in
-    c.rewrite.ensures
-    ∙ turned-at table a.a.0 a.facts.now (body_in a.pause) code a.c.0 a.t.0 a.e.0 a.known.now a.copy.now
-    c.block.ensures c.front.ensures c.notes-n.new.known c.notes-n.new.copy c.notes-n.ensures c.in-At.h c.in-At.is
-    c.source_of-d.ensures (sym (ap word_in c.in-None.is) ∙ c.value_of-v.ensures)
+    let s = a.space.now in
+    let by = turned-by s.table.now a.a.0 a.facts.now.table.now (body_in a.facts.now.pause) s.work.now a.b.c.0 a.b.t.0 a.b.f.0
+    a.room.now.known.now a.room.now.copy.now (rw (c.blocks-blocks.ensures.code, c.blocks-blocks.ensures.table) at c.block.ensures) c.front-front.ensures c.tested-n.ensures in
+    c.fold.ensures.turned ∙ (rw (c.in-Some.is, c.in-Some-v.is) at by)
 
-pub returns-in-Full : goal.returns-in-Full
-returns-in-Full c =
+pub returns-in-None-v-clause-turned : goal.returns-in-None-v-clause-turned
+returns-in-None-v-clause-turned c =
     let a = c.args in
-    let table = a.table.now in
-    let code = a.code.now in
-    turned_full table a.a.0 a.facts.now (body_in a.pause) code a.c.0 a.t.0 a.e.0 a.known.now a.copy.now
-    c.block.ensures c.front.ensures c.notes-n.new.known c.notes-n.new.copy c.notes-n.ensures c.in-Full.is
+    let s = a.space.now in
+    let by = turned-by s.table.now a.a.0 a.facts.now.table.now (body_in a.facts.now.pause) s.work.now a.b.c.0 a.b.t.0 a.b.f.0
+    a.room.now.known.now a.room.now.copy.now (rw (c.blocks-blocks.ensures.code, c.blocks-blocks.ensures.table) at c.block.ensures) c.front-front.ensures c.tested-n.ensures in
+    c.rewrite.ensures.turned ∙ (rw (c.in-Some.is, c.in-None-v.is) at by)

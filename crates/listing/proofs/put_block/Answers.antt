@@ -4,4 +4,4 @@ use Rattle.listing.proofs.put_block.Goals as goal
 
 pub returns : goal.returns
 unfolding block_line
-returns c = then (then c.put_numbered-n.ensures.put c.put_pair-n.ensures) c.put_byte.ensures
+returns c = then (then c.put_numbered.ensures.put c.put_pair.ensures) c.put_byte.ensures

@@ -4,4 +4,4 @@ use Rattle.listing.proofs.put_code.Goals as goal
 
 pub returns : goal.returns
 unfolding code_line
-returns c = then (then c.put_kind-n.ensures c.put_places-n.ensures) c.put_byte.ensures
+returns c = then (then c.put_kind.ensures c.put_places.ensures) c.put_byte.ensures

@@ -4,4 +4,4 @@ use Rattle.listing.proofs.put_counts.Goals as goal
 
 pub returns : goal.returns
 unfolding counts_line
-returns c = then (then c.put_moved-n.ensures c.put_fresh-n.ensures) c.put_byte.ensures
+returns c = then (then c.put_moved.ensures c.put_fresh.ensures) c.put_byte.ensures

@@ -4,4 +4,4 @@ use Rattle.listing.proofs.put_kind.Goals as goal
 
 pub returns : goal.returns
 unfolding code_text
-returns c = then (then c.put_numbered-n.ensures.put c.put_pair-n.ensures) c.put_numbered.ensures.put
+returns c = then (then c.put_numbered.ensures.put c.put_pair.ensures) c.put_numbered-2.ensures.put

@@ -4,4 +4,4 @@ use Rattle.listing.proofs.put_pair.Goals as goal
 
 pub returns : goal.returns
 unfolding pair
-returns c = then c.put_numbered-n.ensures.put c.put_numbered.ensures.put
+returns c = then c.put_numbered.ensures.put c.put_numbered-2.ensures.put

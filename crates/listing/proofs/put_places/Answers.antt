@@ -4,4 +4,4 @@ use Rattle.listing.proofs.put_places.Goals as goal
 
 pub returns : goal.returns
 unfolding places_text
-returns c = then (then c.put_pair-n.ensures c.put_pair-n-2.ensures) c.put_pair.ensures
+returns c = then (then c.put_pair.ensures c.put_pair-2.ensures) c.put_pair-3.ensures

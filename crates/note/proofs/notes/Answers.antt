@@ -1,32 +1,61 @@
-use Prim.Native.Nat.{◌/◌}
-use mathlib.Core.Path.{ap}
-use mathlib.Core.Option.{some}
-use lib.ListN.{length}
 use borrow.Author.Tests.{le-leb, lt-leb}
+use Rattle.std.proofs.Common.{None, Some, ◌/◌, ◌<◌, length, ap, ◌∙◌, arith}
+use Rattle.procedure.specs.Procedure.{codes_of}
+use Rattle.codec.specs.Codec.{code_of}
+use Rattle.records.specs.Record.{blank}
+use Rattle.ends.proofs.Laws.{length_codes}
+use Rattle.steps.specs.Note.{note, notes}
+use Rattle.facts.specs.Storage.{facts_in}
+use Rattle.note_entries.specs.Storage.{known_in}
+use Rattle.note.proofs.Gathered.{notes_again, notes-done}
 use Rattle.note.proofs.notes.Goals as goal
 
 pub returns-then-known-n : goal.returns-then-known-n
 returns-then-known-n c =
     let a = c.args in
-    let n = length a.code.now / 32 in
-    let known = length a.known.now / 2 in
-    let copy = length a.copy.now / 2 in
-    rw (lt-leb n known c.if-known-n.true)
+    rw (lt-leb (length a.code.now / 32) (length a.known.now / 2) c.if-known-n.true)
 
 pub returns-then-copy-n : goal.returns-then-copy-n
 returns-then-copy-n c =
     let a = c.args in
     let n = length a.code.now / 32 in
-    let known = length a.known.now / 2 in
-    let copy = length a.copy.now / 2 in
-    rw (le-leb n known c.if-known-n.false, lt-leb n copy c.if-copy-n.true)
+    rw (le-leb n (length a.known.now / 2) c.if-known-n.false, lt-leb n (length a.copy.now / 2) c.if-copy-n.true)
+
+pub loop-j-init : goal.loop-j-init
+loop-j-init c =
+    let a = c.args in
+    let k = c.new-k.ensures in
+    record {
+      known = ap (λ x. notes (facts_in a.facts.now None 0) x (codes_of a.code.now)) k.nothing;
+      values = omega (arith, k.values_count);
+      copies = omega (arith, k.copies_count);
+      values-fit = rw k.values_long c.if-known-n.false;
+      copies-fit = rw k.copies_long c.if-copy-n.false;
+    }
+
+pub loop-j-preserved : goal.loop-j-preserved
+loop-j-preserved c =
+    let a = c.args in
+    let b = a.code.now in
+    let f = facts_in a.facts.now None 0 in
+    let s = c.note.ensures in
+    let v = c.loop-j in
+    let more : v.j < length (codes_of b) = rw (length_codes b) c.loop-j-test.true in
+    record {
+      known = notes_again f (codes_of b) v.j (known_in v.k) (code_of blank) more (s.known ∙ ap (note f (known_in v.k)) c.inst_at.ensures) v.invariant.known;
+      values = omega (arith, s.grows.values.count, v.invariant.values);
+      copies = omega (arith, s.grows.copies.count, v.invariant.copies);
+      values-fit = rw s.grows.values.long v.invariant.values-fit;
+      copies-fit = rw s.grows.copies.long v.invariant.copies-fit;
+    }
 
 pub returns : goal.returns
 returns c =
     let a = c.args in
-    let n = length a.code.now / 32 in
-    let known = length a.known.now / 2 in
-    let copy = length a.copy.now / 2 in
-    let room = le-leb n known c.if-known-n.false in
-    let room-too = le-leb n copy c.if-copy-n.false in
-    rw (room, room-too) (ap some c.gather.ensures)
+    let b = a.code.now in
+    let n = length b / 32 in
+    let room = le-leb n (length a.known.now / 2) c.if-known-n.false in
+    let room-too = le-leb n (length a.copy.now / 2) c.if-copy-n.false in
+    let v = c.loop-j in
+    let all = notes-done (facts_in a.facts.now None 0) (codes_of b) v.j (known_in v.k) (rw (length_codes b) c.loop-j-test.false) v.invariant.known in
+    rw (room, room-too) (ap Some all)

@@ -1,39 +1,25 @@
-use mathlib.Core.Path.{refl, ap, ◌∙◌}
-use native.Mathlib.Omega.{arith}
-use borrow.Author.Tests.{lt-ltb, le-ltb}
+use Rattle.std.proofs.Common.{◌≡◌, ℕ, ◌+◌, ◌-◌, ◌/◌, List, length, take, refl, ap, ◌∙◌, rules}
+use Rattle.std.proofs.lemmas.Iterator.{YieldsList-from_range}
+use Rattle.std.proofs.lemmas.Iterator.Search.{YieldsList-from_take_while}
+use Rattle.std.proofs.lemmas.Iterator.Consumers.{count_from_yields_List}
+use Rattle.std.proofs.lemmas.List.Folds.{length-prefix_len}
+use Rattle.std.specs.List.{prefix_len, range_with_len}
 use lib.Dec.{ltb}
-use lib.ListN.{get_or}
-use Rattle.records.specs.declared.Record.{Record}
-use Rattle.records.specs.Record.{records_of, blank}
-use Rattle.records.proofs.Laws.{length_records}
-use Rattle.layout.proofs.Walks.{lead_pass, lead_stop, lead-end}
+use Rattle.records.specs.Record.{record_at, records_of}
+use Rattle.parts.specs.Parts.{start_at}
+use Rattle.layout.proofs.Walks.{run_rest}
 use Rattle.parts.proofs.start_of.Goals as goal
-
-pub loop-k-init : goal.loop-k-init
-loop-k-init c = refl
-
-pub returns-then-class-r : goal.returns-then-class-r
-returns-then-class-r c =
-    let a = c.args in
-    let b = a.b.now in
-    let e = ap (λ (r : Record). r.class) c.record_at-r.ensures in
-    let i = c.if-class-r.true in
-    lead_stop (λ r. ltb r.class a.class) (records_of b) c.loop-k.k blank (rw (length_records b) (omega arith))
-    (le-ltb (get_or (records_of b) c.loop-k.k blank).class a.class (omega arith))
-    ∙ c.loop-k.invariant
-
-pub loop-k-preserved : goal.loop-k-preserved
-loop-k-preserved c =
-    let a = c.args in
-    let b = a.b.now in
-    let e = ap (λ (r : Record). r.class) c.record_at-r.ensures in
-    let i = c.if-class-r.false in
-    lead_pass (λ r. ltb r.class a.class) (records_of b) c.loop-k.k blank (rw (length_records b) (omega arith))
-    (lt-ltb (get_or (records_of b) c.loop-k.k blank).class a.class (omega arith))
-    ∙ c.loop-k.invariant
 
 pub returns : goal.returns
 returns c =
-    let a = c.args in
-    let b = a.b.now in
-    lead-end (λ r. ltb r.class a.class) (records_of b) c.loop-k.k (rw (length_records b) (omega arith)) ∙ c.loop-k.invariant
+    let b = c.args.b.now in
+    let first = c.args.first in
+    let n = length b / 32 - first in
+    let test = λ (k : ℕ). ltb (record_at b k).class c.from-number.result in
+    let ks : List ℕ = range_with_len first n in
+    let run : c.count.result ≡ length (take (prefix_len test ks) ks) =
+    count_from_yields_List _ _ c.count.ensures.ran
+    (YieldsList-from_take_while _ test (YieldsList-from_range first (length b / 32) n c.take_while-run.ensures.source refl)
+    c.take_while-run.ensures.closure c.take_while-run.ensures.done (λ x t q h. search rules)) in
+    ap (λ (k : ℕ). first + k) (run ∙ length-prefix_len test ks ∙ run_rest (λ r. ltb r.class c.from-number.result) b first n refl)
+    ∙ ap (λ (m : ℕ). start_at m first (records_of b)) c.from-number.ensures

@@ -1,21 +1,12 @@
-use Rattle.put_record.specs.Store.{tag_bytes, byte_of}
-use Rattle.put_record.proofs.Laws.{four}
-use native.Mathlib.Omega.{arith}
-use lib.ListN.{length-set}
+use Rattle.std.proofs.Common.{◌≡◌, ◌∙◌, [], ◌∷◌, arith}
+use Rattle.put_record.specs.Store.{tag_bytes}
+use Rattle.put_record.proofs.Laws.{part-sets}
 use Rattle.put_record.proofs.put_tag.Goals as goal
-
-pub bounds-b-at-2 : goal.bounds-b-at-2
-bounds-b-at-2 c = simp length-set (omega arith)
-
-pub bounds-b-at-3 : goal.bounds-b-at-3
-bounds-b-at-3 c = simp length-set (omega arith)
-
-pub bounds-b-at-4 : goal.bounds-b-at-4
-bounds-b-at-4 c = simp length-set (omega arith)
 
 pub returns : goal.returns
 unfolding tag_bytes
 returns c =
     let a = c.args in
-    rw (c.low-4.ensures, c.low-3.ensures, c.low-2.ensures, c.low.ensures)
-    (four a.b.now a.at (byte_of a.r.class) (byte_of a.r.kind) (byte_of a.r.op) (byte_of a.r.zero))
+    let low : c.low.result ∷ c.low-2.result ∷ c.low-3.result ∷ c.low-4.result ∷ [] ≡ tag_bytes a.r = rw (c.low-4.ensures, c.low-3.ensures, c.low-2.ensures, c.low.ensures) in
+    let e : c.copy_from_slice.new.self ≡ tag_bytes a.r = c.copy_from_slice.ensures.after ∙ low in
+    rw e (part-sets a.b.now (tag_bytes a.r) a.at _ (omega arith) c.requires)

@@ -1,10 +1,12 @@
-use Rattle.std.proofs.Common.{rules}
-use Rattle.quote.proofs.Laws.{quoted-none, quoted-next}
+use Rattle.std.proofs.Common.{rules, []}
+use mathlib.Core.List.{append_assoc}
+use Rattle.quote.proofs.Laws.{quoted-none, quoted_then, quoted_more}
 use Rattle.quote.proofs.put_name.Goals as goal
 
-pub loop-i-init : goal.loop-i-init
-loop-i-init c = (quoted-none _ _ _ c.front-n.ensures.value, search rules, search rules)
+pub loop-chunk-init : goal.loop-chunk-init
+loop-chunk-init c = ([], search rules, quoted-none _)
 
-pub loop-i-preserved : goal.loop-i-preserved
-loop-i-preserved c =
-    (quoted-next c.args.name.now c.loop-i.i c.loop-i.invariant.0 c.put_shown-n.ensures c.loop-i-test.true, search rules, search rules)
+pub loop-chunk-preserved : goal.loop-chunk-preserved
+loop-chunk-preserved c =
+    quoted_more _ _ _ _ _ c.loop-chunk.invariant.1 (rw (c.valid.ensures, c.invalid.ensures, append_assoc) c.in-Some.ensures.steps.0) c.loop-chunk.invariant.2
+    (quoted_then c.put_text.ensures c.put_bytes.ensures)

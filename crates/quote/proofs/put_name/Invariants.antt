@@ -1,9 +1,8 @@
-use Rattle.std.proofs.Common.{length, take, ◌-◌, ◌≡◌, ◌≤◌}
+use Rattle.std.proofs.Common.{List, ℕ, ◌++◌, ◌≡◌}
+use Rattle.std.specs.Str.Chunks.{utf8_chunks_rest}
 use Rattle.quote.specs.Quote.{Quoted}
 use Rattle.quote.proofs.put_name.Given as goal
 
-abbrev pub invariant-loop-i : goal.invariant-loop-i
-invariant-loop-i l = Quoted l.fn.line l.at (take l.i l.name) l.line l.n × (l.i ≤ length l.name) × (length l.line ≡ length l.fn.line)
-
-abbrev pub decreases-loop-i : goal.decreases-loop-i
-decreases-loop-i l = length l.name - l.i
+-- some of the name was put, and the rest is to come
+abbrev pub invariant-loop-chunk : goal.invariant-loop-chunk
+invariant-loop-chunk l = (done : List ℕ) × (l.name ≡ done ++ utf8_chunks_rest l.chunk-iterator) × Quoted l.fn.line done l.line

@@ -1,11 +1,9 @@
-use Prim.Native.Nat.{◌+◌, ◌*◌}
-use Rattle.search.specs.Search.{unmarked}
-use Rattle.search.proofs.Search.{Held}
+use Rattle.search.proofs.Laws.{Held, weight}
 use Rattle.reach.proofs.Edges.{first}
 use Rattle.reach.proofs.reached.Given as goal
 
-abbrev pub invariant-loop-top : goal.invariant-loop-top
-invariant-loop-top l = Held (first l.code l.table l.arms) 0 l.nb l.seen l.stack l.top
+abbrev pub invariant-loop-b : goal.invariant-loop-b
+invariant-loop-b l = Held (first l.blocks.code.now l.blocks.table.now l.arms) 0 l.s
 
-abbrev pub decreases-loop-top : goal.decreases-loop-top
-decreases-loop-top l = l.top + 2 * unmarked l.seen
+abbrev pub decreases-loop-b : goal.decreases-loop-b
+decreases-loop-b l = weight l.s.found

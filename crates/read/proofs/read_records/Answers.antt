@@ -18,26 +18,11 @@ returns-then-l-b c =
     let e = end_is (records_of b) c.layout_of-l.ensures in
     refuse_at 2 0 _ _ _ c.refused.ensures (e ∙ sym (zero-add _)) (rw (← e, length_records b) c.if-l-b.true)
 
--- the layout, once all records are right and in order
-pub overflow_sub-arms : goal.overflow_sub-arms
-overflow_sub-arms c = let z = sizes ((let b = c.args.b.now in
-    laid_of (records_of b) c.layout_of-l.ensures (rw (length_records b) c.if-l-b.false))) in omega arith
-
-pub overflow_sub-l : goal.overflow_sub-l
-overflow_sub-l c = let z = sizes ((let b = c.args.b.now in
-    laid_of (records_of b) c.layout_of-l.ensures (rw (length_records b) c.if-l-b.false))) in omega arith
-
-pub overflow_sub-l-2 : goal.overflow_sub-l-2
-overflow_sub-l-2 c = let z = sizes ((let b = c.args.b.now in
-    laid_of (records_of b) c.layout_of-l.ensures (rw (length_records b) c.if-l-b.false))) in omega arith
-
-pub overflow_sub-l-3 : goal.overflow_sub-l-3
-overflow_sub-l-3 c = let z = sizes ((let b = c.args.b.now in
-    laid_of (records_of b) c.layout_of-l.ensures (rw (length_records b) c.if-l-b.false))) in omega arith
-
-pub overflow_sub-l-4 : goal.overflow_sub-l-4
-overflow_sub-l-4 c = let z = sizes ((let b = c.args.b.now in
-    laid_of (records_of b) c.layout_of-l.ensures (rw (length_records b) c.if-l-b.false))) in omega arith
+pub beyond-requires : goal.beyond-requires
+beyond-requires c =
+    let b = c.args.b.now in
+    let z = sizes (laid_of (records_of b) c.layout_of-l.ensures (rw (length_records b) c.if-l-b.false)) in
+    (omega arith, omega arith, omega arith, omega arith, omega arith)
 
 pub returns-then-beyond : goal.returns-then-beyond
 unfolding read_records

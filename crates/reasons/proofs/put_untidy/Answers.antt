@@ -3,7 +3,7 @@ use Rattle.line.proofs.Laws.{added-numbered, ended, last}
 use Rattle.reasons.proofs.put_untidy.Goals as goal
 
 pub returns-then-words : goal.returns-then-words
-returns-then-words c = last (added-numbered c.put_numbered-n.ensures refl) c.put_untidy_words.ensures
+returns-then-words c = last (added-numbered c.put_numbered.ensures refl) c.put_untidy_words.ensures
 
-pub returns : goal.returns
-returns c = last (added-numbered c.put_numbered-n.ensures refl) (ended c.put_byte.ensures refl)
+pub returns-else-words : goal.returns-else-words
+returns-else-words c = last (added-numbered c.put_numbered.ensures refl) (ended c.put_byte.ensures refl)

@@ -9,7 +9,7 @@ use Rattle.run.proofs.counted.Goals as goal
 
 pub slice_bounds-facts-end : goal.slice_bounds-facts-end
 slice_bounds-facts-end c =
-    let e = c.least-m.ensures in
+    let e = c.min-m.ensures in
     simp length-take (omega arith)
 
 pub returns : goal.returns
@@ -17,5 +17,5 @@ returns c =
     let a = c.args in
     c.facts.ensures
     ∙ ap (λ (c : ℕ). table_of a.facts.now (kinds_of a.registers.now ++ []) (operands_in a.operands.now)
-    (codes_of (take (32 * c) a.work.now))) c.least-m.ensures
+    (codes_of (take (32 * c) a.work.now))) c.min-m.ensures
     ∙ rw append-nil refl

@@ -10,8 +10,8 @@ returns c =
     let e = c.shorten_below.ensures in
     record {
       is = e.is
-          ∙ ap (λ (k : ℕ). shorten_within k c.least-2.result b o) c.least.ensures
-          ∙ ap (λ (k : ℕ). shorten_within (min c.args.registers 480) k b o) c.least-2.ensures;
+          ∙ ap (λ (k : ℕ). shorten_within k c.min-2.result b o) c.min.ensures
+          ∙ ap (λ (k : ℕ). shorten_within (min c.args.registers 480) k b o) c.min-2.ensures;
       accepted = e.accepted;
       room = e.room;
       unmoved = e.unmoved;

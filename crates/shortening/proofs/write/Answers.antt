@@ -1,9 +1,9 @@
 use Rattle.shortening.proofs.write.Goals as goal
 
-pub returns-then-at : goal.returns-then-at
-returns-then-at c p h g =
-    c.write_emitted.ensures p h g c.if-at.true
+pub returns-then-r : goal.returns-then-r
+returns-then-r c p h g =
+    c.write_emitted.ensures p h g c.if-r.true
 
-pub returns : goal.returns
-returns c p h g =
-    c.write_same.ensures p h c.if-at.false
+pub returns-else-r : goal.returns-else-r
+returns-else-r c p h g =
+    c.write_same.ensures p h c.if-r.false

@@ -10,14 +10,14 @@ use Rattle.shortening.proofs.write_same.Goals as goal
 
 pub slice_bounds-finish-end-2 : goal.slice_bounds-finish-end-2
 slice_bounds-finish-end-2 c =
-    let e = c.least-m.ensures in
+    let e = c.min-m.ensures in
     simp length-take (omega arith)
 
 pub returns : goal.returns
 returns c p h off =
     let a = c.args in
-    let x = parts_of a.b.now a.l in
-    let n = c.least-m.ensures ∙ ap (λ (y : List ℕ). min (length y / 32) (length a.work.now / 32)) c.part.ensures in
+    let x = parts_of a.file.now.bytes.now a.file.now.layout in
+    let n = c.min-m.ensures ∙ ap (λ (y : List ℕ). min (length y / 32) (length a.s.now.work.now / 32)) c.code.ensures in
     c.finish.ensures (threaded_form p)
-    (subst (λ (n : ℕ). Holds (threaded_form p).procedure (recoded x (take (32 * n) a.work.now) a.table.now) []) (sym n) (same-held p x h off))
+    (subst (λ (n : ℕ). Holds (threaded_form p).procedure (recoded x (take (32 * n) a.s.now.work.now) a.s.now.table.now) []) (sym n) (same-held p x h off))
     (same-tells p x h off)

@@ -1,39 +1,25 @@
-use mathlib.Core.Path.{refl, ◌∙◌}
-use mathlib.Core.Bool.{Bool}
+use Rattle.std.proofs.Common.{rules}
 use native.Mathlib.Omega.{arith}
-use Rattle.general.proofs.Booleans.{told}
+use mathlib.Core.Path.{◌∙◌}
+use borrow.Author.Tests.{tests}
+use Prim.Native.Nat.{ℕ}
+use lib.ListN.{length}
+use Rattle.std.proofs.lemmas.Iterator.{YieldsList-from_range}
+use Rattle.std.proofs.lemmas.Iterator.Search.{any_from_yields_List}
 use Rattle.records.specs.Record.{blank}
 use Rattle.inst.specs.declared.Code.{Code}
 use Rattle.codec.specs.Codec.{code_of}
 use Rattle.procedure.specs.Procedure.{codes_of}
-use Rattle.steps.specs.Small.{step_by}
+use Rattle.ends.specs.Ends.{code_at}
 use Rattle.ends.proofs.Laws.{length_codes}
-use Rattle.small.proofs.Laws.{any_pass, any_stop, any_end}
+use Rattle.steps.specs.Small.{step_by}
+use Rattle.small.proofs.Places.{any_places}
 use Rattle.small.proofs.any_step.Goals as goal
 
-abbrev step : Bool → Code → Bool
-step wide x = step_by wide x.inst
-
-pub loop-k-init : goal.loop-k-init
-loop-k-init c = (omega arith, refl, refl)
-
-pub returns-then-step_by : goal.returns-then-step_by
-returns-then-step_by c = let a = c.args in
-    let b = a.code.now in
-    let n = length_codes b in
-    let t = told (step_by a.wide) c.inst_at.ensures c.step_by.ensures c.if-step_by.true in
-    any_stop (step a.wide) (codes_of b) c.loop-k.k (code_of blank) (rw n c.loop-k-test.true) t ∙ c.loop-k.invariant.2
-
-pub loop-k-preserved : goal.loop-k-preserved
-loop-k-preserved c = let a = c.args in
-    let b = a.code.now in
-    let n = length_codes b in
-    let t = told (step_by a.wide) c.inst_at.ensures c.step_by.ensures c.if-step_by.false in
-    let e = any_pass (step a.wide) (codes_of b) c.loop-k.k (code_of blank) (rw n c.loop-k-test.true) t in
-    (omega arith, c.loop-k.invariant.1, e ∙ c.loop-k.invariant.2)
-
 pub returns : goal.returns
-returns c = let a = c.args in
-    let b = a.code.now in
-    let n = length_codes b in
-    any_end (step a.wide) (codes_of b) c.loop-k.k (code_of blank) (rw n (omega arith)) ∙ c.loop-k.invariant.2
+returns c =
+    let a = c.args in
+    let n = length (codes_of a.code.now) in
+    any_from_yields_List (λ (k : ℕ). step_by a.wide (code_at (codes_of a.code.now) k).inst) _ _ c.any.result c.any.ensures.ran
+    (YieldsList-from_range 0 n n (rw (length_codes a.code.now)) (omega arith)) (λ x r q k. search (rules, tests))
+    ∙ any_places (code_of blank) (λ (x : Code). step_by a.wide x.inst) (codes_of a.code.now)

@@ -1,33 +1,41 @@
-use Prim.Native.Nat.{◌+◌, ◌<◌, ◌^◌}
-use mathlib.Core.Path.{sym, ap, ◌∙◌}
-use native.Mathlib.Omega.{arith}
-use Rattle.blocks.specs.Blocks.{blocks_of}
-use Rattle.arena.specs.Arena.{arena}
-use Rattle.facts.specs.Storage.{facts_in}
-use Rattle.hop_br.specs.Storage.{Left, grown_to}
+use Rattle.std.proofs.Common.{◌+◌, ◌<◌, ◌^◌, sym, ap, ◌∙◌, arith}
+use Rattle.arena.specs.Arena.{arena_in}
+use Rattle.hop_br.specs.Storage.{Left}
 use Rattle.pause.specs.Storage.{body_in}
-use Rattle.thread.proofs.Laws.{join_few, grown_le, br_stays, br_joins}
+use Rattle.thread.specs.Threading.{at_in}
+use Rattle.thread.proofs.Laws.{join_few, br_stays, br_joins}
 use Rattle.thread.proofs.hop_br.Goals as goal
 
-pub returns-then-stops : goal.returns-then-stops
-returns-then-stops c known copy =
+pub returns-then-stops-clause-hopped : goal.returns-then-stops-clause-hopped
+returns-then-stops-clause-hopped c known copy =
     let a = c.args in
-    br_stays a.facts.now (body_in a.pause) a.budget known copy a.work.now a.table.now a.kinds.now a.s a.a.0 a.l.0
-    (sym c.stops.ensures ∙ c.if-stops.true)
+    let s = a.space.now in
+    let x = a.added.now in
+    let f = a.facts.now in
+    br_stays f.table.now (body_in f.pause) f.budget known copy
+    s.work.now s.table.now x.kinds.now (at_in s x) a.a.0 a.l.0
+    (sym c.stops.ensures.stops ∙ c.if-stops.true)
 
-pub overflow_add-result : goal.overflow_add-result
-overflow_add-result c =
+pub overflow_add-added : goal.overflow_add-added
+overflow_add-added c =
     let a = c.args in
-    let body = body_in a.pause in
-    let few = join_few a.facts.now body a.budget a.a.0 a.l.0 a.s.fresh (arena a.work.now a.table.now a.s.top) a.kinds.now
-    (ap (λ (z : Left). z.n) (c.join-z.ensures body a.budget)) in
-    let le = grown_le (facts_in a.facts.now body a.budget) (grown_to (blocks_of a.work.now a.table.now) a.s.grown) a.a.0 a.l.0
-    (sym c.stops.ensures ∙ c.if-stops.false) in
-    let fits : a.s.grown + c.join-z.result.n < 2 ^ 64 = omega (arith, few, le, c.ranges.budget.fits) in
+    let x = a.added.now in
+    let f = a.facts.now in
+    let body = body_in f.pause in
+    let few = join_few f.table.now body f.budget a.a.0 a.l.0 x.fresh (arena_in a.space.now) x.kinds.now
+    (ap (λ (z : Left). z.n) (c.join-n.ensures.joined body f.budget)) in
+    let low = c.stops.ensures.few c.if-stops.false in
+    let same = c.join-n.ensures.rest.0 in
+    let fits : c.join-n.new.added.grown + c.join-n.result < 2 ^ 64 = omega (arith, few, low, same) in
     record { fits = fits }
 
-pub returns : goal.returns
-returns c known copy =
+pub returns-clause-hopped : goal.returns-clause-hopped
+returns-clause-hopped c known copy =
     let a = c.args in
-    br_joins a.facts.now (body_in a.pause) a.budget known copy a.work.now a.table.now a.kinds.now a.s a.a.0 a.l.0
-    (sym c.stops.ensures ∙ c.if-stops.false) (c.join-z.ensures (body_in a.pause) a.budget) c.fresh_to.ensures
+    let s = a.space.now in
+    let x = a.added.now in
+    let f = a.facts.now in
+    rw c.join-n.ensures.rest.0
+    (br_joins f.table.now (body_in f.pause) f.budget known copy
+    s.work.now s.table.now x.kinds.now (at_in s x) a.a.0 a.l.0
+    (sym c.stops.ensures.stops ∙ c.if-stops.false) (c.join-n.ensures.joined (body_in f.pause) f.budget))

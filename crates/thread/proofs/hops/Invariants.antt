@@ -1,20 +1,21 @@
-use Prim.Native.Nat.{◌-◌, ◌≤◌}
+use Prim.Native.Nat.{◌-◌}
 use mathlib.Core.Path.{◌≡◌}
 use lib.ListN.{length}
 use Rattle.pause.specs.Storage.{body_in}
-use Rattle.thread.specs.Storage.{store, hops_in}
+use Rattle.arena.specs.Arena.{SameSlices}
+use Rattle.hop_cond_br.specs.Kept.{SameRoom}
+use Rattle.thread.specs.Storage.{hops_in}
+use Rattle.thread.specs.Threading.{store_in}
 use Rattle.thread.proofs.hops.Given as goal
 
 abbrev pub invariant-hops : goal.invariant-hops
 invariant-hops l =
-    (l.h ≤ 6)
-    × (length l.work ≡ length l.initial.work)
-    × (length l.table ≡ length l.initial.table)
-    × (length l.kinds ≡ length l.initial.kinds)
-    × (length l.known ≡ length l.initial.known)
-    × (length l.copy ≡ length l.initial.copy)
-    × (hops_in l.facts (body_in l.pause) l.budget (length l.initial.known) (length l.initial.copy) (6 - l.h) l.a.0 (store l.work l.table l.kinds l.s)
-    ≡ hops_in l.facts (body_in l.pause) l.budget (length l.initial.known) (length l.initial.copy) 6 l.a.0 (store l.initial.work l.initial.table l.initial.kinds l.initial.s))
-
-abbrev pub decreases-hops : goal.decreases-hops
-decreases-hops l = 6 - l.h
+    let f = l.facts in
+    let i = l.initial in
+    let known = length i.room.known.now in
+    let copy = length i.room.copy.now in
+    SameSlices i.space l.space
+    × (l.added.kinds.ghost_name ≡ i.added.kinds.ghost_name)
+    × SameRoom i.room l.room
+    × (hops_in f.table.now (body_in f.pause) f.budget known copy (6 - l.counter) l.a.0 (store_in l.space l.added)
+    ≡ hops_in f.table.now (body_in f.pause) f.budget known copy 6 l.a.0 (store_in i.space i.added))

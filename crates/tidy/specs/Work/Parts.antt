@@ -1,6 +1,7 @@
 -- The parts of a file that Read has accepted.
-use Rattle.std.specs.Prelude.{ℕ, ◌+◌, ◌-◌, ◌≤◌, List, map, length}
+use Rattle.std.specs.Prelude.{ℕ, ◌+◌, ◌-◌, ◌≤◌, ◌<◌, ◌≡◌, List, map, length, get_or}
 use Rattle.records.specs.declared.Record.{Record}
+use Rattle.records.specs.Record.{blank}
 use Rattle.layout.specs.declared.Layout.{Layout}
 use Rattle.read.specs.Structure.{code_of as recordsOfBlock}
 use Rattle.read.specs.Work.{part, InCode}
@@ -37,3 +38,10 @@ pub record Fit (rs : List Record) (l : Layout) : Type 0 where
   pub operands : l.operands ≤ l.arms
   pub arms : l.arms ≤ length rs
   pub in_code : InCode (l.operands - l.code) (block_records rs l)
+
+-- the instructions of block k are some records of the file
+pub record BlockPart (rs : List Record) (l : Layout) (k first count : ℕ) : Type 0 where
+  pub some : 0 < count
+  pub few : count ≤ 2048
+  pub within : first + count ≤ length rs
+  pub code : map code_of (part first count rs) ≡ block_code rs l (get_or (block_records rs l) k blank)

@@ -1,70 +1,55 @@
 -- The reads, checked one by one by the table of writers; the lowest register so far.
-use Rattle.std.specs.Prelude.{ℕ, ◌+◌, ◌-◌, ◌/◌, ◌%◌, ◌≤◌, min, ◌≡◌, List, [], ◌∷◌, ◌++◌, map, Bool, false, ◌&&◌, cond, eqb, ltb, length, get_or, take, drop}
+use Rattle.std.specs.Prelude.{ℕ, min, List, [], ◌∷◌, map, Bool, false, ◌&&◌, cond, ltb, Option, Some, None, get_or}
 use Rattle.records.specs.declared.Record.{Record}
-use Rattle.records.specs.Record.{records_of, record_at}
+use Rattle.records.specs.Record.{records_of}
 use Rattle.layout.specs.declared.Layout.{Layout}
-use Rattle.roles.specs.declared.Roles.{Roles}
-use Rattle.roles.specs.Roles.{reads_of, operands_of, numbers_of}
-use Rattle.paths.specs.Paths.{reached_from}
-use Rattle.tidy.specs.declared.Tidiness.{Tidiness}
+use Rattle.inst.specs.declared.Reg.{Reg}
+use Rattle.inst.specs.Kinds.{number_of}
+use Rattle.tidy.specs.declared.targets.Targets.{Targets}
+use Rattle.tidy.specs.declared.writers.Writer.{Writer}
+use Rattle.tidy.specs.declared.writers.Writer.TheVariants as w
 use Rattle.read.specs.Work.{part}
 use Rattle.codec.specs.Codec.{code_of}
-use Rattle.tidy.specs.Tidy.{Placed, Field, placed_in, placed_from, fields_at, reads, wrong, told}
-use Rattle.tidy.specs.Work.Parts.{operands_in, blocks_in, placed_at}
-use Rattle.tidy.specs.Work.Marks.{edges_in}
+use Rattle.tidy.specs.Tidy.{Placed, Field, placed_in, placed_from, reads, wrong, lowest}
+use Rattle.tidy.specs.Work.Parts.{operands_in, blocks_in}
+use Rattle.tidy.specs.Work.Marks.{edges_in, Leading, leading}
 
--- a read at place k of block b, checked by the table's number
-unfoldable pub judged : List (List ℕ) → ℕ → ℕ → ℕ → Bool
-judged es v b k =
-    cond (ltb v 2) false
-    (wrong (λ a t. get_or (reached_from es a) t false) ((v - 2) % 32) ((v - 2) / 32 % 256) ((v - 2) / 32 / 256) b k)
+-- a read at place k of a block, checked by the writers of its register
+abbrev pub judged : Leading → Writer → ℕ → Bool
+judged s w.Nothing k = false
+judged s (w.One kind x y) k = wrong (λ a t. get_or s.marks t false) (number_of kind) x y s.block k
+judged s w.More k = false
 
-unfoldable pub offence : List (List ℕ) → ℕ → List ℕ → ℕ → ℕ → ℕ → Bool
-offence es n ws r b k = ltb r n && judged es (get_or ws r 0) b k
+unfoldable pub offence : Leading → ℕ → List Writer → ℕ → ℕ → Bool
+offence s n ws r k = ltb r n && judged s (get_or ws r w.Nothing) k
 
 -- the lowest register, after one more
-unfoldable pub lower : Tidiness → ℕ → Tidiness
-lower s r = told 0 0 0 (cond (eqb s.tidy 1) r (min s.reg r))
+unfoldable pub lower : Option Reg → ℕ → ℕ
+lower None r = r
+lower (Some s) r = min s.0 r
 
-unfoldable pub lowered : Tidiness → List ℕ → Tidiness
+-- the lowest of some registers, if there are any
+abbrev pub lowest_of : List ℕ → Option Reg
+lowest_of [] = None
+lowest_of (r ∷ rs) = Some (record { 0 = lowest r rs })
+
+unfoldable pub lowered : Option Reg → List ℕ → Option Reg
 lowered s [] = s
-lowered s (r ∷ rs) = lowered (lower s r) rs
+lowered s (r ∷ rs) = lowered (Some (record { 0 = lower s r })) rs
 
--- one more read: the edges, n registers and the table; the place of the read; the lowest so far; the register
-unfoldable pub step : List (List ℕ) → ℕ → List ℕ → ℕ → ℕ → Tidiness → ℕ → Tidiness
-step es n ws b k s r = cond (offence es n ws r b k) (lower s r) s
+-- one more read: the block, n registers and the table; the place of the read; the lowest so far; the register
+unfoldable pub step : Leading → ℕ → List Writer → ℕ → Option Reg → ℕ → Option Reg
+step s n ws k low r = cond (offence s n ws r k) (Some (record { 0 = lower low r })) low
 
-unfoldable pub stepped : List (List ℕ) → ℕ → List ℕ → ℕ → ℕ → Tidiness → List ℕ → Tidiness
-stepped es n ws b k s [] = s
-stepped es n ws b k s (r ∷ rs) = stepped es n ws b k (step es n ws b k s r) rs
+unfoldable pub stepped : Leading → ℕ → List Writer → ℕ → Option Reg → List ℕ → Option Reg
+stepped s n ws k low [] = low
+stepped s n ws k low (r ∷ rs) = stepped s n ws k (step s n ws k low r) rs
 
-unfoldable pub judged_all : List (List ℕ) → ℕ → List ℕ → Tidiness → List Field → Tidiness
-judged_all es n ws s [] = s
-judged_all es n ws s (f ∷ fs) = judged_all es n ws (step es n ws f.at.block f.at.place s f.reg) fs
+unfoldable pub judged_all : List (List ℕ) → ℕ → List Writer → Option Reg → List Field → Option Reg
+judged_all es n ws low [] = low
+judged_all es n ws low (f ∷ fs) = judged_all es n ws (step (leading es f.at.block) n ws f.at.place low f.reg) fs
 
--- roles as an instruction has them
-pub record Five (r : Roles) : Type 0 where
-  pub defs : r.defs ≤ r.n
-  pub most : r.n ≤ 5
-  pub size : length r.reg ≡ 5
-
--- the registers that an instruction reads, over the file's operands
-abbrev pub all_reads : List ℕ → Roles → List ℕ
-all_reads ops r = drop r.defs (take r.n (numbers_of r.reg)) ++ operands_of ops r.list
-
-abbrev pub roles_reads : List ℕ → Layout → Roles → List ℕ
-roles_reads b l r = all_reads (operands_in (records_of b) l) r
-
--- how many, of n operands
-abbrev pub read_count : ℕ → Roles → ℕ
-read_count n r = r.n - r.defs + min r.list.len (n - r.list.start)
-
--- the reads of the record at a place, as that of an instruction of a block; of some instructions of a file
-abbrev pub reads_at : List ℕ → Layout → ℕ → ℕ → ℕ → List Field
-reads_at b l at block place =
-    let x = placed_at block place (record_at b at) in
-    fields_at x (reads_of (operands_in (records_of b) l) x.inst)
-
+-- the reads of some instructions of a file
 abbrev pub reads_in : List Record → Layout → List Placed → List Field
 reads_in rs l xs = reads (operands_in rs l) xs
 
@@ -76,8 +61,5 @@ abbrev pub file_reads : List ℕ → Layout → List Field
 file_reads b l = reads_in (records_of b) l (placed_from 0 (blocks_in (records_of b) l))
 
 -- by a table of targets and a table of writers
-abbrev pub stepped_in : List ℕ → List ℕ → Layout → ℕ → ℕ → Tidiness → List ℕ → Tidiness
-stepped_in ts ws l b k s rs = stepped (edges_in ts) l.blocks ws b k s rs
-
-abbrev pub judged_in : List ℕ → List ℕ → Layout → Tidiness → List Field → Tidiness
-judged_in ts ws l s fs = judged_all (edges_in ts) l.blocks ws s fs
+abbrev pub judged_in : List Targets → List Writer → Layout → Option Reg → List Field → Option Reg
+judged_in ts ws l low fs = judged_all (edges_in ts) l.blocks ws low fs

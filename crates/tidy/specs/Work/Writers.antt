@@ -1,28 +1,33 @@
--- The table of writers: 0 for none, 1 for more than one, else the one writer as a number.
-use Rattle.std.specs.Prelude.{ℕ, ◌+◌, ◌*◌, List, [], ◌∷◌, cond, eqb, get_or, set}
+-- The table of writers.
+use Rattle.std.specs.Prelude.{ℕ, List, [], ◌∷◌, get_or, set}
 use Rattle.inst.specs.Inst.{kind_of}
+use Rattle.inst.specs.Kinds.{kind_at}
 use Rattle.records.specs.Record.{record_at}
 use Rattle.roles.specs.Roles.{defs_of}
+use Rattle.tidy.specs.declared.writers.Writer.{Writer}
+use Rattle.tidy.specs.declared.writers.Writer.TheVariants as w
 use Rattle.tidy.specs.Tidy.{Placed, Field, fields_at}
 use Rattle.tidy.specs.Work.Parts.{placed_at}
 
--- a writer as one number, at least 2
-abbrev pub packed : ℕ → ℕ → ℕ → ℕ
-packed kind block place = 2 + (kind + 32 * (block + 256 * place))
+abbrev pub one_of : Placed → Writer
+one_of x = w.One (kind_at (kind_of x.inst)) x.block x.place
 
-abbrev pub pack : Placed → ℕ
-pack x = packed (kind_of x.inst) x.block x.place
+-- one writer more
+abbrev pub joined : Writer → Writer → Writer
+joined w.Nothing v = v
+joined (w.One kind block place) v = w.More
+joined w.More v = w.More
 
-unfoldable pub note : List ℕ → ℕ → ℕ → List ℕ
-note ws r v = set ws r (cond (eqb (get_or ws r 0) 0) v 1)
+unfoldable pub note : List Writer → ℕ → Writer → List Writer
+note ws r v = set ws r (joined (get_or ws r w.Nothing) v)
 
-unfoldable pub notes : List ℕ → ℕ → List ℕ → List ℕ
+unfoldable pub notes : List Writer → Writer → List ℕ → List Writer
 notes ws v [] = ws
 notes ws v (r ∷ rs) = notes (note ws r v) v rs
 
-unfoldable pub noted : List ℕ → List Field → List ℕ
+unfoldable pub noted : List Writer → List Field → List Writer
 noted ws [] = ws
-noted ws (f ∷ fs) = noted (note ws f.reg (pack f.at)) fs
+noted ws (f ∷ fs) = noted (note ws f.reg (one_of f.at)) fs
 
 -- what the record at a place writes, as an instruction of a block
 abbrev pub written_at : List ℕ → ℕ → ℕ → ℕ → List Field

@@ -1,4 +1,4 @@
-use Prim.Native.Nat.{◌-◌, ◌<◌}
+use Prim.Native.Nat.{◌<◌}
 use mathlib.Core.Path.{◌≡◌}
 use lib.ListN.{length, take, drop}
 use Rattle.facts.specs.Storage.{operands_in}
@@ -10,6 +10,3 @@ invariant-loop-k l =
     let part = take l.len (drop l.start (operands_in l.operands)) in
     (over (counted l.j l.most) l.table (drop l.k part) ≡ over (counted l.j l.most) l.initial.table part)
     × ((l.start < 4294967296) × ((l.len < 4294967296) × (length l.table ≡ length l.initial.table)))
-
-abbrev pub decreases-loop-k : goal.decreases-loop-k
-decreases-loop-k l = l.len - l.k

@@ -1,4 +1,3 @@
-use Prim.Native.Nat.{◌-◌, ◌/◌}
 use mathlib.Core.Path.{◌≡◌}
 use lib.ListN.{length, drop}
 use Rattle.procedure.specs.Procedure.{codes_of}
@@ -10,6 +9,3 @@ abbrev pub invariant-loop-k : goal.invariant-loop-k
 invariant-loop-k l =
     let step = count_code (operands_in l.operands) in
     (over step l.table (drop l.k (codes_of l.code)) ≡ over step l.initial.table (codes_of l.code)) × (length l.table ≡ length l.initial.table)
-
-abbrev pub decreases-loop-k : goal.decreases-loop-k
-decreases-loop-k l = length l.code / 32 - l.k

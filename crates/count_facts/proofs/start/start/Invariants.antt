@@ -1,4 +1,4 @@
-use Prim.Native.Nat.{◌-◌, ◌*◌, ◌/◌, ◌≤◌}
+use Prim.Native.Nat.{◌*◌, ◌/◌, ◌≤◌}
 use mathlib.Core.Path.{◌≡◌}
 use mathlib.Core.List.{◌++◌}
 use lib.ListN.{length, take}
@@ -9,6 +9,3 @@ use Rattle.count_facts.proofs.start.start.Given as goal
 abbrev pub invariant-loop-k : goal.invariant-loop-k
 invariant-loop-k l =
     (l.k ≤ length l.initial.table / 5) × ((take (5 * l.k) l.table ≡ rows l.k (bare (kinds_of l.registers ++ l.kinds))) × (length l.table ≡ length l.initial.table))
-
-abbrev pub decreases-loop-k : goal.decreases-loop-k
-decreases-loop-k l = length l.initial.table / 5 - l.k

@@ -10,10 +10,6 @@ use Rattle.read.proofs.arms.numbered_arms.Given as goal
 abbrev pub invariant-loop-k : goal.invariant-loop-k
 invariant-loop-k l =
     let rs = part l.first l.count (records_of l.b) in
-    (l.k ≤ l.count)
-    × (l.due ≤ l.k)
+    (l.due ≤ l.k)
     × (l.due ≡ tables (take l.k rs))
     × (l.k + walk numbers next_arm (l.due, l.count - l.k) (drop l.k rs) ≡ numbered rs)
-
-abbrev pub decreases-loop-k : goal.decreases-loop-k
-decreases-loop-k l = l.count - l.k

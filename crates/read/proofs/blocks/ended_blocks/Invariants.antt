@@ -1,4 +1,4 @@
-use Prim.Native.Nat.{◌+◌, ◌-◌, ◌≤◌}
+use Prim.Native.Nat.{◌+◌}
 use mathlib.Core.Path.{◌≡◌}
 use lib.ListN.{drop}
 use Rattle.records.specs.Record.{records_of}
@@ -11,7 +11,4 @@ abbrev pub invariant-loop-k : goal.invariant-loop-k
 invariant-loop-k l =
     let is = part l.code l.n (records_of l.b) in
     let bs = part l.first l.count (records_of l.b) in
-    (l.k ≤ l.count) × (l.k + lead (λ r. ends_well (code_of is r)) (drop l.k bs) ≡ ended is bs)
-
-abbrev pub decreases-loop-k : goal.decreases-loop-k
-decreases-loop-k l = l.count - l.k
+    l.k + lead (λ r. ends_well (code_of is r)) (drop l.k bs) ≡ ended is bs

@@ -1,34 +1,29 @@
-use mathlib.Core.Path.{ap, ◌∙◌}
+use Rattle.std.proofs.Common.{◌≡◌, ℕ, ◌+◌, List, length, take, ◌∙◌, rules}
+use Rattle.std.proofs.lemmas.Iterator.{YieldsList-from_range}
+use Rattle.std.proofs.lemmas.Iterator.Search.{YieldsList-from_take_while}
+use Rattle.std.proofs.lemmas.Iterator.Consumers.{count_from_yields_List}
+use Rattle.std.proofs.lemmas.List.Folds.{length-prefix_len}
+use Rattle.std.specs.List.{prefix_len, range_with_len}
 use native.Mathlib.Omega.{arith}
-use native.Mathlib.Nat.{zero-add}
-use mathlib.Core.Bool.{Bool, not}
-use Rattle.records.specs.declared.Record.{Record}
-use Rattle.records.specs.Record.{records_of}
+use mathlib.Core.Bool.{not}
+use Rattle.records.specs.Record.{record_at}
 use Rattle.records.proofs.Laws.{length_records}
+use Rattle.layout.proofs.Walks.{run_range}
 use Rattle.read.specs.Structure.{terminator}
-use Rattle.read.proofs.Laws.{tests_pass, tests_stop, tests-end}
 use Rattle.read.proofs.blocks.first_terminator.Goals as goal
-
-abbrev goesOn : Record → Bool
-goesOn i = not (terminator i)
-
-pub loop-k-init : goal.loop-k-init
-loop-k-init c = (omega arith, zero-add _)
 
 pub overflow_add-first : goal.overflow_add-first
 overflow_add-first c = omega (arith, length_records c.args.b.now)
 
-pub returns-then-terminator : goal.returns-then-terminator
-returns-then-terminator c =
-    let stop = tests_stop goesOn (records_of c.args.b.now) c.args.first c.args.count c.requires c.loop-k.k c.loop-k-test.true in
-    stop c.record_at-r.ensures (ap not c.terminator.ensures) (ap not c.if-terminator.true) ∙ c.loop-k.invariant.1
-
-pub loop-k-preserved : goal.loop-k-preserved
-loop-k-preserved c =
-    let pass = tests_pass goesOn (records_of c.args.b.now) c.args.first c.args.count c.requires c.loop-k.k c.loop-k-test.true in
-    (omega arith, pass c.record_at-r.ensures (ap not c.terminator.ensures) (ap not c.if-terminator.false) ∙ c.loop-k.invariant.1)
-
 pub returns : goal.returns
-returns c = let a = c.args in
-    let rs = records_of a.b.now in
-    tests-end goesOn rs a.first a.count c.requires c.loop-k.k c.loop-k-test.false ∙ c.loop-k.invariant.1
+returns c =
+    let b = c.args.b.now in
+    let first = c.args.first in
+    let n = c.args.count in
+    let test = λ (k : ℕ). not (terminator (record_at b k)) in
+    let ks : List ℕ = range_with_len first n in
+    let run : c.count.result ≡ length (take (prefix_len test ks) ks) =
+    count_from_yields_List _ _ c.count.ensures.ran
+    (YieldsList-from_take_while _ test (YieldsList-from_range first (first + n) n c.take_while-run.ensures.source (omega arith))
+    c.take_while-run.ensures.closure c.take_while-run.ensures.done (λ x t q h. search rules)) in
+    run ∙ length-prefix_len test ks ∙ run_range (λ r. not (terminator r)) b first n (omega (arith, c.requires, length_records b))

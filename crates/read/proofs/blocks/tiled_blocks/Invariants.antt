@@ -1,4 +1,4 @@
-use Prim.Native.Nat.{◌+◌, ◌-◌, ◌≤◌}
+use Prim.Native.Nat.{◌+◌, ◌-◌}
 use mathlib.Core.Path.{◌≡◌}
 use lib.ListN.{drop}
 use Rattle.records.specs.Record.{records_of}
@@ -10,7 +10,4 @@ use Rattle.read.proofs.blocks.tiled_blocks.Given as goal
 abbrev pub invariant-loop-k : goal.invariant-loop-k
 invariant-loop-k l =
     let bs = part l.first l.count (records_of l.b) in
-    (l.k ≤ l.count) × (l.k + walk (tiles l.n) next_block (l.due, l.count - l.k) (drop l.k bs) ≡ tiled l.n bs)
-
-abbrev pub decreases-loop-k : goal.decreases-loop-k
-decreases-loop-k l = l.count - l.k
+    l.k + walk (tiles l.n) next_block (l.due, l.count - l.k) (drop l.k bs) ≡ tiled l.n bs

@@ -1,6 +1,10 @@
-use mathlib.Core.Path.{refl, ◌∙◌}
+use Prim.Native.Nat.{◌+◌}
+use mathlib.Core.Path.{◌≡◌, refl, sym, ◌∙◌}
 use native.Mathlib.Omega.{arith}
-use borrow.Author.Tests.{not-true, not-false}
+use lib.ListN.{length, drop}
+use native.Mathlib.Nat.{zero-add}
+use Rattle.layout.specs.Walk.{lead}
+use Rattle.read.proofs.Laid.{refuse_at, pass_on}
 use Rattle.general.proofs.Booleans.{told}
 use Rattle.records.specs.Record.{records_of, blank}
 use Rattle.records.proofs.Laws.{length_records}
@@ -8,26 +12,30 @@ use Rattle.record_rules.specs.Exist.{names_exist}
 use Rattle.layout.proofs.Walks.{lead_pass, lead_stop, lead-end}
 use Rattle.read.proofs.names.named_records.Goals as goal
 
-pub loop-k-init : goal.loop-k-init
-loop-k-init c = (omega (arith, length_records c.args.b.now), refl)
+pub refused-requires : goal.refused-requires
+refused-requires c = omega (arith, length_records c.args.b.now)
 
 pub returns-then-not-names_exist : goal.returns-then-not-names_exist
 returns-then-not-names_exist c =
-    let a = c.args in
-    let b = a.b.now in
-    let test = told (names_exist a.n) c.record_at-r.ensures c.names_exist.ensures in
-    let stop = lead_stop (names_exist a.n) (records_of b) c.loop-k.k blank (rw (length_records b) (omega arith)) in
-    stop (test (not-true _ c.if-not-names_exist.true-raw)) ∙ c.loop-k.invariant.1
+    let p = names_exist c.args.n in
+    let b = c.args.b.now in
+    let e = lead_stop p (records_of b) c.loop-k.k blank (rw (length_records b) c.loop-k-test.true)
+    (told p c.record_at.ensures c.if-not-names_exist.ensures refl) ∙ c.loop-k.invariant in
+    refuse_at 7 0 _ _ _ c.refused.ensures (e ∙ sym (zero-add _)) (rw (← e, length_records b) c.loop-k-test.true)
 
 pub loop-k-preserved : goal.loop-k-preserved
 loop-k-preserved c =
-    let a = c.args in
-    let b = a.b.now in
-    let test = told (names_exist a.n) c.record_at-r.ensures c.names_exist.ensures in
-    let pass = lead_pass (names_exist a.n) (records_of b) c.loop-k.k blank (rw (length_records b) (omega arith)) in
-    (omega arith, pass (test (not-false _ c.if-not-names_exist.false-raw)) ∙ c.loop-k.invariant.1)
+    let p = names_exist c.args.n in
+    let b = c.args.b.now in
+    lead_pass p (records_of b) c.loop-k.k blank (rw (length_records b) c.loop-k-test.true)
+    (told p c.record_at.ensures c.if-not-names_exist.ensures refl) ∙ c.loop-k.invariant
 
 pub returns : goal.returns
-returns c = let a = c.args in
-    let b = a.b.now in
-    lead-end (names_exist a.n) (records_of b) c.loop-k.k (rw (length_records b) (omega arith)) ∙ c.loop-k.invariant.1
+returns c =
+    let p = names_exist c.args.n in
+    let b = c.args.b.now in
+    let rs = records_of b in
+    let k : length rs ≡ c.loop-k.k = omega (arith, length_records b) in
+    let e : length rs ≡ c.args.first + lead p (drop c.args.first rs) =
+    k ∙ lead-end p rs c.loop-k.k (rw (length_records b) c.loop-k-test.false) ∙ c.loop-k.invariant in
+    pass_on 7 0 _ _ (rw (← e) (omega arith)) refl

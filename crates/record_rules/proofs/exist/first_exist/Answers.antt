@@ -5,14 +5,14 @@ pub returns : goal.returns
 returns c =
     let a = c.args in
     rw (
-      c.wide.ensures,
-      c.most-m.ensures,
-      c.most-3.ensures,
+      c.from.ensures,
+      c.max-most.ensures,
+      c.max.ensures,
       c.upto-5.ensures,
-      c.most-2.ensures,
+      c.max-later.ensures,
       c.upto-4.ensures,
       c.upto-3.ensures,
-      c.most.ensures,
+      c.max-first.ensures,
       c.upto-2.ensures,
       c.upto.ensures,
     ) (few a.n a.used a.r)

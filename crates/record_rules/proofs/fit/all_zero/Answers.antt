@@ -4,5 +4,5 @@ use Rattle.record_rules.proofs.fit.all_zero.Goals as goal
 pub returns : goal.returns
 returns c =
     let a = c.args in
-    rw (c.wide-6.ensures, c.wide-5.ensures, c.wide-4.ensures, c.wide-3.ensures, c.wide-2.ensures, c.wide.ensures)
+    rw (c.from-6.ensures, c.from-5.ensures, c.from-4.ensures, c.from-3.ensures, c.from-2.ensures, c.from.ensures)
     (six_zeros a.a a.b a.c a.d a.e a.f)

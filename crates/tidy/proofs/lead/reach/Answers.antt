@@ -1,39 +1,30 @@
-use mathlib.Core.Path.{refl, ap, ◌∙◌}
-use native.Mathlib.Omega.{arith}
-use Rattle.paths.specs.Paths.{reached_from}
-use Rattle.search.proofs.Search.{held_start, held_first, held-end}
+use Rattle.std.proofs.Common.{ap, ◌∙◌}
+use Rattle.search.specs.Search.{State}
+use Rattle.search.proofs.Laws.{held_start, held-end}
 use Rattle.tidy.specs.Work.Marks.{edges_in}
 use Rattle.tidy.proofs.Edges.{edges_length}
 use Rattle.tidy.proofs.Marks.{all_marked, one_of_160, both_pushed, both_less}
 use Rattle.tidy.proofs.lead.reach.Goals as goal
 
-pub loop-top-init : goal.loop-top-init
-loop-top-init c =
+pub loop-b-init : goal.loop-b-init
+loop-b-init c =
     let ts = c.args.targets.now in
-    let n = edges_length 160 ts c.requires.1 in
-    rw ((let ts = c.args.targets.now in
-    let n = edges_length 160 ts c.requires.1 in
-    held_first (edges_in ts) c.args.from.0 n (omega arith) c.requires.2 refl c.push-top.ensures.sized c.push-top.ensures.result_after c.requires.0)) (held_start (edges_in ts) c.args.from.0 n (omega arith) c.requires.2 refl c.push-top.ensures.sized c.push-top.ensures.result_after)
+    rw (c.push.ensures, c.new-s.ensures) (held_start (edges_in ts) c.args.from.0 160 (edges_length ts ∙ c.requires.1))
 
 pub bounds-targets-b : goal.bounds-targets-b
-bounds-targets-b c = let b = (one_of_160 c.args.targets.now c.requires.1 _ c.loop-top.invariant c.loop-top-test.true) in omega arith
+bounds-targets-b c = one_of_160 c.args.targets.now c.requires.1 _ c.loop-b.invariant c.pop.new.self c.in-Some.b.0 c.in-Some.ensures.some
 
-pub bounds-targets-b-in-loop-top : goal.bounds-targets-b-in-loop-top
-bounds-targets-b-in-loop-top c = let b = (one_of_160 c.args.targets.now c.requires.1 _ c.loop-top.invariant c.loop-top-test.true) in omega arith
+pub loop-b-smaller : goal.loop-b-smaller
+loop-b-smaller c =
+    rw (c.push-in-Some-2.ensures, c.push-in-Some.ensures)
+    (both_less c.args.targets.now c.requires.1 _ c.loop-b.invariant c.pop.new.self c.in-Some.b.0 c.in-Some.ensures.some _)
 
-pub loop-top-smaller : goal.loop-top-smaller
-loop-top-smaller c =
-    both_less c.args.targets.now c.requires.1 _ c.loop-top.invariant c.loop-top-test.true c.push-top-in-loop-top.ensures.sized c.push-top-in-loop-top.ensures.result_after
-    c.push-top-in-loop-top-2.ensures.sized c.push-top-in-loop-top-2.ensures.result_after
-
-pub loop-top-preserved : goal.loop-top-preserved
-loop-top-preserved c =
-    both_pushed c.args.targets.now c.requires.1 _ c.loop-top.invariant c.loop-top-test.true c.push-top-in-loop-top.ensures.sized c.push-top-in-loop-top.ensures.result_after
-    c.push-top-in-loop-top-2.ensures.sized c.push-top-in-loop-top-2.ensures.result_after
+pub loop-b-preserved : goal.loop-b-preserved
+loop-b-preserved c =
+    rw (c.push-in-Some-2.ensures, c.push-in-Some.ensures)
+    (both_pushed c.args.targets.now c.requires.1 _ c.loop-b.invariant c.pop.new.self c.in-Some.b.0 c.in-Some.ensures.some _)
 
 pub returns : goal.returns
 returns c =
-    let ts = c.args.targets.now in
-    all_marked ts c.requires.1 _ (held-end c.loop-top.invariant c.loop-top-test.false) ∙ ap (reached_from (edges_in ts)) ((let ts = c.args.targets.now in
-    let n = edges_length 160 ts c.requires.1 in
-    held_first (edges_in ts) c.args.from.0 n (omega arith) c.requires.2 refl c.push-top.ensures.sized c.push-top.ensures.result_after c.requires.0))
+    let m = c.marks.ensures ∙ ap (λ (s : State). s.found.seen) c.in_default.ensures.kept in
+    m ∙ all_marked c.args.targets.now c.requires.1 _ (held-end c.loop-b.invariant c.in_default.ensures.none)

@@ -1,13 +1,9 @@
-use Prim.Native.Nat.{◌+◌, ◌*◌}
-use lib.ListN.{get_or}
-use Rattle.search.specs.Search.{unmarked}
-use Rattle.search.proofs.Search.{Held}
+use Rattle.search.proofs.Laws.{Held, weight}
 use Rattle.tidy.specs.Work.Marks.{edges_in}
 use Rattle.tidy.proofs.lead.reach.Given as goal
 
--- from the block that was pushed first
-abbrev pub invariant-loop-top : goal.invariant-loop-top
-invariant-loop-top l = Held (edges_in l.targets) (get_or l.initial.stack 0 0) 160 l.marks l.stack l.top
+abbrev pub invariant-loop-b : goal.invariant-loop-b
+invariant-loop-b l = Held (edges_in l.targets) l.fn.from.0 l.s
 
-abbrev pub decreases-loop-top : goal.decreases-loop-top
-decreases-loop-top l = l.top + 2 * unmarked l.marks
+abbrev pub decreases-loop-b : goal.decreases-loop-b
+decreases-loop-b l = weight l.s.found

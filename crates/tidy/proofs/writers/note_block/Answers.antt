@@ -9,10 +9,10 @@ use Rattle.tidy.proofs.Tables.{noted-next, noted-none, length-noted}
 use Rattle.tidy.proofs.writers.note_block.Goals as goal
 
 pub loop-k-init : goal.loop-k-init
-loop-k-init c = (omega arith, refl, refl)
+loop-k-init c = (refl, refl)
 
-pub overflow_add-first : goal.overflow_add-first
-overflow_add-first c = omega (arith, length_records c.args.b.now)
+pub overflow_add-p : goal.overflow_add-p
+overflow_add-p c = omega (arith, length_records c.args.b.now)
 
 pub loop-k-preserved : goal.loop-k-preserved
 loop-k-preserved c =
@@ -20,13 +20,13 @@ loop-k-preserved c =
     let a = c.args in
     let rs = records_of a.b.now in
     let e = c.note_inst.ensures in
-    let n = ap length e ∙ length-noted _ l.ws ∙ l.invariant.1 in
-    (omega arith, n, noted-next l.ws rs a.first a.count (omega arith) a.block.0 l.k (omega arith) e ∙ l.invariant.2)
+    let n = ap length e ∙ length-noted _ l.ws ∙ l.invariant.0 in
+    (n, noted-next l.ws rs a.p.first a.p.count (omega arith) a.block.0 l.k (omega arith) e ∙ l.invariant.1)
 
 pub returns : goal.returns
 returns c =
     let l = c.loop-k in
     let a = c.args in
     let rs = records_of a.b.now in
-    noted-none l.ws (part a.first a.count rs) a.block.0 l.k (rw (part_length rs a.first a.count (omega arith)) c.loop-k-test.false)
-    ∙ l.invariant.2
+    noted-none l.ws (part a.p.first a.p.count rs) a.block.0 l.k (rw (part_length rs a.p.first a.p.count (omega arith)) c.loop-k-test.false)
+    ∙ l.invariant.1

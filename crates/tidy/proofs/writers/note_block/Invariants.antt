@@ -1,4 +1,3 @@
-use Prim.Native.Nat.{◌-◌, ◌≤◌}
 use mathlib.Core.Path.{◌≡◌}
 use mathlib.Core.List.{map}
 use lib.ListN.{length, drop}
@@ -11,10 +10,6 @@ use Rattle.tidy.proofs.writers.note_block.Given as goal
 
 abbrev pub invariant-loop-k : goal.invariant-loop-k
 invariant-loop-k l =
-    let cs = map code_of (part l.first l.count (records_of l.b)) in
-    (l.k ≤ l.count)
-    × (length l.ws ≡ length l.initial.ws)
+    let cs = map code_of (part l.p.first l.p.count (records_of l.b)) in
+    (length l.ws ≡ length l.initial.ws)
     × (noted l.ws (written (placed_in l.block.0 l.k (drop l.k cs))) ≡ noted l.initial.ws (written (placed_in l.block.0 0 cs)))
-
-abbrev pub decreases-loop-k : goal.decreases-loop-k
-decreases-loop-k l = l.count - l.k

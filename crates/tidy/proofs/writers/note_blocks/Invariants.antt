@@ -1,4 +1,3 @@
-use Prim.Native.Nat.{◌-◌, ◌≤◌}
 use mathlib.Core.Path.{◌≡◌}
 use lib.ListN.{length, drop}
 use Rattle.records.specs.Record.{records_of}
@@ -9,10 +8,6 @@ use Rattle.tidy.proofs.writers.note_blocks.Given as goal
 
 abbrev pub invariant-loop-k : goal.invariant-loop-k
 invariant-loop-k l =
-    let bs = blocks_in (records_of l.b) l.l in
-    (l.k ≤ l.count)
-    × (length l.ws ≡ length l.initial.ws)
+    let bs = blocks_in (records_of l.f.b.now) l.f.l in
+    (length l.ws ≡ length l.initial.ws)
     × (noted l.ws (written (placed_from l.k (drop l.k bs))) ≡ noted l.initial.ws (written (placed_from 0 bs)))
-
-abbrev pub decreases-loop-k : goal.decreases-loop-k
-decreases-loop-k l = l.count - l.k

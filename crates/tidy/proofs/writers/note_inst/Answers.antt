@@ -1,24 +1,18 @@
-use mathlib.Core.Path.{ap, ◌∙◌}
-use native.Mathlib.Omega.{arith}
+use Rattle.std.proofs.Common.{ap, ◌∙◌}
+use Rattle.records.specs.Record.{record_at}
 use Rattle.inst.specs.declared.Code.{Code}
+use Rattle.codec.specs.Codec.{inst_of}
 use Rattle.ends.proofs.Laws.{code-at}
-use Rattle.tidy.proofs.Fields.{kind-most, five_of, inst-noted}
+use Rattle.roles.specs.Roles.{defs_of}
+use Rattle.tidy.specs.Work.Parts.{placed_at}
+use Rattle.tidy.proofs.Fields.{kind_is}
+use Rattle.tidy.proofs.Tables.{notes-noted}
 use Rattle.tidy.proofs.writers.note_inst.Goals as goal
-
-pub overflow_add-v-2 : goal.overflow_add-v-2
-overflow_add-v-2 c = let k = kind-most c.inst_at-i.result in let e = c.kind.ensures in omega arith
-
-pub overflow_add-v-3 : goal.overflow_add-v-3
-overflow_add-v-3 c = let k = kind-most c.inst_at-i.result in let e = c.kind.ensures in omega arith
-
-pub note_defs-requires : goal.note_defs-requires
-note_defs-requires c = let f = five_of c.inst_at-i.result c.roles_of.ensures in (omega arith, f.size)
 
 pub returns : goal.returns
 returns c =
     let a = c.args in
-    let i = c.inst_at-i in
-    let is = i.ensures ∙ ap (λ (x : Code). x.inst) (code-at a.b.now a.at) in
-    c.note_defs.ensures
-    ∙ inst-noted a.ws.now a.block.0 a.place i.result is c.roles_of.ensures
-    c.kind.ensures
+    let r = record_at a.b.now a.k in
+    let is = c.inst_at-i.ensures ∙ ap (λ (x : Code). x.inst) (code-at a.b.now a.k) in
+    rw (c.note_defs.ensures, c.written.ensures, c.roles_of.ensures, kind_is c.kind.ensures, is)
+    (notes-noted a.ws.now (placed_at a.at.block.0 a.at.place r) (defs_of (inst_of r)))

@@ -1,0 +1,12 @@
+use mathlib.Core.Path.{ap, ◌∙◌}
+use Rattle.inst.specs.declared.Inst.{Inst}
+use Rattle.codec.specs.Codec.{with_inst}
+use Rattle.steps.specs.Copy.{written}
+use Rattle.copy.specs.Storage.{local_in}
+use Rattle.copy.proofs.Laws.{exchanged-found}
+use Rattle.copy.proofs.copied.Copied.renumbered.Goals as goal
+
+pub returns : goal.returns
+returns c =
+    let a = c.args in
+    ap (λ (i : Inst). with_inst i a.x) ((rw c.as_slice.ensures.value at c.exchange.ensures) ∙ exchanged-found (local_in a.self.now) (written a.d.0 a.m.0) a.x.inst)

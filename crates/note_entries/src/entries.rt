@@ -1,0 +1,80 @@
+ghost use Rattle.std.specs.Prelude.{◌≡◌, ◌<◌, ◌≤◌, ◌+◌, ◌/◌, ◌++◌, ◌∷◌, [], Bool, cond, ltb, length, Option, filter, take};
+
+// Entries of two words at the front of a lent slice. The slice is words and no pairs, since C lends it to the benchmark as words.
+#[derive(Drop)]
+pub struct Entries<'a, W> {
+    words: &'a mut [W],
+    n: usize,
+    ghost fits: { n ≤ length words.now / 2 },
+}
+
+impl<'a, W: Copy> Entries<'a, W> {
+    ghost use Rattle.note_entries.specs.Storage.{listed, room, Keeps};
+
+    pub fn new(words: &'a mut [W]) -> Entries<'a, W>
+        ensures none { listed result ≡ [] }
+        ensures long { length result.words.now ≡ length words.old }
+        ensures count { result.n ≡ 0 }
+    {
+        Entries { words, n: 0 }
+    }
+
+    // Keeps the first m entries.
+    pub fn truncate(&mut self, m: usize)
+        ensures first { listed self.new ≡ take m (listed self.old) }
+        ensures keeps { Keeps 0 self.new self.old }
+    {
+        self.n = usize::min(self.n, m);
+    }
+
+    // Adds an entry, if the slice has room.
+    pub fn push(&mut self, r: W, v: W)
+        ensures one { listed self.new ≡ cond (room self.old) (listed self.old ++ (r, v) ∷ []) (listed self.old) }
+        ensures keeps { Keeps 1 self.new self.old }
+    {
+        let n = self.n;
+        if self.words.len() / 2 <= n {
+            return;
+        }
+        self.words[2 * n] = r;
+        self.words[2 * n + 1] = v;
+        self.n = n + 1;
+    }
+
+    // Keeps, in order, the entries that pass a test.
+    pub fn retain<F: Fn(W, W) -> bool>(&mut self, kept: F)
+        requires { F.IsAlwaysCallable kept }
+        ensures kept { (p : W × W → Bool) → ((r v : W) (b : Bool) → F.post kept r v b → b ≡ p (r, v))
+            → listed self.new ≡ filter p (listed self.old) }
+        ensures keeps { Keeps 0 self.new self.old }
+    {
+        let n = self.n;
+        let mut z = 0;
+        for k in 0..n {
+            let r = self.words[2 * k];
+            let v = self.words[2 * k + 1];
+            self.words[2 * z] = r;
+            self.words[2 * z + 1] = v;
+            z += kept(r, v) as usize;
+        }
+        self.n = z;
+    }
+}
+
+impl<'a, W: Copy + PartialEq> Entries<'a, W> {
+    ghost use Rattle.note_entries.specs.Storage.{listed, first_with};
+
+    // What the first entry of a word says.
+    pub fn find(&self, r: W) -> Option<W>
+        ensures { result ≡ first_with W.eq r (listed self.now) }
+    {
+        let words = &*self.words;
+        for k in 0..self.n {
+            let x = words[2 * k];
+            if x == r {
+                return Some(words[2 * k + 1]);
+            }
+        }
+        None
+    }
+}
