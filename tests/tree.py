@@ -199,6 +199,13 @@ class Tree:
                 return code.types[path[k]], path[k + 1:]
         return None
 
+    def is_constant(self, path):
+        """Whether specs.declared.PATH.TheConstants.C stands in the code of a crate of the repository."""
+        if not crate_of(path) or path[2:4] != ("specs", "declared") or path[1] not in self.crates or path[-2] != "TheConstants":
+            return False
+        code = self.code(path[1], path[4:-2])
+        return bool(code) and path[-1] in code.constants
+
     def is_kits_type(self, path):
         """Whether specs.declared.PATH.T, or a variant there, stands in the code of a crate of the toolchain."""
         if not crate_of(path) or path[2:4] != ("specs", "declared") or path[1] in self.crates or len(path) < 6:
@@ -263,6 +270,8 @@ class Tree:
             if rest == (kind.name,) or rest[:1] == ("TheVariants",) and rest[1:] and rest[1] in kind.variants:
                 return kind
             raise nowhere
+        if self.is_constant(path):
+            return Made(".".join(path))
         if self.is_kits_type(path):
             return Tool(".".join(path))
         if self.is_made(path[:-1]) and not self.file_of(path[:-1]):

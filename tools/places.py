@@ -13,7 +13,7 @@ import sys
 
 os.chdir(os.path.dirname(os.path.dirname(os.path.abspath(__file__))))
 
-ITEM = re.compile(r"^(?:    )?(?:pub )?(?:unsafe )?(?:extern \"C\" )?(fn|struct|enum|const) (\w+)")
+ITEM = re.compile(r"^(?:    )?(?:pub(?:\(\w+\))? )?(?:unsafe )?(?:extern \"C\" )?(fn|struct|enum|const) (\w+)")
 STEPS = "arena|copy|count_facts|emit|emit_records|equal_arms|facts|gate|hop_br|hop_cond_br|note|note_entries|output|reach|run|search|shorten|shortening|thread|tidy"
 # Point, what is searched for, the crates, and the expression. Comments and `ghost use` lines are left out.
 SEARCHES = [
@@ -23,7 +23,7 @@ SEARCHES = [
     (1, "an op by its number", "ops", r"^\s*(\d|_) => |=> \d,$"),
     (1, "0 or another number for none", "facts|halivomue|replies|options|tidy|quote", r"\b(at|from|unknown|command|only\.at|value) [!=]= 0\b|\bBlockId\(160\)|\b160u32\b|NO_KIND|::Unknown|class == 0|WRONG|\bv < 2\b|ws\[k\] = 1"),
     (1, "a flag beside a value", ".*", r"^\s*(pub )?(good|more|edited|joined|hidden|tidy|moved): (bool|u32)"),
-    (2, "functions that differ in a type, a size or a constant", ".*", r"^(pub )?fn (refused|wide|retain_\w+|find|find_copy|add_value|add_copy|\w+_kept|copy|put_front|write_optional|read_optional|read_as|write_as|rewrite_\w+|next_hop|next_meeting|put_word|put_konst|shorten_(small|medium|half|large)|is_name|is_command|is_end|is_valued|too_long|one|two|three|row|put_digits)\("),
+    (2, "functions that differ in a type, a size or a constant", ".*", r"^\s*(pub )?fn (refused|wide|retain_\w+|find|find_copy|add_value|add_copy|\w+_kept|copy|put_front|write_optional|read_optional|read_as|write_as|rewrite_\w+|next_hop|next_meeting|put_word|put_konst|shorten_(small|medium|half|large)|is_name|is_command|is_end|is_valued|too_long|one|two|three|row|put_digits)\("),
     (3, "while", ".*", r"\bwhile\b"),
     (4, "numbers of two values compared", ".*", r"\b\w+(\.\w+)*\.0 (==|!=) \w+(\.\w+)*\.0\b"),
     (4, "least, most, wide, bit, either, less", ".*", r"\bgeneral::least\(|\bmost\(|\bwide\(|\bbit\(|\beither\(|\bless\("),

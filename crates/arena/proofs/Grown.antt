@@ -8,8 +8,9 @@ use mathlib.Core.Logic.{◌⊎◌, inl, inr}
 use borrow.Author.Tests.{leb-true, le-leb, lt-ltb, eq-eqb}
 use lib.ListN.{length, get_or, take, drop, set, length-drop, length-map, get_or-map}
 use lib.Seq.{take-take, take-suc-set, drop-set-add, length-take-le, set-set, get_or-set_same}
+use Rattle.std.proofs.lemmas.List.{take-map, map_push}
 use Rattle.general.proofs.Numbers.{order}
-use Rattle.general.proofs.Lists.{map-take, map-set}
+use Rattle.general.proofs.Lists.{map-set}
 use Rattle.records.specs.declared.Record.{Record}
 use Rattle.records.specs.Record.{records_of, record_at}
 use Rattle.records.proofs.Laws.{length_records}
@@ -37,13 +38,9 @@ front_records b = take (length b - 1) b
 
 front_codes : (b : List Record) → map code_of (front_records b) ≡ front (map code_of b)
 front_codes b =
-    map-take code_of (length b - 1) b
+    sym (take-map code_of (length b - 1) b)
     ∙ ap (λ (n : ℕ). take (n - 1) (map code_of b)) (sym (length-map b code_of))
     ∙ front-take (map code_of b)
-
-map_snoc : {A B : Type 0} (f : A → B) (b : List A) (r : A) → map f (b ++ (r ∷ [])) ≡ map f b ++ (f r ∷ [])
-map_snoc f [] r = refl
-map_snoc f (x ∷ b) r = ap (λ (l : List _). f x ∷ l) (map_snoc f b r)
 
 -- the storage t holds the blocks of s, but for block k, which is the last in it
 pub record Grown (s t : Arena) (k : ℕ) (v : List Record) (b : List Code) : Type 0 where
@@ -282,7 +279,7 @@ module _ (s : Arena) (w : Sound s) (k : ℕ) (h : k < length s.table / 32) (l : 
         let v = get_or B k [] ++ (record_of c ∷ []) in
         let b = get_or (blocks_of s.work s.table) k [] ++ (c ∷ []) in
         let t = arena work_pushed table-pushed (s.top + 1) in
-        let more = map_snoc code_of (get_or B k []) (record_of c)
+        let more = map_push code_of (get_or B k []) (record_of c)
         ∙ ap (λ (x : Code). map code_of (get_or B k []) ++ (x ∷ [])) (read_back c range)
         ∙ ap (λ (x : List Code). x ++ (c ∷ [])) (sym (codes_at s.work s.table k)) in
         let i = space.0 in
@@ -323,7 +320,7 @@ module _ (s : Arena) (k : ℕ) (c : Canonical s.work s.table) where
       canonical_with s t k _ (front b) g c
       (ap front_records block-canonical
       ∙ ap (λ (n : ℕ). take (n - 1) (map record_of b)) (length-map b record_of)
-      ∙ sym (map-take record_of (length b - 1) b)
+      ∙ take-map record_of (length b - 1) b
       ∙ ap (map record_of) (front-take b))
 
   pub push-canonical : {t : Arena} (x : Code)
@@ -334,4 +331,4 @@ module _ (s : Arena) (k : ℕ) (c : Canonical s.work s.table) where
   push-canonical {t} x g =
       let b = get_or (blocks_of s.work s.table) k [] in
       canonical_with s t k _ (b ++ (x ∷ [])) g c
-      (ap (λ (l : List Record). l ++ (record_of x ∷ [])) block-canonical ∙ sym (map_snoc record_of b x))
+      (ap (λ (l : List Record). l ++ (record_of x ∷ [])) block-canonical ∙ sym (map_push record_of b x))

@@ -2,11 +2,11 @@
 use Prim.Native.Nat.{ℕ, ◌+◌, ◌-◌, ◌/◌, ◌≤◌, ◌<◌, min}
 use native.Mathlib.Omega.{arith}
 use native.Mathlib.Numerals.{add-one}
-use mathlib.Core.Path.{◌≡◌, refl, sym, ap, ◌∙◌}
-use mathlib.Core.Bool.{Bool, true, false, ◌&&◌, not}
+use mathlib.Core.Path.{◌≡◌, sym, ap, ◌∙◌}
+use mathlib.Core.Bool.{Bool, true, ◌&&◌, not}
 use mathlib.Core.List.{List}
-use borrow.Author.Tests.{ltb-true, eqb-true, leb-true, leb-false, le-leb, lt-leb}
-use lib.Dec.{ltb, leb}
+use borrow.Author.Tests.{leb-true}
+use lib.Dec.{leb}
 use lib.ListN.{length, drop_of_length-le, get_or, drop}
 use lib.Seq.{drop-cons}
 use Rattle.general.proofs.Booleans.{and_first, and_second}
@@ -14,17 +14,6 @@ use Rattle.records.specs.declared.Record.{Record}
 use Rattle.records.specs.Record.{record_at}
 use Rattle.inst.specs.declared.Code.{Code}
 use Rattle.arena.specs.Arena.{Arena, Topped, size_of, is_last, room, moves, move_if, to_end, popped, pop_if, pop, grows, push_if, push, push_all}
-
--- a place for n more within l
-pub room_split : (top n l : ℕ) → top ≤ l → leb n (l - top) ≡ leb (top + n) l
-room_split top n l h = go (leb n (l - top)) refl
-  where
-    go : (t : Bool) → leb n (l - top) ≡ t → leb n (l - top) ≡ leb (top + n) l
-    go true e = let i = leb-true n (l - top) e in e ∙ sym (le-leb (top + n) l (omega arith))
-    go false e = let i = leb-false n (l - top) e in e ∙ sym (lt-leb (top + n) l (omega arith))
-
-pub no_room : (top n l : ℕ) → l < top → false ≡ leb (top + n) l
-no_room top n l h = sym (lt-leb (top + n) l (omega arith))
 
 -- what the tests tell
 pub record Moving (work : List ℕ) (r : Record) (top : ℕ) : Type 0 where
@@ -38,34 +27,6 @@ moving work r top e =
     let below = leb-true (r.p1 + (r.p2 - r.p1)) top (and_first (leb (r.p1 + (r.p2 - r.p1)) top) _ f) in
     let h = leb-true (top + (r.p2 - r.p1)) (min (length work / 32) 4294967295) (and_second (leb (r.p1 + (r.p2 - r.p1)) top) _ f) in
     record { below = below; fits = omega arith; word = omega arith }
-
-pub record Growing (work : List ℕ) (r : Record) (top : ℕ) : Type 0 where
-  pub ordered : r.p1 ≤ r.p2
-  pub last : r.p2 ≡ top
-  pub fits : top + 1 ≤ length work / 32
-  pub word : top + 1 < 4294967296
-
-pub growing : (work : List ℕ) (r : Record) (top : ℕ) → grows work r top ≡ true → Growing work r top
-growing work r top e =
-    let f = and_first (is_last r top) _ e in
-    let h = leb-true (top + 1) (min (length work / 32) 4294967295) (and_second (is_last r top) _ e) in
-    record {
-      ordered = leb-true r.p1 r.p2 (and_first (leb r.p1 r.p2) _ f);
-      last = eqb-true r.p2 top (and_second (leb r.p1 r.p2) _ f);
-      fits = omega arith;
-      word = omega arith;
-    }
-
-pub record Popping (r : Record) (top : ℕ) : Type 0 where
-  pub holds : r.p1 < r.p2
-  pub last : r.p2 ≡ top
-
-pub popping : (r : Record) (top : ℕ) → popped r top ≡ true → Popping r top
-popping r top e =
-    record {
-      holds = ltb-true r.p1 r.p2 (and_first (ltb r.p1 r.p2) _ e);
-      last = eqb-true r.p2 top (and_second (ltb r.p1 r.p2) _ e);
-    }
 
 -- the test, by its parts
 pub moves_by : (work : List ℕ) (r : Record) (top : ℕ) {l : Bool} {n : ℕ} → l ≡ is_last r top → n ≡ size_of r

@@ -3,13 +3,15 @@
 
 ghost use Rattle.std.specs.Prelude.{◌≡◌};
 ghost use Rattle.records.specs.Record.{record_at};
+ghost use Rattle.blocks.specs.Blocks.{blocks_of, blocks_in};
 ghost use Rattle.arena.specs.Arena as spec;
 
 use blocks::Blocks;
 use inst::{Block, BlockId, Code};
 use records::Record;
 
-// The code and the block table, and how many records of the code are in use.
+// Lent, since there is no heap: the code and the block table, and how many records of the code are
+// in use. That the slices stay is a fact about before and after, which no ghost field can hold.
 #[derive(Drop)]
 pub struct Space<'a> {
     pub work: &'a mut [u8],
@@ -40,7 +42,7 @@ impl Space<'_> {
     pub fn has_room(&self, n: usize) -> bool
         ensures { result ≡ spec.room self.now.work.now self.now.top n }
     {
-        let limit = (self.work.len() / 32).min(4294967295);
+        let limit = (self.work.len() / 32).min(u32::MAX as usize);
         self.top <= limit && n <= limit - self.top
     }
 
@@ -68,6 +70,7 @@ impl Space<'_> {
     pub fn blocks(&self) -> Blocks<'_>
         ensures code { result.code.now ≡ self.now.work.now }
         ensures table { result.table.now ≡ self.now.table.now }
+        ensures blocks { blocks_in result ≡ blocks_of self.now.work.now self.now.table.now }
     {
         Blocks {
             code: self.work,

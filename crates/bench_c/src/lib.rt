@@ -138,7 +138,8 @@ pub extern "C" fn halivomue_put(
     }
 }
 
-// The answer about a form, in the order of struct halivomue_shortening: number is 0 if the form is written.
+// The answer about a form, in the order of struct halivomue_shortening: number is 0 if the form is written. A struct of its own:
+// halivomue_c is a static library, which no crate can use.
 #[repr(C)]
 #[derive(Clone, Copy)]
 pub struct HalivomueForm {
@@ -180,7 +181,7 @@ impl From<Result<Shortening, Refusal>> for HalivomueForm {
                 fresh: s.fresh,
                 rescued: s.rescued,
             },
-            Err(e) => refused(e.reason.number(), e.place),
+            Err(e) => refused(u32::from(e.reason), e.place),
         }
     }
 }

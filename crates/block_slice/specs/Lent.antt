@@ -3,11 +3,11 @@ use Rattle.std.specs.Prelude.{ℕ, List, map, get_or}
 use Rattle.inst.specs.declared.Block.{Block}
 use Rattle.inst.specs.declared.Code.{Code}
 use Rattle.procedure.specs.Procedure.{codes_of}
-use Rattle.blocks.specs.Blocks.{part_bytes}
+use Rattle.records.specs.Part.{part_of}
 
 -- the bytes of a block, from its start to its end
 abbrev pub bytes_of_lent : List ℕ → Block → List ℕ
-bytes_of_lent code b = part_bytes code b.start b.end
+bytes_of_lent code b = part_of code b.start b.end
 
 -- the block past the last
 abbrev pub none : Block

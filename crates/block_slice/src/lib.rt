@@ -1,4 +1,5 @@
-// The blocks of some code, given by a lent slice of Block structs.
+// The blocks of some code, given by a lent slice of Block structs: document 01's form of the block table, in which `list` goes through
+// the code. The steps have the table as records (`blocks`), since they rewrite it.
 #![tactic(auto)]
 
 ghost use Rattle.std.specs.Prelude.{◌≡◌, [], ℕ, ◌<◌, get_or};
@@ -14,7 +15,7 @@ use inst::Block;
 fn part_of<'a>(code: &'a [u8], b: Block) -> &'a [u8]
     ensures { result.now ≡ bytes_of_lent code.now b }
 {
-    blocks::part(code, b.start, b.end)
+    records::part(code, b.start as usize, b.end as usize)
 }
 
 // The code of block k of a lent block table; none past the last block.
@@ -35,14 +36,7 @@ pub fn end_in(code: &[u8], blocks: &[Block], k: usize) -> End
     ends::end_of(block_in(code, blocks, k))
 }
 
-// The same for a table of as many blocks as a file can have. It lends the table, so its callers needn't.
-pub fn block_at<'a>(code: &'a [u8], blocks: [Block; 160], k: usize) -> &'a [u8]
-    ensures { result.now ≡ lent_bytes code.now blocks k }
-{
-    block_in(code, &blocks, k)
-}
-
-// The blocks of the records of a block table; past its last record, empty ones.
+// The blocks of the records of a block table; past its last record, empty ones. Tried by `array::from_fn`, and the proof didn't close.
 pub fn table_of(records: &[u8]) -> [Block; 160]
     ensures { (k : ℕ) → k < 160 → get_or result k none ≡ block_of (record_at records.now k) }
 {

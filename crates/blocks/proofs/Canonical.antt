@@ -5,7 +5,7 @@ use mathlib.Core.Path.{◌≡◌, refl, sym, ap, ◌∙◌}
 use mathlib.Core.Bool.{true}
 use mathlib.Core.List.{List, [], ◌∷◌, map}
 use lib.ListN.{length, get_or, take, drop}
-use Rattle.general.proofs.Lists.{map-take, map-drop}
+use Rattle.std.proofs.lemmas.List.{take-map, drop-map}
 use Rattle.records.specs.declared.Record.{Record}
 use Rattle.records.specs.Record.{records_of, record_at, blank}
 use Rattle.records.specs.Kinds.{right}
@@ -25,7 +25,7 @@ again (r ∷ rs) h =
     ∙ ap (λ (l : List Record). r ∷ l) (again rs (λ j i. h (suc j) (omega arith)))
 
 map-part : {A B : Type 0} (f : A → B) (n s : ℕ) (l : List A) → map f (take n (drop s l)) ≡ take n (drop s (map f l))
-map-part f n s l = map-take f n (drop s l) ∙ ap (take n) (map-drop f s l)
+map-part f n s l = sym (ap (take n) (drop-map f s l) ∙ take-map f n (drop s l))
 
 module _ (c : List Record) (h : map record_of (map code_of c) ≡ c) where
   each : (rs : List Record) → map (recordsOfBlock c) rs ≡ map (map record_of) (map (map code_of) (map (recordsOfBlock c) rs))

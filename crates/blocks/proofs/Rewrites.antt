@@ -8,7 +8,7 @@ use Rattle.general.proofs.Numbers.{order}
 use mathlib.Core.List.{List, [], ◌∷◌, map}
 use borrow.Author.Tests.{lt-ltb, le-ltb}
 use lib.ListN.{length, get_or, take, set}
-use Rattle.general.proofs.Lists.{map-take}
+use Rattle.std.proofs.lemmas.List.{take-map}
 use Rattle.records.specs.declared.Record.{Record}
 use Rattle.records.specs.Record.{records_of, record_at}
 use Rattle.put_record.specs.Store.{put_of}
@@ -58,7 +58,7 @@ front-take (x ∷ (y ∷ c)) =
 pub front_codes : (code : List ℕ) → codes_of (front_bytes code) ≡ front (codes_of code)
 front_codes code =
     ap (map code_of) (front_records_lem code)
-    ∙ map-take code_of (length code / 32 - 1) (records_of code)
+    ∙ sym (take-map code_of (length code / 32 - 1) (records_of code))
     ∙ ap (λ (n : ℕ). take (n - 1) (codes_of code)) (sym (length_codes code))
     ∙ front-take (codes_of code)
 

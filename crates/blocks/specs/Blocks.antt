@@ -1,7 +1,8 @@
 -- Document 01, "Class 2, block": "Each block's records are a part of the code slice from start to end", over the bytes of code and block table.
-use Rattle.std.specs.Prelude.{ℕ, ◌*◌, ◌-◌, ◌/◌, min, ◌≡◌, List, map, length, take, drop}
+use Rattle.std.specs.Prelude.{ℕ, min, ◌≡◌, List, map}
 use Rattle.records.specs.declared.Record.{Record}
 use Rattle.records.specs.Record.{records_of, record_at}
+use Rattle.records.specs.Part.{part_of}
 use Rattle.inst.specs.declared.Code.{Code}
 use Rattle.codec.specs.Codec.{code_of, record_of}
 use Rattle.read.specs.Structure.{code_of as recordsOfBlock}
@@ -30,15 +31,9 @@ end_in n end = min end n
 abbrev pub start_in : ℕ → ℕ → ℕ → ℕ
 start_in n start end = min start (end_in n end)
 
--- the bytes of a part of some code
-abbrev pub part_bytes : List ℕ → ℕ → ℕ → List ℕ
-part_bytes code start end =
-    let n = length code / 32 in
-    take (32 * end_in n end - 32 * start_in n start end) (drop (32 * start_in n start end) code)
-
 -- the bytes of a block, given its record
 abbrev pub bytes_of_block : List ℕ → Record → List ℕ
-bytes_of_block code r = part_bytes code r.p1 r.p2
+bytes_of_block code r = part_of code r.p1 r.p2
 
 -- the bytes of block k; none past the last block
 abbrev pub block_bytes : List ℕ → List ℕ → ℕ → List ℕ

@@ -8,21 +8,12 @@ ghost use Rattle.records.specs.Record.{record_at};
 ghost use Rattle.inst.specs.declared.Inst.TheVariants as i;
 ghost use Rattle.ends.specs.Ends.{end_of};
 ghost use Rattle.procedure.specs.Procedure.{codes_of};
-ghost use Rattle.blocks.specs.Blocks.{part_bytes, bytes_of_block, block_bytes, blocks_in};
+ghost use Rattle.blocks.specs.Blocks.{bytes_of_block, block_bytes, blocks_in};
 ghost use Rattle.blocks.specs.Rewrite as spec;
 
 use ends::End;
 use inst::{BlockId, Inst, StmtId};
 use records::Record;
-
-// The part of some code from start to end, cut off at the code's end.
-pub fn part<'a>(code: &'a [u8], start: u32, end: u32) -> &'a [u8]
-    ensures { result.now ≡ part_bytes code.now start end }
-{
-    let e = usize::min(end as usize, code.len() / 32);
-    let s = usize::min(start as usize, e);
-    &code[32 * s..32 * e]
-}
 
 // Some code and its block table. No model: contracts promise the bytes of a block too, which a list of blocks forgets.
 #[derive(Clone, Copy)]
@@ -50,7 +41,7 @@ impl<'a> Blocks<'a> {
     pub fn block_by(self, r: Record) -> &'a [u8]
         ensures { result.now ≡ bytes_of_block self.entry.code.now r }
     {
-        part(self.code, r.p1, r.p2)
+        records::part(self.code, r.p1 as usize, r.p2 as usize)
     }
 
     // The code of block k; none past the last block.
@@ -60,7 +51,8 @@ impl<'a> Blocks<'a> {
         self.block_by(self.record(k.0 as usize))
     }
 
-    // How a block ends, given only its record and that of its last instruction.
+    // How a block ends, given only its record and that of its last instruction. By `ends::end_of` of its code, that code would be cut
+    // out first (docs/SPEED.md).
     #[tactic(auto, using(crate::proofs::Ends::ends_nowhere, crate::proofs::Ends::ends_there))]
     pub fn end_by(self, r: Record) -> End
         ensures { result ≡ end_of (codes_of (bytes_of_block self.entry.code.now r)) }
@@ -119,7 +111,8 @@ pub fn rewrite_end(code: &mut [u8], r: Record, i: Inst)
     rewrite_last(code, r, |old| codec::rewritten(old, i));
 }
 
-// Turns it into a Br, whose record is made at once: by `rewrite_end` that takes 106 machine instructions in place of 32.
+// Turns it into a Br, whose record is made at once. By `rewrite_end` a record of the instruction is made, then a second with the
+// statement, and the first is thrown away: 106 machine instructions in place of 32, and no plainer.
 pub fn rewrite_br(code: &mut [u8], r: Record, to: BlockId)
     ensures { code.new ≡ spec.end_rewritten code.old r (i.Br to) }
 {

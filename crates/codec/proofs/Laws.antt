@@ -113,7 +113,7 @@ ops_few_16 = ((((((((ops_few_8, lit< tt), lit< tt), lit< tt), lit< tt), lit< tt)
 ops_few : (k : ℕ) → k < 24 → Few k
 ops_few = below Few 24 ((((((((ops_few_16, lit< tt), lit< tt), lit< tt), lit< tt), lit< tt), lit< tt), lit< tt), lit< tt)
 
-word : (p : ℕ) (b : Bool) → (ltb p (2 ^ 32) && b) ≡ true → p < 2 ^ 32
+pub word : (p : ℕ) (b : Bool) → (ltb p (2 ^ 32) && b) ≡ true → p < 2 ^ 32
 word p b h = ltb-true p (2 ^ 32) (and_first (ltb p (2 ^ 32)) b h)
 
 -- what is written fits its 32 bytes

@@ -34,7 +34,7 @@ low_word p q h = omega arith
 pub high_word : (p q : ℕ) → p < 2 ^ 32 → high_of (word_of p q) ≡ q
 high_word p q h = omega arith
 
-word_fits : (p q : ℕ) → p < 2 ^ 32 → q < 2 ^ 32 → word_of p q < 2 ^ 64
+pub word_fits : (p q : ℕ) → p < 2 ^ 32 → q < 2 ^ 32 → word_of p q < 2 ^ 64
 word_fits p q hp hq = omega arith
 
 small : (n : ℕ) → n < 256 → n % 256 ≡ n

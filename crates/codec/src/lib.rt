@@ -10,16 +10,16 @@ use inst::{
     AddrSpace, BlockId, BoolOp, CheckKind, CmpOp, Code, Inst, IntOp, Kind, Reg, Regs, StmtId, Width,
 };
 use ops::{Numbered, Paired};
-use records::Record;
+use records::{Class, Record};
 
-// The word whose low and high halves are in two fields. By bytes it is no plainer (d): u64::from_le_bytes takes eight in one array.
+// The word whose low and high halves are in two fields. By bytes it is no plainer: u64::from_le_bytes takes eight in one array.
 pub fn word_of(low: u32, high: u32) -> u64
     ensures { result ≡ word_of low high }
 {
     u64::from(low) + 4294967296 * u64::from(high)
 }
 
-// The two halves of a word. A cast alone isn't proved to keep a word, and bytes would be joined to a field again (d).
+// The two halves of a word. A cast alone isn't proved to keep a word, and bytes would be joined to a field again.
 pub fn low_of(v: u64) -> u32
     ensures { result ≡ low_of v }
 {
@@ -118,6 +118,7 @@ pub fn inst_of(r: Record) -> Inst
         Kind::DopeLen => Inst::DopeLen {
             dst: q1,
             dope: q2,
+            // A cast alone isn't proved to be the byte.
             dim: (r.p3 % 256) as u8,
         },
         Kind::BoundsLen => Inst::BoundsLen {
@@ -155,6 +156,7 @@ pub fn inst_of(r: Record) -> Inst
     }
 }
 
+// A function and no From, as record_of: both types are another crate's.
 pub fn code_of(r: Record) -> Code
     ensures { result ≡ code_of r }
 {
@@ -169,11 +171,7 @@ pub fn code_of(r: Record) -> Code
 fn row(kind: Kind) -> Record
     ensures { result ≡ row_of (number_of kind) 0 0 0 0 0 0 0 }
 {
-    Record {
-        class: 4,
-        kind: u32::from(kind),
-        ..Record::default()
-    }
+    Record::empty(Class::Instruction, u32::from(kind))
 }
 
 // The record of an instruction, with statement 0.

@@ -1,18 +1,17 @@
 -- What becomes of an instruction in the copy, by the tests in their order.
-use Prim.Native.Nat.{ℕ, ◌≤◌, ◌<◌}
+use Prim.Native.Nat.{ℕ, ◌≤◌}
 use native.Mathlib.Omega.{arith}
-use mathlib.Core.Path.{◌≡◌, refl, sym, ap, ◌∙◌}
-use mathlib.Core.Bool.{Bool, true, false, ◌&&◌}
+use mathlib.Core.Path.{◌≡◌, sym, ap}
+use mathlib.Core.Bool.{true, false}
 use mathlib.Core.List.{List, [], ◌∷◌}
-use borrow.Author.Tests.{eq-eqb, ne_eqb, lt-ltb, le-ltb}
-use lib.Dec.{ltb}
+use borrow.Author.Tests.{eq-eqb, ne_eqb}
 use lib.ListN.{length, get_or}
 use Rattle.inst.specs.declared.Reg.{Reg}
 use Rattle.inst.specs.declared.Inst.{Inst}
 use Rattle.roles.specs.Roles.{defs_of, numbers_of, reg_of}
-use Rattle.ends.specs.Forms.{Fixed, word, real, address, varying, fixed_of}
+use Rattle.ends.specs.Forms.{Fixed, fixed_of}
 use Rattle.steps.specs.Facts.{Facts}
-use Rattle.steps.specs.Copy.{left_out, renumbered, kept, how_fixed, how_written, how_of}
+use Rattle.steps.specs.Copy.{left_out, renumbered, kept, how_written, how_of}
 use Rattle.copy.specs.Storage.{is_const, how_one}
 
 module _ (uses own d : ℕ) (x : Fixed) where
@@ -25,18 +24,8 @@ module _ (uses own d : ℕ) (x : Fixed) where
   pub one_kept : is_const x ≡ false → (uses ≡ own → ⊥) → kept ≡ how_one uses own d x
   one_kept e q = rw (e, ne_eqb uses own q)
 
-fixed-one : (f : Facts) (own d : ℕ) (x : Fixed) → how_one (f.uses d) own d x ≡ how_fixed f own d x
-fixed-one f own d (word v) = refl
-fixed-one f own d real = refl
-fixed-one f own d (address up) = refl
-fixed-one f own d varying = refl
-
-and_false : (b : Bool) → (b && false) ≡ false
-and_false true = refl
-and_false false = refl
-
 -- by what an instruction writes
-pub by_defs : (f : Facts) (own : ℕ → ℕ) (x : Inst) {l : List ℕ} → defs_of x ≡ l → how_written f own (fixed_of x) l ≡ how_of f own x
+by_defs : (f : Facts) (own : ℕ → ℕ) (x : Inst) {l : List ℕ} → defs_of x ≡ l → how_written f own (fixed_of x) l ≡ how_of f own x
 unfolding how_of
 by_defs f own x e = ap (how_written f own (fixed_of x)) (sym e)
 
@@ -50,14 +39,3 @@ module _ (f : Facts) (own : ℕ → ℕ) (x : Inst) where
       → how_written f own (fixed_of x) ((get_or w 0 (reg_of 0)).0 ∷ []) ≡ how_of f own x
   how_some [] e h = absurd (omega arith)
   how_some (r ∷ w) e h = by_defs f own x (sym e)
-
--- a register that is written, by the tests in their order
-module _ (f : Facts) (own : ℕ → ℕ) (x : Fixed) (d : ℕ) where
-  pub written_new : length f.registers ≤ d → kept ≡ how_written f own x (d ∷ [])
-  written_new g = rw (le-ltb d (length f.registers) g)
-
-  pub written_many : f.single d ≡ false → kept ≡ how_written f own x (d ∷ [])
-  written_many g = rw (g, and_false (ltb d (length f.registers)))
-
-  pub written_one : d < length f.registers → f.single d ≡ true → how_one (f.uses d) (own d) d x ≡ how_written f own x (d ∷ [])
-  written_one g s = fixed-one f (own d) d x ∙ rw (lt-ltb d (length f.registers) g, s)

@@ -19,17 +19,9 @@ use Rattle.roles.specs.Roles.{defs_of, uses_of, numbers_of, reg_of}
 use Rattle.roles.specs.Exchange.{exchanged, through}
 use Rattle.roles.proofs.Laws.{all-few}
 use Rattle.procedure.specs.Lists.{times, found, value_or}
+use Rattle.procedure.proofs.Laws.{times_le}
 use Rattle.steps.specs.Copy.{own_uses, read_through}
 use Rattle.copy.specs.Storage.{first_four}
-
-cond_le : (b : Bool) → cond b 1 0 ≤ 1
-cond_le true = omega arith
-cond_le false = omega arith
-
-times_le : (r : ℕ) (l : List ℕ) → times r l ≤ length l
-unfolding times
-times_le r [] = omega arith
-times_le r (x ∷ l) = let e = times_le r l in omega (arith, cond_le (eqb r x))
 
 pub reads_few : (r : ℕ) (x : Inst) → times r (uses_of x) ≤ 5
 reads_few r x = omega (arith, times_le r (uses_of x), all-few x, length-append (defs_of x) (uses_of x))
@@ -80,7 +72,3 @@ four_first (w ∷ x ∷ y ∷ z ∷ c) =
     let l = w ∷ x ∷ y ∷ z ∷ c in
     let four : min (length l) 4 ≡ 4 = omega arith in
     ap (λ (n : ℕ). take n (first_four l)) four
-
-pub two_reads : (r a b : ℕ) {y z : ℕ} → y ≡ times r (a ∷ []) → z ≡ times r (b ∷ []) → y + z ≡ times r (a ∷ b ∷ [])
-unfolding times
-two_reads r a b e f = omega (arith, e, f)

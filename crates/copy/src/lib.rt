@@ -34,26 +34,12 @@ fn times(regs: &[Reg], r: Reg) -> u64
     regs.iter().filter(|x| r == **x).count() as u64
 }
 
-// The same of one register. By a slice, as for the others, a copy takes 2 % more instructions.
-fn read_once(x: Reg, r: Reg) -> u64
-    ensures { (result ≡ times r.0 (x.0 ∷ [])) × (result ≤ 1) }
-{
-    if r == x { 1 } else { 0 }
-}
-
-// How often an instruction reads r. The most common kinds are answered by their fields, the others
-// by their roles.
+// How often an instruction reads r.
 #[tactic(auto, using(crate::proofs::Laws::reads_few))]
 fn reads_of(i: Inst, r: Reg) -> u64
     ensures { (result ≡ times r.0 (uses_of i)) × (result ≤ 5) }
 {
-    match i {
-        Inst::Move { src, .. } => read_once(src, r),
-        Inst::Cmp { a, b, .. } => read_once(a, r) + read_once(b, r),
-        Inst::Br { .. } => 0,
-        Inst::CondBr { c, .. } => read_once(c, r),
-        _ => times(roles::roles_of(i).read(), r),
-    }
+    times(roles::roles_of(i).read(), r)
 }
 
 // Whether it is a Const or ConstF.
@@ -112,7 +98,8 @@ impl<'a> Target<'a> {
         }
     }
 
-    fn how_by_roles(self, i: Inst) -> How
+    // What happens to an instruction of the target.
+    fn how_of(self, i: Inst) -> How
         ensures { (body : Option ℕ) (budget : ℕ)
             → how_in result ≡ steps.how_of (facts_in self.entry.facts.now body budget) (steps.own_uses self.entry.code.now) i }
     {
@@ -120,22 +107,6 @@ impl<'a> Target<'a> {
         match q.written() {
             [] => How::Kept,
             [d, ..] => self.how_written(i, *d),
-        }
-    }
-
-    // What happens to an instruction of the target. The most common kinds are answered by their
-    // fields, the others by their roles.
-    fn how_of(self, i: Inst) -> How
-        ensures { (body : Option ℕ) (budget : ℕ)
-            → how_in result ≡ steps.how_of (facts_in self.entry.facts.now body budget) (steps.own_uses self.entry.code.now) i }
-    {
-        match i {
-            Inst::Const { dst, .. } => self.how_written(i, dst),
-            Inst::Move { dst, .. } => self.how_written(i, dst),
-            Inst::Cmp { dst, .. } => self.how_written(i, dst),
-            Inst::Br { .. } => How::Kept,
-            Inst::CondBr { .. } => How::Kept,
-            _ => self.how_by_roles(i),
         }
     }
 
@@ -157,16 +128,11 @@ impl<'a> Target<'a> {
     }
 }
 
-// The first four instructions of a target, held by value.
+// The first four instructions of a target, held by value: document 01's form is an array of four.
 fn taken(code: &[u8]) -> [Code; 4]
     ensures { result ≡ first_four (codes_of code.now) }
 {
-    [
-        codec::code_of(records::record_at(code, 0)),
-        codec::code_of(records::record_at(code, 1)),
-        codec::code_of(records::record_at(code, 2)),
-        codec::code_of(records::record_at(code, 3)),
-    ]
+    std::array::from_fn(|k| codec::code_of(records::record_at(code, k)))
 }
 
 // The copy of a target's first four instructions; m is the first new number, 65535 at most.

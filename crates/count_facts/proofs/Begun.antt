@@ -4,7 +4,7 @@ use native.Mathlib.Numerals.{add-one, towards_suc}
 use native.Mathlib.Omega.{arith}
 use mathlib.Core.Path.{◌≡◌, refl, sym, ap, ◌∙◌}
 use mathlib.Core.List.{List, [], ◌∷◌, ◌++◌, append_assoc}
-use lib.ListN.{length, get_or, take, drop, set, length-append, get_or-append, get_or-eq_default}
+use lib.ListN.{length, get_or, take, drop, set, length-append, get_or-append}
 use lib.Seq.{sets-eq, length-take-le, take_at, take_all, get_or-append-add}
 use Rattle.records.specs.Record.{record_at}
 use Rattle.facts.specs.Storage.{rows, kinds_of}
@@ -45,9 +45,6 @@ module _ (b kinds : List ℕ) (k : ℕ) where
   kind-new h =
       let e : k ≡ length (kinds_of b) + (k - length b / 32) = omega (arith, kinds-length b) in
       sym (ap (λ (i : ℕ). get_or (kinds_of b ++ kinds) i 0) e ∙ get_or-append-add (kinds_of b) kinds (k - length b / 32) 0)
-
-  pub kind-past : length b / 32 ≤ k → length kinds ≤ k - length b / 32 → 0 ≡ get_or (kinds_of b ++ kinds) k 0
-  kind-past h i = sym (get_or-eq_default kinds 0 i) ∙ kind-new h
 
 pub all_kinds : (b kinds : List ℕ) → length (kinds_of b ++ kinds) ≡ length b / 32 + length kinds
 all_kinds b kinds = length-append (kinds_of b) kinds ∙ ap (λ (n : ℕ). n + length kinds) (kinds-length b)

@@ -1,24 +1,16 @@
 -- Laws of one instruction's class, by the tests of the code.
-use Prim.Native.Nat.{ℕ, ◌+◌, ◌*◌, ◌≤◌, ◌<◌}
+use Prim.Native.Nat.{ℕ, ◌+◌, ◌*◌, ◌<◌}
 use mathlib.Core.Path.{◌≡◌, refl, sym}
 use mathlib.Core.Bool.{Bool, true, false, cond, not, ◌&&◌}
 use Rattle.std.proofs.Common.{Option, None, Some}
 use Rattle.std.proofs.lemmas.Option.{none-some, same_Some}
 use mathlib.Core.List.{List}
-use borrow.Author.Tests.{lt-ltb, le-ltb, eq-eqb, ne_eqb, ltb-true, true-eqb}
+use borrow.Author.Tests.{lt-ltb, eq-eqb, ne_eqb, ltb-true, true-eqb}
 use lib.Dec.{eqb, ltb}
 use lib.ListN.{length, get_or, set}
 use Rattle.count_facts.specs.Filling.{with_word, with_konst, with_constant}
 
 module _ (t : List ℕ) (d : ℕ) where
-  pub word-short : (v : ℕ) → length t ≤ 5 * d + 4 → t ≡ with_word t d v
-  unfolding with_word
-  word-short v h = rw (le-ltb (5 * d + 4) (length t) h)
-
-  pub konst-short : length t ≤ 5 * d + 4 → t ≡ with_konst t d
-  unfolding with_konst
-  konst-short h = rw (le-ltb (5 * d + 4) (length t) h)
-
   module _ (h : 5 * d + 4 < length t) where
     pub word_often : (v : ℕ) → (get_or t (5 * d + 1) 0 ≡ 1 → ⊥) → t ≡ with_word t d v
     unfolding with_word

@@ -13,7 +13,7 @@ use Rattle.records.specs.declared.Record.{Record}
 use Rattle.records.specs.Record.{records_of, record_at, blank}
 use Rattle.records.proofs.Laws.{length_records}
 use Rattle.facts.specs.Storage.{operands_in, kinds_of}
-use Rattle.facts.proofs.Rows.{get_d_any}
+use Rattle.general.proofs.Lists.{get_d_any}
 use Rattle.count_facts.specs.Filling.{over, bumped}
 
 module _ (cap : ℕ) (l : List ℕ) (r : ℕ) where

@@ -13,7 +13,7 @@ use Rattle.roles.specs.Roles.{defs_of, reads_of}
 use Rattle.procedure.specs.Lists.{times}
 use Rattle.procedure.specs.Counts.{writes_in, use_count}
 use Rattle.facts.specs.Storage.{cap}
-use Rattle.facts.proofs.Rows.{get_d_any}
+use Rattle.general.proofs.Lists.{get_d_any}
 use Rattle.count_facts.specs.Filling.{over, bumped, counted, count_code}
 
 -- one more at a place

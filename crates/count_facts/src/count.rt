@@ -9,33 +9,60 @@ ghost use Rattle.count_facts.specs.Filling.{over, counted, count_inst, count_cod
 use inst::{BoolOp, Inst, Kind, Reg, Regs};
 use ops::Numbered;
 
-// Where the counts end.
-const MOST_DEFINITIONS: u64 = 255;
-
-const MOST_USES: u64 = 4294967295;
-
-// Adds one in column j of a register's row, up to `most`; does nothing if the table has no such
-// place.
-fn bump(table: &mut [u64], j: usize, most: u64, r: Reg)
-    requires { j < 5 }
-    ensures { table.new ≡ counted j most table.old r.0 }
-{
-    let at = facts::ROW * (r.0 as usize) + j;
-    if at < table.len() {
-        let x = table[at];
-        if x < most {
-            table[at] = x + 1;
-        }
-    }
+// A column of the table's rows that counts, and where its counts end.
+#[derive(Clone, Copy)]
+struct Column {
+    at: usize,
+    most: u64,
+    ghost within: { at < 5 },
 }
 
-// Counts each of some registers.
-fn bump_each(table: &mut [u64], j: usize, most: u64, regs: &[Reg])
-    requires { j < 5 }
-    ensures { table.new ≡ over (counted j most) table.old (numbers_of regs.now) }
-{
-    for r in regs {
-        bump(table, j, most, *r);
+const DEFINITIONS: Column = Column {
+    at: facts::DEFINITIONS,
+    most: 255,
+};
+
+const USES: Column = Column {
+    at: facts::USES,
+    most: u32::MAX as u64,
+};
+
+impl Column {
+    // Adds one in a register's row, up to `most`; does nothing if the table has no such place.
+    fn bump(self, table: &mut [u64], r: Reg)
+        ensures { table.new ≡ counted self.at self.most table.old r.0 }
+    {
+        let at = facts::ROW * (r.0 as usize) + self.at;
+        if at < table.len() {
+            let x = table[at];
+            if x < self.most {
+                table[at] = x + 1;
+            }
+        }
+    }
+
+    // Counts each of some registers.
+    fn bump_each(self, table: &mut [u64], regs: &[Reg])
+        ensures { table.new ≡ over (counted self.at self.most) table.old (numbers_of regs.now) }
+    {
+        for r in regs {
+            self.bump(table, *r);
+        }
+    }
+
+    // Counts the operands of a list, from the operand records.
+    fn bump_list(self, table: &mut [u64], operands: &[u8], list: Regs)
+        ensures { table.new ≡ over (counted self.at self.most) table.old (operands_of (operands_in operands.now) list) }
+    {
+        let start = list.start as usize;
+        let len = list.len as usize;
+        for k in 0..len {
+            if operands.len() / 32 <= start + k {
+                return;
+            }
+            let r = items::operand_of(records::record_at(operands, start + k));
+            self.bump(table, r);
+        }
     }
 }
 
@@ -44,38 +71,24 @@ fn count_fields(table: &mut [u64], written: &[Reg], read: &[Reg])
     ensures { table.new
         ≡ over (counted 2 cap) (over (counted 1 255) table.old (numbers_of written.now)) (numbers_of read.now) }
 {
-    bump_each(table, facts::DEFINITIONS, MOST_DEFINITIONS, written);
-    bump_each(table, facts::USES, MOST_USES, read);
+    DEFINITIONS.bump_each(table, written);
+    USES.bump_each(table, read);
 }
 
-// Counts the operands of a list, from the operand records.
-fn bump_list(table: &mut [u64], j: usize, most: u64, operands: &[u8], list: Regs)
-    requires { j < 5 }
-    ensures { table.new ≡ over (counted j most) table.old (operands_of (operands_in operands.now) list) }
-{
-    let start = list.start as usize;
-    let len = list.len as usize;
-    for k in 0..len {
-        if operands.len() / 32 <= start + k {
-            return;
-        }
-        let r = items::operand_of(records::record_at(operands, start + k));
-        bump(table, j, most, r);
-    }
-}
-
-// An instruction's definitions and its uses.
+// An instruction's definitions and its uses. The table and the operands stand apart: one is written and the other read, and the
+// definitions, like most kinds of record, are counted with the table alone.
 #[tactic(auto, using(crate::proofs::Laws::over_append))]
 fn count_inst(table: &mut [u64], operands: &[u8], i: Inst)
     ensures { table.new ≡ count_inst (operands_in operands.now) table.old i }
 {
     let q = roles::roles_of(i);
     count_fields(table, q.written(), q.read());
-    bump_list(table, facts::USES, MOST_USES, operands, q.list());
+    USES.bump_list(table, operands, q.list());
 }
 
-// The same for record k. The most common kinds are counted by its fields, the others by their roles. It is inlined into the loop,
-// which knows that the record is there: otherwise it takes 17 % more instructions.
+// The same for record k. The most common kinds are counted by its fields, the others by their roles: by their roles alone, drawn
+// files of 240 instructions take 25.8 % more instructions (docs/DECISIONS.md). It is inlined into the loop, which knows that the
+// record is there: otherwise it takes 17 % more.
 #[inline(always)]
 #[tactic(auto, using(codec::proofs::Table::inst_by_kind), unfolding(crate::specs::Filling::over))]
 fn count_record(table: &mut [u64], operands: &[u8], code: &[u8], k: usize)

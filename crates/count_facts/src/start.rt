@@ -2,7 +2,8 @@ ghost use Rattle.std.specs.Prelude.{◌≡◌, ◌∷◌, ◌++◌, ◌+◌, ◌
 ghost use Rattle.facts.specs.Storage.{rows, kinds_of};
 ghost use Rattle.count_facts.specs.Filling.{bare};
 
-// A register's row before anything is counted.
+// A register's row before anything is counted. Five writes: `copy_from_slice` makes an array and tests whether it overlaps the row,
+// and so takes more than twice as many instructions.
 fn put_row(table: &mut [u64], at: usize, kind: u32)
     requires { at + 5 ≤ length table.old }
     ensures { table.new ≡ take at table.old ++ (kind ∷ 0 ∷ 0 ∷ 0 ∷ 0 ∷ drop (at + 5) table.old) }
@@ -23,10 +24,7 @@ fn kind_of(registers: &[u8], kinds: &[u8], k: usize) -> u32
         let r = records::record_at(registers, k);
         return r.kind;
     }
-    if k - n < kinds.len() {
-        return kinds[k - n] as u32;
-    }
-    0
+    kinds.get(k - n).copied().unwrap_or(0) as u32
 }
 
 // A row for each register that the table has room for.

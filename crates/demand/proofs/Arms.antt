@@ -22,6 +22,7 @@ use Rattle.machine.specs.Machine.{Address}
 use Rattle.demand.specs.Setting.{defs_at, reads_at}
 use Rattle.demand.proofs.Effects.{Shape, constant, computed, acting, going, testing, casing, ending, shape}
 use Rattle.demand.proofs.Codes.{ends-in, in-range, set-block}
+use Rattle.demand.proofs.Branches.{cond_other}
 use Rattle.demand.proofs.Rewrites.{empty_end}
 use Rattle.demand.proofs.Counted.{writes-last}
 use Rattle.demand.proofs.Sums.{writes-count, sum_set}
@@ -50,18 +51,15 @@ module _ (T : List (List Code) → Type 0)
   pub arms_keep : (P : List (List Code)) → T P → T (equal_arms P).blocks
   arms_keep P p = arms-from (length P) 0 (record { blocks = P; edited = false }) p
 
-cond_no_other : (c : Reg) (t u : BlockId) → e.CondBr c t u ≡ e.Other → ⊥
-cond_no_other c t u q = let z : ◌≡◌ {A = ℕ} 0 1 = cc in omega arith
-
 module _ (address : Address) where
   -- a CondBr writes nothing
   cond_writes : (x : Code) (c : Reg) (t u : BlockId) → view_of x.inst ≡ e.CondBr c t u → defs_at x ≡ []
   cond_writes x c t u q = by (shape address x.inst)
     where
       by : Shape address x.inst → defs_at x ≡ []
-      by (constant d v p w l n f a) = absurd (cond_no_other c t u (sym q ∙ f.view))
-      by (computed d F p l f a) = absurd (cond_no_other c t u (sym q ∙ f.view))
-      by (acting w f a) = absurd (cond_no_other c t u (sym q ∙ f.view))
+      by (constant d v p w l n f a) = absurd (cond_other c t u (sym q ∙ f.view))
+      by (computed d F p l f a) = absurd (cond_other c t u (sym q ∙ f.view))
+      by (acting w f a) = absurd (cond_other c t u (sym q ∙ f.view))
       by (going l w f a) = f.none
       by (testing d l m w v f a) = f.none
       by (casing n w f a) = f.none
@@ -74,7 +72,7 @@ module _ (address : Address) where
       same : (Q : List (List Code)) (k to : ℕ) (c : Reg) (t u : BlockId) → end_of (get_or Q k []) ≡ e.CondBr c t u
           → writes_in (with_end (i.Br (block_of to)) (get_or Q k [])) r ≡ writes_in (get_or Q k []) r
       same Q k to c t u q =
-          let z = ends-in (get_or Q k []) (e.CondBr c t u) q (cond_no_other c t u) in
+          let z = ends-in (get_or Q k []) (e.CondBr c t u) q (cond_other c t u) in
           ap (λ w. writes_in w r) (z.rewritten (i.Br (block_of to)))
           ∙ writes-last (front (get_or Q k [])) (with_inst (i.Br (block_of to)) z.last) r refl
           ∙ sym (writes-last (front (get_or Q k [])) z.last r (cond_writes z.last c t u (z.view ∙ q)))
@@ -97,12 +95,12 @@ arms-few ops P p = arms_keep (λ Q. (b : ℕ) → EndFew ops (get_or Q b [])) ke
   where
     keep : (Q : List (List Code)) (k to : ℕ) (c : Reg) (t u : BlockId) → end_of (get_or Q k []) ≡ e.CondBr c t u
         → ((b : ℕ) → EndFew ops (get_or Q b [])) → (b : ℕ) → EndFew ops (get_or (branched Q k to) b [])
-    keep Q k to c t u q p b = by (set-block Q k _ (in-range Q k (λ z. cond_no_other c t u (sym q ∙ ap end_of z ∙ empty_end))) b)
+    keep Q k to c t u q p b = by (set-block Q k _ (in-range Q k (λ z. cond_other c t u (sym q ∙ ap end_of z ∙ empty_end))) b)
       where
         by : ((b ≡ k) × (get_or (branched Q k to) b [] ≡ with_end (i.Br (block_of to)) (get_or Q k []))) ⊎ (get_or (branched Q k to) b [] ≡ get_or Q b [])
             → EndFew ops (get_or (branched Q k to) b [])
         by (inl s) pre x w =
-            let z = ends-in (get_or Q k []) (e.CondBr c t u) q (cond_no_other c t u) in
+            let z = ends-in (get_or Q k []) (e.CondBr c t u) q (cond_other c t u) in
             let v = last-same (front (get_or Q k [])) pre (with_inst (i.Br (block_of to)) z.last) x
             (sym (z.rewritten (i.Br (block_of to))) ∙ sym s.1 ∙ w) in
             subst (λ x. length (reads_at ops x) ≤ 1) v (omega arith)

@@ -1,52 +1,21 @@
 -- Small facts: tests, lists of numbers, registers.
 use Prim.Native.Nat.{ℕ}
-use mathlib.Core.Path.{◌≡◌, refl, sym, ap, subst, ◌∙◌}
+use mathlib.Core.Path.{◌≡◌, refl, sym, ap, ◌∙◌}
 use mathlib.Core.Logic.{◌⊎◌, inl, inr}
 use mathlib.Core.List.{List, [], ◌∷◌, ◌++◌, map}
 use Rattle.std.proofs.Common.{Option, None, Some}
-use mathlib.Core.Bool.{Bool, true, false, not, ◌&&◌, ◌||◌}
+use mathlib.Core.Bool.{Bool, true, false, ◌||◌}
 use native.Mathlib.Omega.{arith}
 use native.Mathlib.Decide.{ℕ_discrete}
-use lib.Dec.{T, eqb, eqb_refl, eqb→eq}
 use lib.ListN.{get_or, drop}
+use borrow.Author.Clash.{clash}
+use borrow.Author.Tests.{eq-eqb, ne_eqb}
 use Rattle.procedure.specs.Lists.{any_of}
 use Rattle.machine.specs.Machine.{Regs, upd, stores}
 use Rattle.demand.specs.Setting.{In}
 
-pub clash : {A : Type 0} {b : Bool} → b ≡ true → b ≡ false → A
-clash e f = let z : ◌≡◌ {A = ℕ} 0 1 = cc in absurd (omega arith)
-
 pub clash_some : {A : Type 0} {o : Option ℕ} {v : ℕ} → o ≡ Some v → o ≡ None → A
 clash_some e f = let z : ◌≡◌ {A = ℕ} 0 1 = cc in absurd (omega arith)
-
-pub eqb_true : (x y : ℕ) → x ≡ y → eqb x y ≡ true
-eqb_true x y e = by (eqb x y) (subst (λ z. T (eqb x z)) e (eqb_refl x))
-  where
-    by : (b : Bool) → T b → b ≡ true
-    by true t = refl
-    by false t = absurd t
-
-pub eqb_false : (x y : ℕ) → ¬ (x ≡ y) → eqb x y ≡ false
-eqb_false x y ne = by (eqb x y) (λ t. ne (eqb→eq x y t))
-  where
-    by : (b : Bool) → (T b → ⊥) → b ≡ false
-    by true f = absurd (f tt)
-    by false f = refl
-
-pub eqb_eq : (x y : ℕ) → eqb x y ≡ true → x ≡ y
-eqb_eq x y e = eqb→eq x y (subst T (sym e) tt)
-
-pub and_both : (a b : Bool) → a && b ≡ true → (a ≡ true) × (b ≡ true)
-and_both true b e = (refl, e)
-and_both false b e = clash e refl
-
-pub or_none : (a b : Bool) → a || b ≡ false → (a ≡ false) × (b ≡ false)
-or_none true b e = clash refl e
-or_none false b e = (refl, e)
-
-pub not_false : (b : Bool) → not b ≡ false → b ≡ true
-not_false true e = refl
-not_false false e = clash refl e
 
 -- a number stands in a list, or doesn't
 pub dec_in : (r : ℕ) (xs : List ℕ) → Dec (In r xs)
@@ -89,7 +58,7 @@ in_mapped f r (x ∷ xs) (inr m) = inr (in_mapped f r xs m)
 
 pub any_in : (p : ℕ → Bool) (xs : List ℕ) → any_of p xs ≡ true → (r : ℕ) × (p r ≡ true) × In r xs
 unfolding any_of
-any_in p [] e = clash e refl
+any_in p [] e = clash _ e refl
 any_in p (x ∷ xs) e = by (p x) refl e (any_in p xs)
   where
     by : (b : Bool) → p x ≡ b → b || any_of p xs ≡ true → (any_of p xs ≡ true → (r : ℕ) × (p r ≡ true) × In r xs)
@@ -103,10 +72,10 @@ map_same f g [] a = refl
 map_same f g (r ∷ rs) a = cc (a r (inl refl), map_same f g rs (λ x m. a x (inr m)))
 
 pub upd_same : (w v : ℕ) (g : Regs) (r : ℕ) → r ≡ w → upd w v g r ≡ v
-upd_same w v g r e = rw (eqb_true r w e)
+upd_same w v g r e = rw (eq-eqb r w e)
 
 pub upd_other : (w v : ℕ) (g : Regs) (r : ℕ) → ¬ (r ≡ w) → upd w v g r ≡ g r
-upd_other w v g r ne = rw (eqb_false r w ne)
+upd_other w v g r ne = rw (ne_eqb r w ne)
 
 pub stores-other : (rs vs : List ℕ) (g : Regs) (r : ℕ) → ¬ (In r rs) → stores rs vs g r ≡ g r
 stores-other [] vs g r n = refl

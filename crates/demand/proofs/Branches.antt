@@ -29,10 +29,10 @@ use Rattle.demand.proofs.Edit.{Tail, Block, whole, part}
 apart : {A : Type 0} {v w : End} (x : Inst) → view_of x ≡ v → view_of x ≡ w → (v ≡ w → ⊥) → A
 apart x p q n = absurd (n (sym p ∙ q))
 
-br_other : (l : BlockId) → e.Br l ≡ e.Other → ⊥
+pub br_other : (l : BlockId) → e.Br l ≡ e.Other → ⊥
 br_other l q = let z : ◌≡◌ {A = ℕ} 0 1 = cc in omega arith
 
-cond_other : (c : Reg) (l m : BlockId) → e.CondBr c l m ≡ e.Other → ⊥
+pub cond_other : (c : Reg) (l m : BlockId) → e.CondBr c l m ≡ e.Other → ⊥
 cond_other c l m q = let z : ◌≡◌ {A = ℕ} 0 1 = cc in omega arith
 
 module _ (E : Setting) where

@@ -7,6 +7,9 @@ use Rattle.std.proofs.Common.{None, Some}
 use mathlib.Core.Bool.{Bool, true, false, ◌&&◌, ◌||◌, cond}
 use lib.Dec.{eqb, ltb}
 use lib.ListN.{length}
+use borrow.Author.Clash.{clash}
+use borrow.Author.Tests.{eqb-true}
+use Rattle.std.proofs.lemmas.Bool.{and_parts}
 use Rattle.inst.specs.Inst.{kind_of}
 use Rattle.inst.specs.declared.Code.{Code}
 use Rattle.inst.specs.declared.Inst.{Inst}
@@ -25,7 +28,6 @@ use Rattle.machine.specs.Machine.{Regs, Effect, writes, goes, ends, asks, effect
 use Rattle.machine.specs.Single.{constant_of}
 use Rattle.machine.proofs.Exchanged.{effect-exchanged}
 use Rattle.demand.specs.Setting.{In, Setting, does, defs_at, reads_at}
-use Rattle.demand.proofs.Basics.{clash, eqb_eq, and_both}
 use Rattle.demand.proofs.Effects.{Shape, constant, computed, acting, going, testing, casing, ending, shape, plain, varies, fixed_constant}
 
 -- an effect that leaves the block
@@ -39,10 +41,10 @@ small-ends : (k : ℕ) → small_end_kind k ≡ true → terminator_kind k ≡ t
 small-ends k q = by (eqb k 18) (eqb k 19) (eqb k 21) refl refl refl q
   where
     by : (a b c : Bool) → eqb k 18 ≡ a → eqb k 19 ≡ b → eqb k 21 ≡ c → (a || b || c) ≡ true → terminator_kind k ≡ true
-    by true b c p p' p'' q = rw (eqb_eq k 18 p)
-    by false true c p p' p'' q = rw (eqb_eq k 19 p')
-    by false false true p p' p'' q = rw (eqb_eq k 21 p'')
-    by false false false p p' p'' q = clash q refl
+    by true b c p p' p'' q = rw (eqb-true k 18 p)
+    by false true c p p' p'' q = rw (eqb-true k 19 p')
+    by false false true p p' p'' q = rw (eqb-true k 21 p'')
+    by false false false p p' p'' q = clash _ q refl
 
 -- an exchange of registers keeps the kind and whether a constant is written
 exchanged-alike : (σ τ : ℕ → ℕ) (x : Inst) → (kind_of (exchanged σ τ x) ≡ kind_of x) × (is_fixed (fixed_of (exchanged σ τ x)) ≡ is_fixed (fixed_of x))
@@ -101,7 +103,7 @@ module _ (E : Setting) where
   plain-varying : (x : Fixed) → is_fixed x ≡ false → plain x ≡ true
   plain-varying (word v) q = refl
   plain-varying real q = refl
-  plain-varying (address up) q = clash refl q
+  plain-varying (address up) q = clash _ refl q
   plain-varying varying q = refl
 
   silent : (x : Code) → dupable x.inst ≡ true → Silent x
@@ -121,11 +123,11 @@ module _ (E : Setting) where
                 f.is-fixed;
             no_end = f.no_end;
           }
-      by (acting u f a) = clash q u
-      by (going l w f a) = clash q f.no_copy
-      by (testing c l m w u f a) = clash q f.no_copy
-      by (casing n w f a) = clash q f.no_copy
-      by (ending F w f a) = clash q f.no_copy
+      by (acting u f a) = clash _ q u
+      by (going l w f a) = clash _ q f.no_copy
+      by (testing c l m w u f a) = clash _ q f.no_copy
+      by (casing n w f a) = clash _ q f.no_copy
+      by (ending F w f a) = clash _ q f.no_copy
 
   last : (x : Code) → small_end x.inst ≡ true → Last x
   last x q = by (shape E.address x.inst)
@@ -134,9 +136,9 @@ module _ (E : Setting) where
       t = small-ends (kind_of x.inst) q
 
       by : Shape E.address x.inst → Last x
-      by (constant d v e u l c f a) = clash t f.no_end
-      by (computed d F e l f a) = clash t f.no_end
-      by (acting u f a) = clash t f.no_end
+      by (constant d v e u l c f a) = clash _ t f.no_end
+      by (computed d F e l f a) = clash _ t f.no_end
+      by (acting u f a) = clash _ t f.no_end
       by (going l w f a) = record { none = f.none; unlisted = f.unlisted; leaves = λ g. subst Leaves (sym (a _ _ _ _)) tt; few = f.few }
       by (testing c l m w u f a) = record { none = f.none; unlisted = f.unlisted; leaves = λ g. subst Leaves (sym (a _ _ _ _)) tt; few = f.few }
       by (casing n w f a) = record { none = f.none; unlisted = f.unlisted; leaves = λ g. subst Leaves (sym (a _ _ _ _)) tt; few = f.few }
@@ -144,9 +146,9 @@ module _ (E : Setting) where
 
   pub small_is : (c : List Code) → copyable c ≡ true → Small c
   unfolding copyable
-  small_is [] q = clash q refl
+  small_is [] q = clash _ q refl
   small_is (x ∷ []) q = last x q
-  small_is (x ∷ y ∷ c) q = let t = and_both (dupable x.inst) (copyable (y ∷ c)) q in (silent x t.0, small_is (y ∷ c) t.1)
+  small_is (x ∷ y ∷ c) q = let t = and_parts (dupable x.inst) (copyable (y ∷ c)) q in (silent x t.0, small_is (y ∷ c) t.1)
 
   -- an instruction renamed: σ over what it reads, τ over what it writes
   module _ (σ τ : ℕ → ℕ) (x : Code) (unlisted : list_of x.inst ≡ no_list) where
@@ -201,14 +203,14 @@ module _ (E : Setting) where
 
         own_is : (b : Bool) → all_own d ≡ b → E.one d ≡ true → is_fixed (fixed_of x.inst) ≡ false → Way x (cond b (renumbered d) kept)
         own_is true p q z = way_new d s.one q p (varies E.address x.inst z)
-        own_is false p q z = way_kept (λ r k o a. clash (ap all_own (sym (only r k)) ∙ a) p)
+        own_is false p q z = way_kept (λ r k o a. clash _ (ap all_own (sym (only r k)) ∙ a) p)
 
         at_one : (y : Fixed) → fixed_of x.inst ≡ y → E.one d ≡ true → Way x (how_fixed f (own d) d y)
         at_one (word v) z q = let t = fixed_constant E.address x.inst (ap is_fixed z) in way_out d t.0 s.one q t.1
         at_one real z q = let t = fixed_constant E.address x.inst (ap is_fixed z) in way_out d t.0 s.one q t.1
-        at_one (address up) z q = clash s.copied (ap plain z)
+        at_one (address up) z q = clash _ s.copied (ap plain z)
         at_one varying z q = own_is (all_own d) refl q (ap is_fixed z)
 
         by : (b : Bool) → b ≡ E.one d → Way x (how_single f (own d) d (fixed_of x.inst) b)
         by true q = at_one (fixed_of x.inst) refl (sym q)
-        by false q = way_kept (λ r k o a. clash o (ap E.one (only r k) ∙ sym q))
+        by false q = way_kept (λ r k o a. clash _ o (ap E.one (only r k) ∙ sym q))

@@ -9,13 +9,14 @@ use native.Mathlib.Omega.{arith}
 use native.Mathlib.Decide.{ℕ_discrete}
 use lib.Dec.{ltb}
 use lib.ListN.{length}
+use borrow.Author.Tests.{eq-eqb}
 use Rattle.inst.specs.declared.Code.{Code}
 use Rattle.roles.specs.Roles.{list_of, no_list}
 use Rattle.procedure.specs.Lists.{found, value_or}
 use Rattle.steps.specs.Facts.{Facts}
 use Rattle.steps.specs.Copy.{How, how_of, read_through, written, renamed, place, copy_from, kind_for, kinds_given}
 use Rattle.demand.specs.Setting.{In, Each, Front, Setting, defs_at, reads_at, Exposed, Fine}
-use Rattle.demand.proofs.Basics.{clash_some, eqb_true, in_map}
+use Rattle.demand.proofs.Basics.{clash_some, in_map}
 use Rattle.demand.proofs.Codes.{each-front}
 use Rattle.demand.proofs.Branches.{Low, NoEnd}
 use Rattle.demand.proofs.Copied.{Silent, Last, Small, terminator-exchanged, renamed-defs, renamed-reads}
@@ -30,7 +31,7 @@ module _ (E : Setting) (f : Facts) (same-one : (r : ℕ) → (ltb r (length f.re
   defs-kept x local u = renamed-defs E (read_through local) (λ r. r) x u ∙ map-id (defs_at x)
 
   pub defs-new : (x : Code) (local : List (ℕ × ℕ)) (d m : ℕ) → list_of x.inst ≡ no_list → defs_at x ≡ d ∷ [] → defs_at (renamed local (written d m) x) ≡ m ∷ []
-  defs-new x local d m u q = renamed-defs E (read_through local) (written d m) x u ∙ rw (q, eqb_true d d refl)
+  defs-new x local d m u q = renamed-defs E (read_through local) (written d m) x u ∙ rw (q, eq-eqb d d refl)
 
   -- in a list of one
   pub only : (r d : ℕ) → In r (d ∷ []) → r ≡ d

@@ -9,6 +9,7 @@ use native.Mathlib.Omega.{arith}
 use native.Mathlib.Decide.{ℕ_discrete}
 use lib.Dec.{ltb}
 use lib.ListN.{length}
+use borrow.Author.Clash.{clash}
 use Rattle.inst.specs.declared.Code.{Code}
 use Rattle.roles.specs.Roles.{list_of, no_list}
 use Rattle.procedure.specs.Lists.{times, found, value_or}
@@ -17,7 +18,7 @@ use Rattle.ends.specs.Ends.{front}
 use Rattle.steps.specs.Facts.{Facts}
 use Rattle.steps.specs.Copy.{How, how_of, read_through, written, renamed, place, copy_from}
 use Rattle.demand.specs.Setting.{In, Each, Setting, defs_at, reads_at, Written, Read, Exposed, Fine}
-use Rattle.demand.proofs.Basics.{clash, clash_some, in_mapped}
+use Rattle.demand.proofs.Basics.{clash_some, in_mapped}
 use Rattle.demand.proofs.Effects.{constant_fixes}
 use Rattle.demand.proofs.Copied.{Silent, Small, renamed-reads, all_own, Way, way_out, way_new, way_kept, way_last, way_silent}
 use Rattle.demand.proofs.Joined.{found-old, found-new, found-other}
@@ -122,7 +123,7 @@ module _ (E : Setting) (f : Facts) (same-one : (r : ℕ) → (ltb r (length f.re
     unread_by x c local m u fine l g s w (way_out e n p q z) ih k = ih local m l g (λ v y. s v (inr (λ t. off t, y))) k
       where
         off : ¬ (In d (defs_at x))
-        off t = let i : d ≡ e = only E f same-one own d e (subst (In d) p t) in clash local_d
+        off t = let i : d ≡ e = only E f same-one own d e (subst (In d) p t) in clash _ local_d
             (ap E.local i ∙ E.single_shared e n (fine e (rw p (inl refl)) q ∙ z))
     unread_by x c local m u fine l g s w (way_new e p q z v) ih (inl k) = let t = read-before x local (written e m) u g k in s t.1 (inl t.0)
     unread_by x c local m u fine l g s w (way_new e p q z v) ih (inr k) = ih (local ++ ((e, m) ∷ [])) (suc m) (omega arith)
@@ -192,7 +193,7 @@ module _ (E : Setting) (f : Facts) (same-one : (r : ℕ) → (ltb r (length f.re
       where
         by : (o : Option ℕ) → found d local ≡ o → value_or d o ≡ d
         by None z = refl
-        by (Some k) z = clash (g d k z).1 else-d
+        by (Some k) z = clash _ (g d k z).1 else-d
 
     read_on : (x : Code) (local : List (ℕ × ℕ)) (τ : ℕ → ℕ) → list_of x.inst ≡ no_list → Given local → In d (reads_at ops x)
         → In d (reads_at ops (renamed local τ x))

@@ -1,28 +1,28 @@
 -- How often some code writes a register, and how many of its instructions read it and don't write it.
-use Prim.Native.Nat.{ℕ, suc, ◌+◌, ◌≤◌}
+use Prim.Native.Nat.{ℕ, ◌+◌, ◌≤◌}
 use mathlib.Core.Path.{◌≡◌, refl, ◌∙◌}
 use mathlib.Core.Logic.{◌⊎◌, inl, inr}
 use mathlib.Core.List.{List, [], ◌∷◌, ◌++◌}
 use mathlib.Core.Bool.{Bool, true, false, cond}
 use native.Mathlib.Omega.{arith}
 use lib.Dec.{eqb}
-use lib.ListN.{length}
+use borrow.Author.Tests.{eq-eqb, ne_eqb}
 use Rattle.inst.specs.declared.Code.{Code}
 use Rattle.procedure.specs.Lists.{times}
 use Rattle.procedure.specs.Counts.{writes_in, use_count}
 use Rattle.ends.specs.Ends.{front}
 use Rattle.demand.specs.Setting.{In, defs_at, reads_at, Written, Read, Exposed}
-use Rattle.demand.proofs.Basics.{eqb_true, eqb_false, dec_in}
+use Rattle.demand.proofs.Basics.{dec_in}
 
 pub times_none : (d : ℕ) (xs : List ℕ) → ¬ (In d xs) → times d xs ≡ 0
 unfolding times
 times_none d [] n = refl
-times_none d (x ∷ xs) n = rw (eqb_false d x (λ q. n (inl q))) (omega (arith, times_none d xs (λ k. n (inr k))))
+times_none d (x ∷ xs) n = rw (ne_eqb d x (λ q. n (inl q))) (omega (arith, times_none d xs (λ k. n (inr k))))
 
 pub times_some : (d : ℕ) (xs : List ℕ) → In d xs → 1 ≤ times d xs
 unfolding times
 times_some d [] k = absurd k
-times_some d (x ∷ xs) (inl q) = rw (eqb_true d x q) (omega arith)
+times_some d (x ∷ xs) (inl q) = rw (eq-eqb d x q) (omega arith)
 times_some d (x ∷ xs) (inr k) = omega (arith, times_some d xs k)
 
 pub times-one : (d e : ℕ) (xs : List ℕ) → xs ≡ e ∷ [] → times d xs ≤ 1
@@ -32,15 +32,6 @@ times-one d e xs q = rw q (by (eqb d e))
     by : (t : Bool) → cond t 1 0 + 0 ≤ 1
     by true = omega arith
     by false = omega arith
-
-pub times-most : (d : ℕ) (xs : List ℕ) → times d xs ≤ length xs
-unfolding times
-times-most d [] = omega arith
-times-most d (x ∷ xs) = by (eqb d x) (times-most d xs)
-  where
-    by : (t : Bool) → times d xs ≤ length xs → cond t 1 0 + times d xs ≤ suc (length xs)
-    by true ih = omega arith
-    by false ih = omega arith
 
 pub writes-append : (c e : List Code) (d : ℕ) → writes_in (c ++ e) d ≡ writes_in c d + writes_in e d
 unfolding writes_in

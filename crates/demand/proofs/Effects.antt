@@ -8,6 +8,7 @@ use mathlib.Core.Bool.{Bool, true, false, cond}
 use native.Mathlib.Omega.{arith}
 use native.Mathlib.Decide.{ℕ_discrete}
 use lib.ListN.{length, get_or}
+use borrow.Author.Clash.{clash}
 use Rattle.inst.specs.declared.Reg.{Reg}
 use Rattle.inst.specs.declared.BlockId.{BlockId}
 use Rattle.inst.specs.declared.Inst.{Inst}
@@ -24,7 +25,7 @@ use Rattle.machine.specs.Act.{op_of, act_of}
 use Rattle.inst.specs.declared.Code.{Code}
 use Rattle.machine.specs.Machine.{Address, Regs, End, Effect, writes, goes, ends, asks, returned, unreachable, effect, effect_of, stores, upd}
 use Rattle.machine.specs.Single.{constant_of}
-use Rattle.demand.proofs.Basics.{clash, clash_some, dec_in, upd_same, upd_other, stores-other}
+use Rattle.demand.proofs.Basics.{clash_some, dec_in, upd_same, upd_other, stores-other}
 use Rattle.demand.specs.Setting.{In, Setting, code, does, defs_at, Fine, Loaded, Passes}
 
 -- an arm is one of the table's targets
@@ -153,12 +154,12 @@ module _ (address : Address) where
     where
       by : Shape x → (v : ℕ) × (constant_of address x ≡ Some v) × Fixes x v
       by (constant d v e u l c f a) = (v, rw (y, a [] 0 [] []), record { d = d; one = e; alone = u; unlisted = l; always = a })
-      by (computed d F e l f a) = clash y f.is-fixed
-      by (acting u f a) = clash y f.is-fixed
-      by (going l q f a) = clash y f.varies
-      by (testing c l m q u f a) = clash y f.varies
-      by (casing n q f a) = clash y f.varies
-      by (ending F q f a) = clash y f.varies
+      by (computed d F e l f a) = clash _ y f.is-fixed
+      by (acting u f a) = clash _ y f.is-fixed
+      by (going l q f a) = clash _ y f.varies
+      by (testing c l m q u f a) = clash _ y f.varies
+      by (casing n q f a) = clash _ y f.varies
+      by (ending F q f a) = clash _ y f.varies
 
   pub constant_fixes : (x : Inst) (v : ℕ) → constant_of address x ≡ Some v → Fixes x v
   constant_fixes x v c = by (is_fixed (fixed_of x)) refl

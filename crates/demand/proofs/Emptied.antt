@@ -7,6 +7,7 @@ use Rattle.std.proofs.Common.{Option, None, Some}
 use mathlib.Core.Bool.{Bool, true, false, cond}
 use native.Mathlib.Omega.{arith}
 use lib.ListN.{length, get_or}
+use borrow.Author.Clash.{clash}
 use Rattle.inst.specs.declared.Code.{Code}
 use Rattle.inst.specs.declared.StmtId.{StmtId}
 use Rattle.inst.specs.declared.Inst.TheVariants as i
@@ -20,7 +21,6 @@ use Rattle.machine.specs.Act.{Act}
 use Rattle.machine.specs.Machine.{Regs, End, Effect, writes, goes, ends, asks, State, at, done, shown, ran_out, answered, after}
 use Rattle.machine.proofs.Shorter.{Mach, Shorter, Stretch, simulates, together, mach}
 use Rattle.demand.specs.Setting.{In, Each, Front, Setting, code, does, defs_at, reads_at}
-use Rattle.demand.proofs.Basics.{clash}
 use Rattle.demand.proofs.Effects.{Shape, constant, computed, acting, going, testing, casing, ending, shape, choose-in, arm_in_lem}
 use Rattle.demand.proofs.Codes.{each_append}
 use Rattle.demand.proofs.Branches.{NoEnd}
@@ -87,10 +87,10 @@ module _ (E : Setting) where
       by (constant c v p u l n f a) = let w = sym (a _ _ _ _) ∙ d in let z : ◌≡◌ {A = ℕ} 0 1 = cc in omega arith
       by (computed c F p l f a) = let w = sym (a _ _ _ _) ∙ d in let z : ◌≡◌ {A = ℕ} 0 1 = cc in omega arith
       by (acting u f a) = let w = sym (a _ _ _ _) ∙ d in let z : ◌≡◌ {A = ℕ} 0 1 = cc in omega arith
-      by (going l w f a) = clash f.ends-block q
-      by (testing c l m w u f a) = clash f.ends-block q
-      by (casing n w f a) = clash f.ends-block q
-      by (ending F w f a) = clash f.ends-block q
+      by (going l w f a) = clash _ f.ends-block q
+      by (testing c l m w u f a) = clash _ f.ends-block q
+      by (casing n w f a) = clash _ f.ends-block q
+      by (ending F w f a) = clash _ f.ends-block q
 
   -- a branch goes where its block leads
   goes_in : (x : Code) (g : Regs) (b : ℕ) → does E x g ≡ goes b → In b (leads E.tables (view_of x.inst))

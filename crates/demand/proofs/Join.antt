@@ -8,11 +8,15 @@ use mathlib.Core.Bool.{Bool, true, false, ◌&&◌}
 use native.Mathlib.Omega.{arith}
 use lib.Dec.{T, ltb, leb, leb→le}
 use lib.ListN.{length, get_or, set}
+use borrow.Author.Clash.{clash}
+use borrow.Author.Tests.{eq-eqb}
+use Rattle.std.proofs.lemmas.Bool.{and_parts}
 use Rattle.inst.specs.declared.Code.{Code}
 use Rattle.inst.specs.declared.BlockId.{BlockId}
 use Rattle.roles.specs.Roles.{uses_of, list_of, no_list}
 use Rattle.procedure.specs.Lists.{found}
 use Rattle.procedure.specs.Counts.{writes_in}
+use Rattle.procedure.proofs.Laws.{times_le}
 use Rattle.ends.specs.declared.End.TheVariants as e
 use Rattle.ends.specs.Ends.{end_of, front}
 use Rattle.steps.specs.Small.{copyable, small}
@@ -20,23 +24,20 @@ use Rattle.steps.specs.Facts.{Facts}
 use Rattle.steps.specs.Copy.{own_uses, copy_from, kinds_of}
 use Rattle.machine.specs.Machine.{Regs, at}
 use Rattle.demand.specs.Setting.{In, Each, Setting, reads_at, Written, Read, Exposed, Hidden, Fine, Loaded}
-use Rattle.demand.proofs.Basics.{clash, clash_some, eqb_true, and_both}
+use Rattle.demand.proofs.Basics.{clash_some}
 use Rattle.demand.proofs.Stretches.{ahead}
 use Rattle.demand.proofs.Codes.{each_append, each_left, front-each, each-front, exposed-left}
 use Rattle.demand.proofs.Codes.{exposed_split, read_split, Ended, ends-in, in-range, front-append}
 use Rattle.demand.proofs.Edit.{Meet, Live, meet, Tail, edited}
-use Rattle.demand.proofs.Branches.{br_does, Low, NoEnd, Good, set_good, part-blocks}
+use Rattle.demand.proofs.Branches.{br_other, br_does, Low, NoEnd, Good, set_good, part-blocks}
 use Rattle.demand.proofs.Jumps.{goes-is}
 use Rattle.demand.proofs.Rewrites.{Edited, always, empty_end}
 use Rattle.demand.proofs.Copied.{Small, small_is, all_own}
 use Rattle.demand.proofs.Joined.{Ready, copy_runs}
 use Rattle.demand.proofs.CopyKept.{copy-hidden, Copy, copied_well}
-use Rattle.demand.proofs.Counted.{times_none, times_some, times-most, writes-append, unwritten, front-writes, front_read, readers_in, readers_append}
+use Rattle.demand.proofs.Counted.{times_none, times_some, writes-append, unwritten, front-writes, front_read, readers_in, readers_append}
 use Rattle.demand.proofs.CopySparse.{owned_unwritten, owned_unread, copy_read, copy_some, copy_balanced}
 use Rattle.demand.proofs.Sparse.{Quiet, Sparse, sparse_set, once_small}
-
-br_no_other : (l : BlockId) → e.Br l ≡ e.Other → ⊥
-br_no_other l q = let z : ◌≡◌ {A = ℕ} 0 1 = cc in omega arith
 
 module _ (E : Setting) where
   unlisted_reads : (x : Code) → list_of x.inst ≡ no_list → reads_at E.operands x ≡ uses_of x.inst
@@ -48,7 +49,7 @@ module _ (E : Setting) where
   own_one [] d k n r = absurd k
   own_one (x ∷ []) d k n (inl r) =
       let i = subst (In d) (unlisted_reads x k.unlisted) r in
-      omega (arith, times_some d (uses_of x.inst) i, times-most d (uses_of x.inst), k.few)
+      omega (arith, times_some d (uses_of x.inst) i, times_le d (uses_of x.inst), k.few)
   own_one (x ∷ []) d k n (inr r) = absurd r
   own_one (x ∷ y ∷ c) d k n (inl r) = absurd (n (inl r))
   own_one (x ∷ y ∷ c) d k n (inr r) =
@@ -80,14 +81,14 @@ module _ (E : Setting) where
       P' = set P a (pre ++ copy)
 
       end : Ended (get_or P a [])
-      end = ends-in (get_or P a []) (e.Br l) at-end (br_no_other l)
+      end = ends-in (get_or P a []) (e.Br l) at-end (br_other l)
 
       range : a < length P
-      range = in-range P a (λ q. br_no_other l (sym at-end ∙ ap end_of q ∙ empty_end))
+      range = in-range P a (λ q. br_other l (sym at-end ∙ ap end_of q ∙ empty_end))
 
       short : (length c ≤ 4) × Small E c
       unfolding small
-      short = let t = and_both (leb (length c) 4) (copyable c) is-small in (leb→le (length c) 4 (subst T (sym t.0) tt), small_is E c t.1)
+      short = let t = and_parts (leb (length c) 4) (copyable c) is-small in (leb→le (length c) 4 (subst T (sym t.0) tt), small_is E c t.1)
 
       well : Copy E f same-one own (m + length (kinds_of f c)) copy
       well = copied_well E f same-one own m above c short.1 (good.fine l.0) (good.low l.0)
@@ -202,12 +203,12 @@ module _ (E : Setting) where
             by : (t : Bool) → owned ≡ t → ¬ (Read E.operands copy d)
             by true q =
                 owned_unread E f same-one own m above d one_d local_d q c short.1 (good.fine l.0) [] m (omega arith) none-given
-                (λ n z. clash local_d (good.hidden l.0 d z))
+                (λ n z. clash _ local_d (good.hidden l.0 d z))
             by false q = λ z.
                 let r = copy_read E f same-one own m above d one_d local_d c short.1 [] m (omega arith) none-given z in
                 let u = ((k l.0).ends r).1 in
                 let v = own_one c d short.1 (k l.0).unread r in
-                clash (eqb_true (f.uses d) (own d) (u ∙ sym v)) q
+                clash _ (eq-eqb (f.uses d) (own d) (u ∙ sym v)) q
 
         join_quiet : ((b : ℕ) → Quiet E f d (get_or P b [])) → Quiet E f d (pre ++ copy)
         join_quiet k =

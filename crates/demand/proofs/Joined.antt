@@ -9,6 +9,8 @@ use native.Mathlib.Omega.{arith}
 use native.Mathlib.Decide.{ℕ_discrete}
 use lib.Dec.{eqb, ltb}
 use lib.ListN.{length}
+use borrow.Author.Clash.{clash}
+use borrow.Author.Tests.{eq-eqb, ne_eqb}
 use Rattle.inst.specs.declared.Code.{Code}
 use Rattle.procedure.specs.Lists.{times, found, value_or}
 use Rattle.procedure.specs.Counts.{writes_in}
@@ -19,7 +21,7 @@ use Rattle.machine.specs.Machine.{Regs, Effect, writes, goes, ends, asks, at, up
 use Rattle.machine.specs.Single.{constant_of}
 use Rattle.machine.proofs.Shorter.{together}
 use Rattle.demand.specs.Setting.{In, Each, Setting, code, does, defs_at, reads_at, Read, Fine, Loaded, Passes}
-use Rattle.demand.proofs.Basics.{clash, clash_some, eqb_true, eqb_false, map_same, upd_same, upd_other}
+use Rattle.demand.proofs.Basics.{clash_some, map_same, upd_same, upd_other}
 use Rattle.demand.proofs.Effects.{keeps, constant_does}
 use Rattle.demand.proofs.Stretches.{ahead, abreast}
 use Rattle.demand.proofs.Codes.{exposed-read}
@@ -53,7 +55,7 @@ module _ (d m : ℕ) where
 
   pub found-new : (local : List (ℕ × ℕ)) → found d local ≡ None → found d (more local) ≡ Some m
   unfolding found
-  found-new [] q = rw (eqb_true d d refl)
+  found-new [] q = rw (eq-eqb d d refl)
   found-new (x ∷ local) q = by (eqb x.0 d) q (found-new local)
     where
       by : (t : Bool) → cond t (Some x.1) (found d local) ≡ None → (found d local ≡ None → found d (more local) ≡ Some m)
@@ -63,7 +65,7 @@ module _ (d m : ℕ) where
 
   pub found-other : (local : List (ℕ × ℕ)) (r : ℕ) → ¬ (r ≡ d) → found r (more local) ≡ found r local
   unfolding found
-  found-other [] r n = rw (eqb_false d r (λ z. n (sym z)))
+  found-other [] r n = rw (ne_eqb d r (λ z. n (sym z)))
   found-other (x ∷ local) r n = ap (cond (eqb x.0 r) (Some x.1)) (found-other local r n)
 
 module _ (E : Setting) (f : Facts) (same-one : (r : ℕ) → (ltb r (length f.registers) && f.single r) ≡ E.one r) (own : ℕ → ℕ)
@@ -96,7 +98,7 @@ module _ (E : Setting) (f : Facts) (same-one : (r : ℕ) → (ltb r (length f.re
         where
           by : (o : Option ℕ) → found r local ≡ o → value_or r o ≡ r
           by None z = refl
-          by (Some k) z = clash (y.entries r k z).1 q
+          by (Some k) z = clash _ (y.entries r k z).1 q
 
       meets : Meet E g g'
       meets r q = y.agree r (inl q) ∙ ap g' (shared_through r q)
@@ -213,13 +215,13 @@ module _ (E : Setting) (f : Facts) (same-one : (r : ℕ) → (ltb r (length f.re
           fresh l = by (found d local) refl (y.once d one_d local_d own-d)
             where
               read_on : Live E c d → Read E.operands c d
-              read_on (inl q) = clash local_d q
+              read_on (inl q) = clash _ local_d q
               read_on (inr z) = exposed-read E.operands c d z
 
               by : (o : Option ℕ) → found d local ≡ o → (writes_in (x ∷ c) d + counted o ≤ 1) ⊎ (¬ (Read E.operands (x ∷ c) d)) → o ≡ None
               by None z w = refl
               by (Some k) z (inl w) =
-                  let t : writes_in (x ∷ c) d ≡ 1 + writes_in c d = writes_one d ∙ ap (λ b. cond b 1 0 + writes_in c d) (eqb_true d d refl) in
+                  let t : writes_in (x ∷ c) d ≡ 1 + writes_in c d = writes_one d ∙ ap (λ b. cond b 1 0 + writes_in c d) (eq-eqb d d refl) in
                   absurd (omega arith)
               by (Some k) z (inr w) = absurd (w (inr (read_on l)))
 
@@ -266,7 +268,7 @@ module _ (E : Setting) (f : Facts) (same-one : (r : ℕ) → (ltb r (length f.re
               by : (writes_in (x ∷ c) r + renumberings r local ≤ 1) ⊎ (¬ (Read E.operands (x ∷ c) r)) → Dec (r ≡ d)
                   → (writes_in c r + renumberings r local' ≤ 1) ⊎ (¬ (Read E.operands c r))
               by (inl z) (yes w) =
-                  let t : writes_in (x ∷ c) r ≡ 1 + writes_in c r = writes_one r ∙ ap (λ b. cond b 1 0 + writes_in c r) (eqb_true r d w) in
+                  let t : writes_in (x ∷ c) r ≡ 1 + writes_in c r = writes_one r ∙ ap (λ b. cond b 1 0 + writes_in c r) (eq-eqb r d w) in
                   inl (omega (arith, most (found r local')))
               by (inl z) (no n) = inl (omega (arith, writes_one r, ap counted (found-other d m local r n)))
               by (inr z) w = inr (λ k. z (inr k))
@@ -332,7 +334,7 @@ module _ (E : Setting) (f : Facts) (same-one : (r : ℕ) → (ltb r (length f.re
             i = in_d e (rw p (inl refl))
 
             to_m : written d m d ≡ m
-            to_m = rw (eqb_true d d refl)
+            to_m = rw (eq-eqb d d refl)
 
             one_d : E.one d ≡ true
             one_d = ap E.one (sym i) ∙ q

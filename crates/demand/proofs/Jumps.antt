@@ -6,6 +6,7 @@ use mathlib.Core.Bool.{Bool, true, false, cond}
 use native.Mathlib.Omega.{arith}
 use lib.Dec.{eqb}
 use lib.ListN.{get_or}
+use borrow.Author.Tests.{eqb-true}
 use Rattle.inst.specs.declared.Code.{Code}
 use Rattle.word.specs.Word.{choose}
 use Rattle.ends.specs.declared.End.{End}
@@ -17,7 +18,6 @@ use Rattle.machine.specs.Act.{Act}
 use Rattle.machine.specs.Machine.{Regs, State, at, goes, after, step}
 use Rattle.machine.proofs.Shorter.{Stretch, together}
 use Rattle.demand.specs.Setting.{Setting, code, does, defs_at, Loaded}
-use Rattle.demand.proofs.Basics.{eqb_eq}
 use Rattle.demand.proofs.Stretches.{ahead}
 use Rattle.demand.proofs.Codes.{lone_is}
 use Rattle.demand.proofs.Edit.{Meet, step_is, old, new, Same, entering, weigh}
@@ -77,7 +77,7 @@ module _ (E : Setting) (κ : ℕ) (rs rs' : List ℕ) (P P' : List (List Code)) 
             on true z q =
                 let t = lone_is (get_or P b []) (e.CondBr d m n) s (λ z. let w : ◌≡◌ {A = ℕ} 0 1 = cc in omega arith) in
                 let u = cond_does E t.0 d m n t.2 in
-                let same : choose (g d.0) m.0 n.0 ≡ cond truth m.0 n.0 = ap (λ w. choose (g w) m.0 n.0) (eqb_eq d.0 r z)
+                let same : choose (g d.0) m.0 n.0 ≡ cond truth m.0 n.0 = ap (λ w. choose (g w) m.0 n.0) (eqb-true d.0 r z)
                 ∙ known m.0 n.0 in
                 one_more x c b t.0 [] p t.1 (both_go t.0 [] (cond truth m.0 n.0) (u.goes_to g ∙ ap goes same) q)
             on false z q = both_go x c b p q

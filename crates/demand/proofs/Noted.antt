@@ -7,6 +7,9 @@ use Rattle.std.proofs.Common.{Option, None, Some}
 use mathlib.Core.Bool.{Bool, true, false, ◌||◌, cond}
 use lib.Dec.{eqb}
 use lib.ListN.{get_or, drop}
+use borrow.Author.Clash.{clash}
+use borrow.Author.Tests.{eq-eqb, eqb-true}
+use Rattle.std.proofs.lemmas.Bool.{or_parts}
 use Rattle.inst.specs.declared.Code.{Code}
 use Rattle.inst.specs.declared.BoolOp.{BoolOp}
 use Rattle.inst.specs.declared.BoolOp.TheVariants as b
@@ -22,7 +25,7 @@ use Rattle.steps.specs.Note.{Known, nothing, values_without, copies_without, for
 use Rattle.steps.specs.Note.{source_of, value_of, alike, note_move, bool_of, learnt, learn, note, notes}
 use Rattle.machine.specs.Machine.{Address, Regs, writes, effect, stores, upd}
 use Rattle.demand.specs.Setting.{In, Each, Setting, does, defs_at, reads_at, Read, Fine, Loaded, Passes, Behind}
-use Rattle.demand.proofs.Basics.{clash, clash_some, eqb_eq, eqb_true, upd_same, upd_other, or_none}
+use Rattle.demand.proofs.Basics.{clash_some, upd_same, upd_other}
 use Rattle.demand.proofs.Effects.{keeps, passes_any, passes-map, passes_both}
 
 -- what the form of an instruction says of its effect
@@ -90,7 +93,7 @@ found-entry F [] r v p q = clash_some q refl
 found-entry F (x ∷ xs) r v p q = by (eqb x.0 r) refl q (found-entry F xs r v p.1)
   where
     by : (t : Bool) → eqb x.0 r ≡ t → cond t (Some x.1) (found r xs) ≡ Some v → (found r xs ≡ Some v → F r v) → F r v
-    by true e z ih = let a : x.0 ≡ r = eqb_eq x.0 r e in let c : x.1 ≡ v = cc in subst (λ y. F y v) a (subst (F x.0) c p.0)
+    by true e z ih = let a : x.0 ≡ r = eqb-true x.0 r e in let c : x.1 ≡ v = cc in subst (λ y. F y v) a (subst (F x.0) c p.0)
     by false e z ih = ih z
 
 keep_values : (F : ℕ → ℕ → Type 0) (d : ℕ) (xs : List (ℕ × ℕ)) → Entries F xs → Entries (λ r v. F r v × (¬ (r ≡ d))) (values_without d xs)
@@ -101,7 +104,7 @@ keep_values F d (x ∷ xs) p = by (eqb x.0 d) refl (keep_values F d xs p.1)
     by : (t : Bool) → eqb x.0 d ≡ t → Entries (λ r v. F r v × (¬ (r ≡ d))) (values_without d xs)
         → Entries (λ r v. F r v × (¬ (r ≡ d))) (cond t (values_without d xs) (x ∷ values_without d xs))
     by true e ih = ih
-    by false e ih = ((p.0, λ q. clash (eqb_true x.0 d q) e), ih)
+    by false e ih = ((p.0, λ q. clash _ (eq-eqb x.0 d q) e), ih)
 
 keep_copies : (F : ℕ → ℕ → Type 0) (d : ℕ) (xs : List (ℕ × ℕ)) → Entries F xs
     → Entries (λ r s. F r s × (¬ (r ≡ d)) × (¬ (s ≡ d))) (copies_without d xs)
@@ -113,8 +116,8 @@ keep_copies F d (x ∷ xs) p = by (eqb x.0 d || eqb x.1 d) refl (keep_copies F d
         → Entries (λ r s. F r s × (¬ (r ≡ d)) × (¬ (s ≡ d))) (cond t (copies_without d xs) (x ∷ copies_without d xs))
     by true e ih = ih
     by false e ih =
-        let n = or_none (eqb x.0 d) (eqb x.1 d) e in
-        ((p.0, λ q. clash (eqb_true x.0 d q) n.0, λ q. clash (eqb_true x.1 d q) n.1), ih)
+        let n = or_parts (eqb x.0 d) (eqb x.1 d) e in
+        ((p.0, λ q. clash _ (eq-eqb x.0 d q) n.0, λ q. clash _ (eq-eqb x.1 d q) n.1), ih)
 
 -- the known values and copies hold
 pub record Holds (k : Known) (g : Regs) : Type 0 where
@@ -206,7 +209,7 @@ module _ (E : Setting) (f : Facts) (known : (r v : ℕ) → f.const r ≡ Some v
       by true e = h₁
       by false e =
           let s' = source_of k' s in
-          let off : ¬ (s' ≡ d) = source_off d k' (forget_off d k (any_entries k.copies)) s (λ q. clash (eqb_true d s (sym q)) e) in
+          let off : ¬ (s' ≡ d) = source_off d k' (forget_off d k (any_entries k.copies)) s (λ q. clash _ (eq-eqb d s (sym q)) e) in
           let same : g s ≡ g s' = source_holds k' g h₀ s in
           with_copy_lem (alike f d s') d s' (with_value_if d (value_of f k' s') k') (upd d (g s) g)
           (with_value_lem d (value_of f k' s') k' (upd d (g s) g) h₁

@@ -6,8 +6,11 @@ use mathlib.Core.List.{List, [], ◌∷◌}
 use Rattle.std.proofs.Common.{Option, None, Some}
 use mathlib.Core.Bool.{Bool, true, false, ◌&&◌, ◌||◌, not, cond}
 use native.Mathlib.Omega.{arith}
-use lib.Dec.{T, eqb, ltb, ltb→lt, lt→ltb}
+use lib.Dec.{eqb, ltb}
 use lib.ListN.{length, get_or}
+use borrow.Author.Clash.{clash}
+use borrow.Author.Tests.{eq-eqb, eqb-true, ltb-true, lt-ltb}
+use Rattle.std.proofs.lemmas.Bool.{and_parts}
 use Rattle.inst.specs.declared.Code.{Code}
 use Rattle.inst.specs.declared.Inst.{Inst}
 use Rattle.procedure.specs.Procedure.{Procedure}
@@ -19,7 +22,7 @@ use Rattle.machine.specs.Machine.{Address, Outside}
 use Rattle.machine.specs.Single.{constant_of, constant_in, single_in, single}
 use Rattle.demand.specs.Setting.{In, Each, Setting, defs_at, reads_at, Written, Read, Hidden, Fine}
 use Rattle.demand.specs.Whole.{Whole, Inside}
-use Rattle.demand.proofs.Basics.{clash, clash_some, eqb_eq, eqb_true, and_both, any_in}
+use Rattle.demand.proofs.Basics.{clash_some, any_in}
 use Rattle.demand.proofs.Effects.{fixed_constant}
 use Rattle.demand.proofs.Noted.{Says, says}
 use Rattle.demand.proofs.Codes.{each_map, exposed-read}
@@ -29,7 +32,7 @@ use Rattle.demand.proofs.Sums.{each-joined, joined-each}
 
 -- an instruction names a register
 names_in : (r : ℕ) (x : Code) → names r x.inst ≡ true → In r (defs_at x)
-names_in r x q = let t = any_in (eqb r) (defs_at x) q in subst (λ y. In y (defs_at x)) (sym (eqb_eq r t.0 t.1)) t.2
+names_in r x q = let t = any_in (eqb r) (defs_at x) q in subst (λ y. In y (defs_at x)) (sym (eqb-true r t.0 t.1)) t.2
 
 in_any : (p : ℕ → Bool) (xs : List ℕ) (r : ℕ) → p r ≡ true → In r xs → any_of p xs ≡ true
 unfolding any_of
@@ -42,11 +45,11 @@ in_any p (x ∷ xs) r q (inr k) = by (p x) (in_any p xs r q k)
     by false ih = ih
 
 in-names : (r : ℕ) (x : Code) → In r (defs_at x) → names r x.inst ≡ true
-in-names r x k = in_any (eqb r) (defs_at x) r (eqb_true r r refl) k
+in-names r x k = in_any (eqb r) (defs_at x) r (eq-eqb r r refl) k
 
 -- "singly written"
 pub singly-one : (cs : List Code) (r : ℕ) → singly cs r ≡ true → writes_in cs r ≡ 1
-singly-one cs r q = let z : min 255 (writes_in cs r) ≡ 1 = eqb_eq (min 255 (writes_in cs r)) 1 q in omega arith
+singly-one cs r q = let z : min 255 (writes_in cs r) ≡ 1 = eqb-true (min 255 (writes_in cs r)) 1 q in omega arith
 
 unwritten_each : (F : Code → Type 0) (c : List Code) (r : ℕ) → writes_in c r ≡ 0 → Each (λ y. In r (defs_at y) → F y) c
 unfolding writes_in
@@ -63,7 +66,7 @@ module _ (address : Address) where
       by : (b : Bool) → names r x.inst ≡ b → Each (λ y. In r (defs_at y) → constant_in address cs r ≡ constant_of address y.inst) cs
           → Each (λ y. In r (defs_at y) → cond b (constant_of address x.inst) (constant_in address cs r) ≡ constant_of address y.inst) (x ∷ cs)
       by true q ih = (λ k. refl, unwritten_each _ cs r (let z = times_some r (defs_at x) (names_in r x q) in omega arith))
-      by false q ih = (λ k. clash (in-names r x k) q, ih)
+      by false q ih = (λ k. clash _ (in-names r x k) q, ih)
 
   -- a constant is written somewhere
   constant_written : (cs : List Code) (r v : ℕ) → constant_in address cs r ≡ Some v → Written cs r
@@ -106,16 +109,6 @@ module _ (address : Address) where
       by false z o y q ih = ih q
 
 -- a test of an order
-pub ltb_true : (a b : ℕ) → ltb a b ≡ true → a < b
-ltb_true a b q = ltb→lt a b (subst T (sym q) tt)
-
-pub lt_yes : (a b : ℕ) → a < b → ltb a b ≡ true
-lt_yes a b l = by (ltb a b) (lt→ltb a b l)
-  where
-    by : (t : Bool) → T t → t ≡ true
-    by true t = refl
-    by false t = absurd t
-
 module _ (outside : Outside) (address : Address) (p : Procedure) (whole : Whole p) where
   abbrev P₀ : List (List Code)
   P₀ = p.blocks
@@ -143,24 +136,24 @@ module _ (outside : Outside) (address : Address) (p : Procedure) (whole : Whole 
   single-one r v q = by (singly cs r) refl q
     where
       by : (b : Bool) → singly cs r ≡ b → cond b (constant_in address cs r) None ≡ Some v → one r ≡ true
-      by true z q = rw (lt_yes r n (written_low cs (each-joined _ P₀ whole.exist) r (constant_written address cs r v q)), z)
+      by true z q = rw (lt-ltb r n (written_low cs (each-joined _ P₀ whole.exist) r (constant_written address cs r v q)), z)
       by false z q = clash_some q refl
 
   pub single_shared : (r v : ℕ) → single address p r ≡ Some v → is_local r ≡ false
-  single_shared r v q = let t = and_both (ltb r n) (singly cs r) (single-one r v q) in rw (t.0, t.1, q)
+  single_shared r v q = let t = and_parts (ltb r n) (singly cs r) (single-one r v q) in rw (t.0, t.1, q)
 
   pub one_local : (r : ℕ) → one r ≡ true → single address p r ≡ None → is_local r ≡ true
-  one_local r z q = let t = and_both (ltb r n) (singly cs r) z in rw (t.0, t.1, q)
+  one_local r z q = let t = and_parts (ltb r n) (singly cs r) z in rw (t.0, t.1, q)
 
   pub one-old : (r : ℕ) → one r ≡ true → r < n
-  one-old r z = ltb_true r n (and_both (ltb r n) (singly cs r) z).0
+  one-old r z = ltb-true r n (and_parts (ltb r n) (singly cs r) z).0
 
   pub shared_old : (r : ℕ) → is_local r ≡ false → r < n
   shared_old r q = by (ltb r n) refl q
     where
       by : (b : Bool) → ltb r n ≡ b → cond b (one r && not (present (single address p r))) true ≡ false → r < n
-      by true z q = ltb_true r n z
-      by false z q = clash refl q
+      by true z q = ltb-true r n z
+      by false z q = clash _ refl q
 
   -- the original's setting: its single constants are loaded
   abbrev pub setting : Setting
@@ -195,7 +188,7 @@ module _ (outside : Outside) (address : Address) (p : Procedure) (whole : Whole 
     where
       one-is : (r : ℕ) → one r ≡ true → Each (λ x. In r (defs_at x) → single address p r ≡ constant_of address x.inst) cs
       one-is r o =
-          let t = (and_both (ltb r n) (singly cs r) o).1 in
+          let t = (and_parts (ltb r n) (singly cs r) o).1 in
           let w = singly-one cs r t in
           each_map _ _ (λ x f k. single-in r t ∙ f k) cs (first_is address cs r (omega arith))
 
@@ -224,17 +217,17 @@ module _ (outside : Outside) (address : Address) (p : Procedure) (whole : Whole 
         low = read_low (get_or P₀ b []) (whole.exist b) r (exposed-read p.operands (get_or P₀ b []) r z)
 
         by : (t : Bool) → one r ≡ t → (o : Option ℕ) → single address p r ≡ o → is_local r ≡ false
-        by false q o y = rw (lt_yes r n low) (from (singly cs r) refl)
+        by false q o y = rw (lt-ltb r n low) (from (singly cs r) refl)
           where
             from : (s : Bool) → singly cs r ≡ s → (s && not (present (single address p r))) ≡ false
-            from true i = clash (one_of i) q
+            from true i = clash _ (one_of i) q
               where
                 one_of : singly cs r ≡ true → one r ≡ true
-                one_of i = rw (lt_yes r n low, i)
+                one_of i = rw (lt-ltb r n low, i)
             from false i = refl
         by true q (Some v) y = single_shared r v y
         by true q None y =
-            absurd (inside r low (and_both (ltb r n) (singly cs r) q).1 (each_map _ _ (λ x f k. varied x.inst (sym (f r k q) ∙ y)) cs fine-in) b z)
+            absurd (inside r low (and_parts (ltb r n) (singly cs r) q).1 (each_map _ _ (λ x f k. varied x.inst (sym (f r k q) ∙ y)) cs fine-in) b z)
 
     pub good : Good E n P₀
     good = record { fine = joined-each (Fine E) P₀ fine-in; hidden = hidden-in; low = whole.exist; formed = whole.formed }

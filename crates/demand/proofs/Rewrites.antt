@@ -5,7 +5,6 @@ use mathlib.Core.Logic.{◌⊎◌, inl, inr}
 use mathlib.Core.List.{List, [], ◌∷◌, ◌++◌}
 use Rattle.std.proofs.Common.{Some}
 use mathlib.Core.Bool.{Bool, true, false, ◌||◌, cond}
-use native.Mathlib.Omega.{arith}
 use lib.Dec.{eqb}
 use lib.ListN.{length, get_or, set}
 use Rattle.inst.specs.declared.Code.{Code}
@@ -31,7 +30,7 @@ use Rattle.demand.specs.Setting.{In, Each, Setting, code, does, defs_at, reads_a
 use Rattle.demand.proofs.Effects.{passes_any}
 use Rattle.demand.proofs.Codes.{each_left, Ended, ends-in, in-range}
 use Rattle.demand.proofs.Edit.{Meet, meet, Tail, whole, edited}
-use Rattle.demand.proofs.Branches.{Tests, cond_does, br_new, cond_new, Good, end_good, end-blocks}
+use Rattle.demand.proofs.Branches.{cond_other, Tests, cond_does, br_new, cond_new, Good, end_good, end-blocks}
 use Rattle.demand.proofs.Noted.{Holds, nothing-holds, value-holds, source_holds, notes_hold, source_read}
 use Rattle.demand.proofs.Sparse.{Sparse, sparse_end}
 use Rattle.demand.proofs.Jumps.{St, both_go, chase, matched}
@@ -73,19 +72,16 @@ module _ (E : Setting) where
   pub edited_then : {m m' m'' : ℕ} {P P' P'' : List (List Code)} → Edited m m' P P' → Edited m' m'' P' P'' → Edited m m'' P P''
   edited_then {P = P} {P' = P'} {P'' = P''} x y = record { good = y.good; shortens = shortens_then P P' P'' x.shortens y.shortens }
 
-  cond_no_other : (c : Reg) (t u : BlockId) → e.CondBr c t u ≡ e.Other → ⊥
-  cond_no_other c t u q = let z : ◌≡◌ {A = ℕ} 0 1 = cc in omega arith
-
   -- block a ends in a CondBr
   module _ (m : ℕ) (P : List (List Code)) (good : Good E m P) (a : ℕ) (c : Reg) (t u : BlockId) (at-end : end_of (get_or P a []) ≡ e.CondBr c t u) where
     abbrev pre : List Code
     pre = front (get_or P a [])
 
     end : Ended (get_or P a [])
-    end = ends-in (get_or P a []) (e.CondBr c t u) at-end (cond_no_other c t u)
+    end = ends-in (get_or P a []) (e.CondBr c t u) at-end (cond_other c t u)
 
     range : a < length P
-    range = in-range P a (λ q. cond_no_other c t u (sym at-end ∙ ap end_of q ∙ empty_end))
+    range = in-range P a (λ q. cond_other c t u (sym at-end ∙ ap end_of q ∙ empty_end))
 
     tests : Tests E end.last c t u
     tests = cond_does E end.last c t u (end.view ∙ at-end)

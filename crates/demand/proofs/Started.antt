@@ -9,11 +9,15 @@ use native.Mathlib.Omega.{arith}
 use native.Mathlib.Decide.{ℕ_discrete}
 use lib.Dec.{eqb, ltb}
 use lib.ListN.{length, get_or}
+use borrow.Author.Clash.{clash}
+use Rattle.std.proofs.lemmas.Bool.{and_parts}
+use borrow.Author.Tests.{lt-ltb}
 use Rattle.inst.specs.declared.Code.{Code}
 use Rattle.roles.specs.Roles.{uses_of, list_of, no_list}
 use Rattle.procedure.specs.Procedure.{Procedure}
 use Rattle.procedure.specs.Lists.{joined}
 use Rattle.procedure.specs.Counts.{writes_in, singly, use_count}
+use Rattle.procedure.proofs.Laws.{times_le}
 use Rattle.ends.specs.Ends.{terminator_of, front}
 use Rattle.steps.specs.EqualArms.{equal_arms}
 use Rattle.steps.specs.Facts.{Facts, const_in, const_of, facts_of}
@@ -22,11 +26,11 @@ use Rattle.steps.specs.Run.{counted_in, with_blocks}
 use Rattle.machine.specs.Machine.{Address, Outside}
 use Rattle.demand.specs.Setting.{Each, Setting, reads_at, Written, Read, Exposed, Fine}
 use Rattle.demand.specs.Whole.{Whole, Inside}
-use Rattle.demand.proofs.Basics.{clash, clash_some, and_both}
+use Rattle.demand.proofs.Basics.{clash_some}
 use Rattle.demand.proofs.Effects.{Shape, constant, computed, acting, going, testing, casing, ending, shape}
 use Rattle.demand.proofs.Codes.{read-exposed, read_split, dec_read, dec_written, Ended, ended}
 use Rattle.demand.proofs.Branches.{Low, Good}
-use Rattle.demand.proofs.Counted.{times_some, times-most, written_once, unwritten, front-writes}
+use Rattle.demand.proofs.Counted.{times_some, written_once, unwritten, front-writes}
 use Rattle.demand.proofs.Counted.{front_read, front-exposed, readers_in, hidden_reader, unread, uses-append}
 use Rattle.demand.proofs.Sparse.{Sparse, busy, quiet}
 use Rattle.demand.proofs.Join.{AllSparse}
@@ -34,7 +38,7 @@ use Rattle.demand.proofs.Rewrites.{Edited}
 use Rattle.demand.proofs.Threads.{arms-edited, Kept}
 use Rattle.demand.proofs.Sums.{each-joined, writes-count, uses-count, sum_one, sum_two, sum_only}
 use Rattle.demand.proofs.Arms.{arms-writes, EndFew, arms-few}
-use Rattle.demand.proofs.Original.{setting, good, singly-one, const-fine, lt_yes}
+use Rattle.demand.proofs.Original.{setting, good, singly-one, const-fine}
 
 -- some block's code before its end reads a register, or none does
 find_read : (ops : List ℕ) (d : ℕ) (P : List (List Code)) → ((b : ℕ) × Read ops (front (get_or P b [])) d) ⊎ ((b : ℕ) → ¬ (Read ops (front (get_or P b [])) d))
@@ -60,9 +64,9 @@ end-few address ops x q = by (shape address x.inst)
     unlisted u l = let e : reads_at ops x ≡ uses_of x.inst = rw u (append-nil (uses_of x.inst)) in rw e l
 
     by : Shape address x.inst → length (reads_at ops x) ≤ 1
-    by (constant d v p w l n f a) = clash q f.no_end
-    by (computed d F p l f a) = clash q f.no_end
-    by (acting w f a) = clash q f.no_end
+    by (constant d v p w l n f a) = clash _ q f.no_end
+    by (computed d F p l f a) = clash _ q f.no_end
+    by (acting w f a) = clash _ q f.no_end
     by (going l w f a) = unlisted f.unlisted f.few
     by (testing d l m w v f a) = unlisted f.unlisted f.few
     by (casing n w f a) = unlisted f.unlisted f.few
@@ -76,7 +80,7 @@ module _ (E : Setting) (m : ℕ) (P : List (List Code)) (good : Good E m P) (few
   ops = E.operands
 
   hidden_d : (b : ℕ) → ¬ (Exposed ops (get_or P b []) d)
-  hidden_d b z = clash local_d (good.hidden b d z)
+  hidden_d b z = clash _ local_d (good.hidden b d z)
 
   -- a block that reads it writes it, and no other does
   reads-writes : (b : ℕ) → Read ops (get_or P b []) d → 1 ≤ writes_in (get_or P b []) d
@@ -107,7 +111,7 @@ module _ (E : Setting) (m : ℕ) (P : List (List Code)) (good : Good E m P) (few
       by (inl z) = absurd (n z)
       by (inr (inl z)) =
           let l = w (front (x ∷ c)) t.last t.is in
-          omega (arith, total, unread ops d (front (x ∷ c)) n, times_some d (reads_at ops t.last) z, times-most d (reads_at ops t.last))
+          omega (arith, total, unread ops d (front (x ∷ c)) n, times_some d (reads_at ops t.last) z, times_le d (reads_at ops t.last))
       by (inr (inr z)) = absurd z
 
   at_first : ((b : ℕ) × Read ops (front (get_or P b [])) d) ⊎ ((b : ℕ) → ¬ (Read ops (front (get_or P b [])) d)) → Sparse E f P d
@@ -180,7 +184,7 @@ module _ (outside : Outside) (address : Address) (p : Procedure) (whole : Whole 
           t.1.0 r t.2 (is_one l (sym (singly-same r) ∙ z)) ∙ t.3
         where
           is_one : r < n → singly (joined p.blocks) r ≡ true → E.one r ≡ true
-          is_one l i = rw (lt_yes r n l, i)
+          is_one l i = rw (lt-ltb r n l, i)
       by false z q = clash_some q refl
 
   -- a register that is counted as singly written is an original's
@@ -197,14 +201,14 @@ module _ (outside : Outside) (address : Address) (p : Procedure) (whole : Whole 
       low (x ∷ c) p (inr k) = low c p.1 k
 
       by : Dec (Written (joined P₁) r) → E.one r ≡ true
-      by (yes k) = rw (lt_yes r n (low (joined P₁) (each-joined (Low E n) P₁ arms.good.low) k), sym (singly-same r) ∙ q)
+      by (yes k) = rw (lt-ltb r n (low (joined P₁) (each-joined (Low E n) P₁ arms.good.low) k), sym (singly-same r) ∙ q)
       by (no k) = absurd (omega (arith, unwritten (joined P₁) r k, writes))
 
   all_sparse : AllSparse E counted same-one P₁
   unfolding facts_of
   all_sparse d one_d local_d =
       sparse_first E n P₁ arms.good few₁ counted (λ r. refl) d
-      (singly-one (joined P₁) d (singly-same d ∙ (and_both (ltb d n) (singly (joined p.blocks) d) one_d).1)) local_d
+      (singly-one (joined P₁) d (singly-same d ∙ (and_parts (ltb d n) (singly (joined p.blocks) d) one_d).1)) local_d
 
   pub kept : Kept E counted size_is same-one known (unthreaded P₁)
   unfolding facts_of

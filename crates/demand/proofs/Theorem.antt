@@ -7,6 +7,9 @@ use mathlib.Core.Bool.{Bool, true, false, ◌&&◌, ◌||◌}
 use native.Mathlib.Omega.{arith}
 use lib.Dec.{eqb}
 use lib.ListN.{length, get_or}
+use borrow.Author.Clash.{clash}
+use borrow.Author.Tests.{eqb-true}
+use Rattle.std.proofs.lemmas.Bool.{and_parts}
 use Rattle.inst.specs.declared.Code.{Code}
 use Rattle.roles.specs.Roles.{defs_of}
 use Rattle.procedure.specs.Procedure.{Procedure}
@@ -27,7 +30,7 @@ use Rattle.machine.proofs.Shorter.{Shorter, mach, shorter_trans, alike}
 use Rattle.demand.specs.Setting.{In, Each, Setting, code, Fine}
 use Rattle.demand.specs.Whole.{Whole, Inside}
 use Rattle.demand.specs.Claim.{Kept}
-use Rattle.demand.proofs.Basics.{clash, clash_some, and_both, any_in, eqb_eq}
+use Rattle.demand.proofs.Basics.{clash_some, any_in}
 use Rattle.demand.proofs.Effects.{Shape, constant, computed, acting, going, testing, casing, ending, shape, fixed_constant, varies}
 use Rattle.demand.proofs.Codes.{each_map, end-append}
 use Rattle.demand.proofs.Edit.{Meet}
@@ -41,11 +44,11 @@ use Rattle.demand.proofs.Original.{setting, good}
 use Rattle.demand.proofs.Started.{arms, size_is, same-one, known, counted-one, kept}
 
 is_in-in : (s : ℕ) (xs : List ℕ) → is_in s xs ≡ true → In s xs
-is_in-in s [] q = clash q refl
+is_in-in s [] q = clash _ q refl
 is_in-in s (x ∷ xs) q = by (eqb x s) refl q (is_in-in s xs)
   where
     by : (b : Bool) → eqb x s ≡ b → (b || is_in s xs) ≡ true → (is_in s xs ≡ true → In s xs) → In s (x ∷ xs)
-    by true z q ih = inl (sym (eqb_eq x s z))
+    by true z q ih = inl (sym (eqb-true x s z))
     by false z q ih = inr (ih q)
 
 module _ (p : Procedure) (whole : Whole p) (inside : Inside p) where
@@ -132,7 +135,7 @@ module _ (p : Procedure) (whole : Whole p) (inside : Inside p) where
       where
         constant : (x : Code) → Fine F x → is_rescued f x ≡ true → Constant F x
         constant x fine t =
-            let s = and_both (is_fixed (fixed_of x.inst)) (any_of f.single (defs_of x.inst)) t in
+            let s = and_parts (is_fixed (fixed_of x.inst)) (any_of f.single (defs_of x.inst)) t in
             let u = fixed_constant address x.inst s.0 in
             let r = any_in f.single (defs_of x.inst) s.1 in
             let d = u.2.d in

@@ -3,24 +3,22 @@ use Prim.Native.Nat.{ℕ, zero, suc, ◌+◌}
 use mathlib.Core.Path.{◌≡◌, refl, subst}
 use mathlib.Core.List.{List, [], ◌++◌}
 use Rattle.std.proofs.Common.{Some}
-use mathlib.Core.Bool.{Bool, true, false, ◌&&◌, ◌||◌, not}
+use mathlib.Core.Bool.{Bool, true, false, ◌&&◌}
 use native.Mathlib.Omega.{arith}
 use lib.Dec.{eqb, ltb}
 use lib.ListN.{length, get_or, set, length-append}
+use borrow.Author.Tests.{eqb-true}
 use Rattle.inst.specs.declared.Code.{Code}
-use Rattle.procedure.specs.Lists.{present, holds}
 use Rattle.ends.specs.declared.End.{End}
 use Rattle.ends.specs.declared.End.TheVariants as e
 use Rattle.ends.specs.Ends.{end_of}
-use Rattle.steps.specs.Small.{small, reads_konst}
-use Rattle.steps.specs.Gate.{copied}
 use Rattle.steps.specs.EqualArms.{reached_from, Arms, join_if, join_end, join_arms, join_from, equal_arms}
 use Rattle.steps.specs.Facts.{Facts}
 use Rattle.steps.specs.Copy.{kinds_of}
-use Rattle.steps.specs.Thread.{Work, block_at, edit, stops, next_number, thread, unthreaded}
+use Rattle.steps.specs.Thread.{Work, block_at, edit, next_number, thread, unthreaded}
+use Rattle.steps.proofs.Copied.{stops-small}
 use Rattle.steps.proofs.Edits.{Edit, Edits, joins, folds, turns, nil, then, thread_edits}
 use Rattle.demand.specs.Setting.{Setting}
-use Rattle.demand.proofs.Basics.{or_none, and_both, not_false, eqb_eq}
 use Rattle.demand.proofs.Branches.{Good}
 use Rattle.demand.proofs.Rewrites.{Shortens, Edited, edited-none, edited_then, shortens_then}
 use Rattle.demand.proofs.Rewrites.{joins_arms, folds_known, folds_sparse, turns_to, turns_sparse}
@@ -38,7 +36,7 @@ module _ (E : Setting) where
     arms_end (e.Br l) k s q good = edited-none E m s.blocks good
     arms_end (e.CondBr c t u) k s q good =
         arms_if (eqb (reached_from s.blocks t.0) (reached_from s.blocks u.0)) k (reached_from s.blocks t.0) s good
-        (λ p. joins_arms E m s.blocks good k c t u q (eqb_eq _ _ p))
+        (λ p. joins_arms E m s.blocks good k c t u q (eqb-true _ _ p))
     arms_end (e.Case n) k s q good = edited-none E m s.blocks good
     arms_end e.Other k s q good = edited-none E m s.blocks good
 
@@ -63,13 +61,6 @@ module _ (E : Setting) where
       pub kept : Kept w'
       pub shortens : Shortens E w.blocks w'.blocks
 
-    is-small : (w : Work) (a l : ℕ) → stops f w a l ≡ false → small (block_at w l) ≡ true
-    unfolding stops copied
-    is-small w a l q =
-        let before = eqb l a || holds f.body l || present f.body && reads_konst f.konst (block_at w l) || ltb f.budget w.grown in
-        let c = copied (present f.body) w.blocks l in
-        (and_both (small (block_at w l)) _ (not_false c (or_none before (not c) q).1)).0
-
     next_more : (w : Work) (ks : List ℕ) → next_number f w + length ks ≡ length f.registers + length (w.kinds ++ ks)
     next_more w ks = omega (arith, length-append w.kinds ks)
 
@@ -85,8 +76,8 @@ module _ (E : Setting) where
     pub edit-onward : {w w' : Work} → Edit f w w' → Kept w → Onward w w'
     edit-onward (joins w a l q s) k =
         onward w a _ (kinds_of f (block_at w l.0)) _
-        (joins_code E f same-one (next_number f w) (omega arith) w.blocks k.good k.sparse a l q (is-small w a l.0 s))
-        (joins_sparse E f same-one (next_number f w) (omega arith) w.blocks k.good k.sparse a l q (is-small w a l.0 s))
+        (joins_code E f same-one (next_number f w) (omega arith) w.blocks k.good k.sparse a l q (stops-small f w a l.0 s))
+        (joins_sparse E f same-one (next_number f w) (omega arith) w.blocks k.good k.sparse a l q (stops-small f w a l.0 s))
     edit-onward (folds w a c t u n p q) k =
         onward w a _ [] _ (same_next (next_number f w) (folds_known E (next_number f w) w.blocks k.good a c t u p f known n q))
         (λ d x y. folds_sparse E (next_number f w) w.blocks k.good a c t u p f known n d (k.sparse d x y))

@@ -34,7 +34,7 @@ pub fn emit(code: &mut [u8], heads: &mut [u8], blocks: Blocks, arms: &[u8], fact
     };
     let mut writer = Writer { out: code, at: 0 };
     left.put_keep(&mut writer, facts);
-    let rescued = writer.at.min(4294967295) as u32;
+    let rescued = u32::try_from(writer.at).unwrap_or(u32::MAX);
     left.put_blocks(&mut writer, heads);
     let n = writer.at.min(room);
     Staged { n, rescued }

@@ -24,7 +24,7 @@ use Rattle.steps.specs.EqualArms as g
 use Rattle.equal_arms.specs.Joined.{Joined, joined, arms_of, join_if, join_end, join_arms, join_from, equal_arms_in}
 use Rattle.equal_arms.proofs.Reach.{Named, end-named, reached-range}
 
-in-range : (to : ℕ) → to < 2 ^ 32 → in_range (i.Br (block_of to)) ≡ true
+pub in-range : (to : ℕ) → to < 2 ^ 32 → in_range (i.Br (block_of to)) ≡ true
 unfolding in_range
 in-range to h = rw (lt-ltb to (2 ^ 32) h)
 

@@ -1,16 +1,16 @@
 -- The blocks that arms reach are in range where the code is made of bytes.
 use Prim.Native.Nat.{ℕ, zero, suc, ◌<◌, ◌^◌}
 use mathlib.Core.Path.{◌≡◌}
-use mathlib.Core.Bool.{Bool, true, false, cond, ◌&&◌}
+use mathlib.Core.Bool.{Bool, true, false, cond}
 use mathlib.Core.List.{List, [], ◌∷◌}
 use lib.Dec.{eqb, ltb}
 use lib.ListN.{get_or}
-use borrow.Author.Tests.{ltb-true}
 use Rattle.inst.specs.declared.Code.{Code}
 use Rattle.inst.specs.declared.Inst.{Inst}
 use Rattle.inst.specs.declared.Inst.TheVariants as i
 use Rattle.codec.specs.Codec.{in_range, InRange}
-use Rattle.general.proofs.Booleans.{and_first, and_second}
+use Rattle.codec.proofs.Laws.{word}
+use Rattle.general.proofs.Booleans.{and_second}
 use Rattle.ends.specs.declared.End.{End}
 use Rattle.ends.specs.declared.End.TheVariants as e
 use Rattle.ends.specs.Forms.{form_of}
@@ -23,9 +23,6 @@ Named (e.Br t) = t.0 < 2 ^ 32
 Named (e.CondBr c t f) = (t.0 < 2 ^ 32) × (f.0 < 2 ^ 32)
 Named (e.Case n) = Unit {0}
 Named e.Other = Unit {0}
-
-word : (x : ℕ) (b : Bool) → (ltb x (2 ^ 32) && b) ≡ true → x < 2 ^ 32
-word x b h = ltb-true x (2 ^ 32) (and_first (ltb x (2 ^ 32)) b h)
 
 view_named : (x : Inst) → in_range x ≡ true → Named (view_of x)
 unfolding view_of form_of in_range

@@ -10,12 +10,6 @@ use lib.ListN.{length, get_or, length-append, get_or-append, get_or-eq_default}
 use lib.Seq.{ext_get_or, get_or_at, get_or-append-add}
 use Rattle.facts.specs.Storage.{tabled, rows, cell, kinds_in}
 
--- in a list the default doesn't matter
-pub get_d_any : {A : Type 0} (l : List A) (r : ℕ) (d e : A) → r < length l → get_or l r d ≡ get_or l r e
-get_d_any [] r d e h = absurd (omega arith)
-get_d_any (x ∷ l) zero d e h = refl
-get_d_any (x ∷ l) (suc r) d e h = get_d_any l r d e (omega arith)
-
 -- a table
 module _ {A : Type 0} (f : ℕ → A) where
   pub tabled-length : (n : ℕ) → length (tabled n f) ≡ n

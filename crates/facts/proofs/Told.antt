@@ -2,7 +2,7 @@
 use Prim.Native.Nat.{ℕ, ◌+◌, ◌*◌, ◌/◌, ◌≤◌, ◌<◌, min}
 use native.Mathlib.Omega.{arith}
 use mathlib.Core.Path.{◌≡◌, refl, sym, ap, ◌∙◌}
-use mathlib.Core.Bool.{Bool, true, false, cond, not, ◌&&◌, ◌||◌}
+use mathlib.Core.Bool.{Bool, true, false, cond, not, ◌&&◌, ◌||◌, or-true}
 use mathlib.Core.List.{List, [], ◌∷◌, append-nil}
 use Rattle.std.proofs.Common.{Option, None, Some}
 use borrow.Author.Tests.{ltb-true, ltb-false}
@@ -43,10 +43,6 @@ class-konst None true = refl
 class-konst None false = refl
 
 -- who has a constant is a konst
-or_true : (b : Bool) → (b || true) ≡ true
-or_true true = refl
-or_true false = refl
-
 module _ (r : ℕ) where
   abbrev bounds : Code → Bool
   bounds x = writes r x.inst && bound (fixed_of x.inst)
@@ -60,9 +56,9 @@ module _ (r : ℕ) where
           (present (or_else (cond w (word_of f) None) (const_in c r)) || ((w && bound f) || any_of bounds c)) ≡ ((w && bound f) || any_of bounds c)
       by false f e = e
       by true (word v) e = refl
-      by true real e = or_true (present (const_in c r))
+      by true real e = or-true (present (const_in c r))
       by true (address true) e = e
-      by true (address false) e = or_true (present (const_in c r))
+      by true (address false) e = or-true (present (const_in c r))
       by true varying e = e
 
   const-konst : (c : List Code) → (present (const_of c r) || konst_of c r) ≡ konst_of c r

@@ -6,7 +6,10 @@ ghost use Rattle.facts.specs.Storage.{cell, kinds_in, single_in, uses_in, const_
 
 use inst::Reg;
 
-// A register's row: five words, in this order. The table is words and no structs, since C lends it to the benchmark as words.
+// A register's row: five words, in this order. The table is words and no structs, since C lends it to the benchmark as words;
+// std's `as_chunks_mut` would make rows of them, but promises nothing of what the slice ends as, and for
+// reading rows are no plainer, since each function asks one word. What follows are functions of
+// the slice, not methods: the benchmark lends a slice and `count_facts` fills it as one, so each caller would wrap it first.
 pub const ROW: usize = 5;
 
 pub const KIND: usize = 0;
@@ -20,29 +23,32 @@ pub const CLASS: usize = 3;
 pub const VALUE: usize = 4;
 
 // The classes of a register that one field of the code writes: by a Const, whose v is the row's value, or by a ConstF or a
-// non-Up AddrOf. Any other register has class 0.
+// non-Up AddrOf. Any other register has class 0. A class is a word of the table: an enum would have to be made from that word
+// at each test, and turned into it at each write.
 pub const BY_CONST: u64 = 1;
 
 pub const BY_OTHER: u64 = 2;
 
-// The kinds that are asked for by name. A kind is a byte, as in the lent storage for the kinds of new registers.
+// The kinds that are asked for by name. A kind is a byte and no RegTy: a word of the table may be no kind (see NO_KIND), and the
+// byte that is read goes into the lent storage for the kinds of new registers.
 pub const I64: u8 = 0;
 
 pub const PTR: u8 = 2;
 
-// A word that is no kind is read as this, since the contracts hold for any words.
+// A word that is no kind is read as this: C lends the table as words (see ROW), so the contracts hold for any words.
 const NO_KIND: u64 = 5;
 
-// Word j of a register's row, or a default if it has no row.
-fn cell_of(table: &[u64], r: Reg, j: usize, other: u64) -> u64
+// Word j of a register's row, or 0 if it has no row.
+#[tactic(auto, unfolding(crate::specs::Storage::cell))]
+fn cell_of(table: &[u64], r: Reg, j: usize) -> u64
     requires { j < 5 }
-    ensures { result ≡ cell table.now r.0 j other }
+    ensures { result ≡ cell table.now r.0 j 0 }
 {
     let k = r.0 as usize;
     if k < table.len() / ROW {
         return table[ROW * k + j];
     }
-    other
+    0
 }
 
 // How many registers the file has.
@@ -67,21 +73,21 @@ pub fn kind_of(table: &[u64], r: Reg) -> Option<u8>
 pub fn is_single(table: &[u64], r: Reg) -> bool
     ensures { result ≡ single_in table.now r.0 }
 {
-    cell_of(table, r, DEFINITIONS, 0) == 1
+    cell_of(table, r, DEFINITIONS) == 1
 }
 
 pub fn uses_of(table: &[u64], r: Reg) -> u64
     ensures { result ≡ uses_in table.now r.0 }
 {
-    cell_of(table, r, USES, 0)
+    cell_of(table, r, USES)
 }
 
 // The Rust's kc: the v of a register that only a Const writes.
 pub fn const_of(table: &[u64], r: Reg) -> Option<u64>
     ensures { result ≡ const_at table.now r.0 }
 {
-    if cell_of(table, r, CLASS, 0) == BY_CONST {
-        return Some(cell_of(table, r, VALUE, 0));
+    if cell_of(table, r, CLASS) == BY_CONST {
+        return Some(cell_of(table, r, VALUE));
     }
     None
 }
@@ -90,5 +96,5 @@ pub fn const_of(table: &[u64], r: Reg) -> Option<u64>
 pub fn is_konst(table: &[u64], r: Reg) -> bool
     ensures { result ≡ konst_at table.now r.0 }
 {
-    cell_of(table, r, CLASS, 0) != 0
+    cell_of(table, r, CLASS) != 0
 }

@@ -34,7 +34,8 @@ pub fn read_whole<R: Read>(reader: &mut R, buf: &mut [u8]) -> Result<usize, Cut>
     ensures whole { IfOk result (λ n. n < length buf.new → IsAtEnd (R.remaining reader.new)) }
 {
     let mut n = 0;
-    // Each turn adds what was read, so `n` is no index that a `for` could count.
+    // Each turn adds what was read, so `n` is no index that a `for` could count; and `read_exact` doesn't say how many
+    // bytes came.
     while n < buf.len() {
         match reader.read(&mut buf[n..]) {
             Err(why) => return Err(Cut { why, length: n }),

@@ -36,7 +36,8 @@ fn is_among(names: &[u8], name: &[u8]) -> bool {
     names.split(|byte| *byte == 0).any(|found| found == name)
 }
 
-// Whether one of the folder's names that are still to be read is this one.
+// Whether one of the folder's names that are still to be read is this one. A loop has to end; no folder
+// has so many parts.
 fn is_in(folder: &mut impl Read, name: &[u8]) -> Result<bool, Error> {
     let mut names = [0u8; 4096];
     for _ in 0..usize::MAX {

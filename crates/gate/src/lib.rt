@@ -19,7 +19,8 @@ pub fn lone_at(blocks: Blocks, k: BlockId) -> End
     ends::lone_of(blocks.block(k))
 }
 
-// Whether it is a Br or CondBr to block b or an earlier one.
+// Whether it is a Br or CondBr to block b or an earlier one. By numbers: a table of any length may have more blocks than a BlockId
+// counts.
 #[tactic(auto, unfolding(procedure::specs::Lists::any_of))]
 fn goes_back(b: usize, e: End) -> bool
     ensures { result ≡ any_of (λ (t : ℕ). leb t b) (targets e) }

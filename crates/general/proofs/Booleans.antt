@@ -38,9 +38,6 @@ pub neither : (b : Bool) {h a : Bool} → h ≡ a → h ≡ false → false ≡ 
 neither b i t = ap (λ (y : Bool). y && b) (sym t ∙ i)
 
 -- and a disjunction
-pub either : (b : Bool) {a : Bool} → a ≡ true → true ≡ (a || b)
-either b e = ap (λ (y : Bool). y || b) (sym e)
-
 pub otherwise : {a b x : Bool} → a ≡ false → x ≡ b → x ≡ (a || b)
 otherwise {a} {b} e f = f ∙ ap (λ (y : Bool). y || b) (sym e)
 

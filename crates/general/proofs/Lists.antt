@@ -27,16 +27,6 @@ module _ {A : Type 0} where
   drop-take (suc m) (suc n) (x ∷ l) = let e : n - m ≡ suc n - suc m = omega arith in drop-take m n l ∙ ap (λ (k : ℕ). take k (drop m l)) e
 
 module _ {A B : Type 0} (f : A → B) where
-  pub map-take : (n : ℕ) (l : List A) → map f (take n l) ≡ take n (map f l)
-  map-take zero l = refl
-  map-take (suc n) [] = refl
-  map-take (suc n) (x ∷ l) = ap (λ (r : List B). f x ∷ r) (map-take n l)
-
-  pub map-drop : (n : ℕ) (l : List A) → map f (drop n l) ≡ drop n (map f l)
-  map-drop zero l = refl
-  map-drop (suc n) [] = refl
-  map-drop (suc n) (x ∷ l) = map-drop n l
-
   pub map-set : (l : List A) (k : ℕ) (x : A) → map f (set l k x) ≡ set (map f l) k (f x)
   map-set [] zero x = refl
   map-set [] (suc k) x = refl

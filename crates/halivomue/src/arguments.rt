@@ -3,6 +3,7 @@ ghost use Rattle.std.specs.Prelude.{◌-◌, ◌^◌};
 ghost use Rattle.std.specs.Iterator.{at_most};
 
 use arrayvec::ArrayVec;
+use line::Line;
 use options::{Before, Role, Word};
 use std::env::{Env, FillError};
 
@@ -110,11 +111,14 @@ pub fn text<'a>(rt: &impl Env, i: usize, room: &'a mut [u8]) -> &'a [u8] {
 
 // The number of argument i as the user counts: without the words that the script adds.
 pub fn typed(rt: &impl Env, i: usize) -> usize {
-    let mut number = i;
-    for (k, word) in Words::new(rt) {
-        if k < i && word.role == Role::Status {
-            number = number.saturating_sub(1);
-        }
-    }
-    number
+    let added = Words::new(rt)
+        .filter(|(k, word)| *k < i && word.role == Role::Status)
+        .count();
+    i.saturating_sub(added)
+}
+
+// Puts what is said of an argument that is longer than any path.
+pub fn put_too_long(rt: &impl Env, line: &mut Line<'_>, i: usize, what: &[u8]) {
+    line.put_numbered(b"argument ", typed(rt, i));
+    line.put(what);
 }

@@ -74,8 +74,8 @@ impl<R: Env + Files + Input + Print> Asking<'_, R> {
     fn too_long(&self, i: usize) -> Result<bool, Unsaid> {
         let mut room = [0u8; 80];
         let mut line = Line::new(&mut room);
-        line.put_numbered(b"argument ", arguments::typed(self.rt, i));
-        line.put(b": cannot be opened: longer than a path\n");
+        let what = b": cannot be opened: longer than a path\n";
+        arguments::put_too_long(self.rt, &mut line, i, what);
         files::say(self.rt, line.text())?;
         Ok(false)
     }

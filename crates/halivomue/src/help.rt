@@ -8,24 +8,14 @@ use std::env::Env;
 // The descriptor of standard error.
 pub const STDERR: i32 = 2;
 
-fn say_usage(rt: &impl Print, asked: bool) -> Result<(), Unsaid> {
-    let text = b"usage: halivomue read|tidy [--words] [--] [FILE..]
+const USAGE: &[u8] = b"usage: halivomue read|tidy [--words] [--] [FILE..]
        halivomue list [--words] [--only PART] [--] [FILE..]
        halivomue shorten [--words] [--] IN OUT
        halivomue --help|--version
 ";
-    if asked {
-        return files::say(rt, text);
-    }
-    if io::write_all(STDERR, text) {
-        Ok(())
-    } else {
-        Err(Unsaid::Failed)
-    }
-}
 
-pub fn usage(rt: &impl Print) -> Status {
-    let _ = say_usage(rt, false);
+pub fn usage() -> Status {
+    io::write_all(STDERR, USAGE);
     Status::Usage
 }
 
@@ -34,7 +24,7 @@ pub fn version(rt: &impl Print) -> Status {
 }
 
 pub fn help(rt: &impl Print) -> Result<bool, Unsaid> {
-    say_usage(rt, true)?;
+    files::say(rt, USAGE)?;
     files::say(
         rt,
         b"  read      of each file: accepted, or refused, number and record
@@ -52,21 +42,18 @@ Without a name the bare answer of standard input; the name - is standard input. 
 }
 
 // `shorten` with anything but two names.
-pub fn wrong_names(rt: &impl Print) -> Status {
+pub fn wrong_names() -> Status {
     io::write_all(
         STDERR,
         b"halivomue: shorten takes two names, and the second is a file's
 ",
     );
-    usage(rt)
+    usage()
 }
 
-// `--only` without a value, with an unknown one, or with a command other than `list`.
-pub fn no_part() -> Status {
-    io::write_all(
-        STDERR,
-        b"halivomue: --only wants counts, registers, blocks or code\n",
-    );
+// Says what is wrong with `--only`.
+pub fn wrong_only(text: &[u8]) -> Status {
+    io::write_all(STDERR, text);
     Status::Usage
 }
 
@@ -80,13 +67,8 @@ pub fn wrong_part(word: &[u8]) -> Status {
     Status::Usage
 }
 
-pub fn only_for_list() -> Status {
-    io::write_all(STDERR, b"halivomue: --only is for list\n");
-    Status::Usage
-}
-
 // A word that isn't a command, or isn't an option.
-pub fn unknown(rt: &impl Print, what: &[u8], word: &[u8]) -> Status {
+pub fn unknown(what: &[u8], word: &[u8]) -> Status {
     let mut room = [0u8; 1024];
     let mut line = Line::new(&mut room);
     quote::put_name(&mut line, word);
@@ -95,10 +77,10 @@ pub fn unknown(rt: &impl Print, what: &[u8], word: &[u8]) -> Status {
     io::write_all(STDERR, b" ");
     io::write_all(STDERR, line.text());
     io::write_all(STDERR, b"\n");
-    usage(rt)
+    usage()
 }
 
-pub fn unknown_option(rt: &(impl Env + Print), i: usize) -> Status {
+pub fn unknown_option(rt: &impl Env, i: usize) -> Status {
     let mut room = io::buffer();
-    unknown(rt, b"option", arguments::text(rt, i, &mut room))
+    unknown(b"option", arguments::text(rt, i, &mut room))
 }

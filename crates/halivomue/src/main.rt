@@ -12,6 +12,8 @@ mod help;
 mod shortened;
 mod status;
 
+// The handle and the options are two parameters: nearly every use is of one of them, so a struct of both would be no plainer.
+
 fn ask(rt: &HostRuntime, o: &Options, question: Question) -> Status {
     Status::from(each_file::answer_all(rt, o, question))
 }
@@ -38,11 +40,11 @@ fn command(rt: &HostRuntime, o: &Options, at: usize) -> Status {
     let mut room = io::buffer();
     match arguments::text(rt, at, &mut room) {
         b"list" => list(rt, o),
-        _ if o.only != Only::Nothing => help::only_for_list(),
+        _ if o.only != Only::Nothing => help::wrong_only(b"halivomue: --only is for list\n"),
         b"read" => ask(rt, o, Question::Read),
         b"tidy" => ask(rt, o, Question::Tidy),
         b"shorten" => shortened::shorten_file(rt, o),
-        word => help::unknown(rt, b"command", word),
+        word => help::unknown(b"command", word),
     }
 }
 
@@ -57,11 +59,11 @@ fn run(rt: &HostRuntime, o: &Options) -> Status {
         return help::version(rt);
     }
     if o.only == Only::Waiting {
-        return help::no_part();
+        return help::wrong_only(b"halivomue: --only wants counts, registers, blocks or code\n");
     }
     match o.command {
         Some(at) => command(rt, o, at),
-        None => help::usage(rt),
+        None => help::usage(),
     }
 }
 

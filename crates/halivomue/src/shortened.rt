@@ -32,13 +32,10 @@ impl Failure {
 fn read_open(file: &mut impl Read, bytes: &mut [u8]) -> Result<usize, Failure>
     ensures { IfOk result (λ n. IsPrefixLen n bytes.new) }
 {
-    match files::read_whole(file, bytes) {
-        Ok(n) => Ok(n),
-        Err(cut) => Err(Failure {
-            what: b": cannot be read",
-            why: cut.why,
-        }),
-    }
+    files::read_whole(file, bytes).map_err(|cut| Failure {
+        what: b": cannot be read",
+        why: cut.why,
+    })
 }
 
 fn read_named(rt: &(impl Files + Input), path: &[u8], bytes: &mut [u8]) -> Result<usize, Failure>
@@ -47,13 +44,11 @@ fn read_named(rt: &(impl Files + Input), path: &[u8], bytes: &mut [u8]) -> Resul
     if matches!(path, b"-") {
         return read_open(&mut rt.reader(), bytes);
     }
-    match files::open(rt, path) {
-        Ok(mut file) => read_open(&mut file, bytes),
-        Err(why) => Err(Failure {
-            what: b": cannot be opened",
-            why,
-        }),
-    }
+    let mut file = files::open(rt, path).map_err(|why| Failure {
+        what: b": cannot be opened",
+        why,
+    })?;
+    read_open(&mut file, bytes)
 }
 
 fn unwritten(to: &[u8], why: Error) -> Status {
@@ -67,7 +62,8 @@ fn unwritten(to: &[u8], why: Error) -> Status {
     failure.say(&mut line)
 }
 
-// Says how the file whose name the line has was shortened.
+// Says how the file whose name the line has was shortened. `words` goes through to `put_refusal` alone; a struct of it and the handle
+// would be no plainer.
 fn shorten_read(
     rt: &(impl Files + Print + RandomSource),
     bytes: &[u8],
@@ -113,8 +109,7 @@ fn shorten_named(
 fn too_long(rt: &impl Env, i: usize) -> Status {
     let mut room = [0u8; 80];
     let mut line = Line::new(&mut room);
-    line.put_numbered(b"argument ", arguments::typed(rt, i));
-    line.put(b": File name too long\n");
+    arguments::put_too_long(rt, &mut line, i, b": File name too long\n");
     io::write_all(help::STDERR, line.text());
     Status::Failed
 }
@@ -127,7 +122,7 @@ fn shorten_to(
 ) -> Status {
     let mut to = io::buffer();
     match rt.arg(i, &mut to) {
-        Ok(n) if matches!(&to[..n], b"-") => help::wrong_names(rt),
+        Ok(n) if matches!(&to[..n], b"-") => help::wrong_names(),
         Ok(n) => shorten_named(rt, from, &to[..n], words),
         Err(_) => too_long(rt, i),
     }
@@ -135,7 +130,7 @@ fn shorten_to(
 
 pub fn shorten_file(rt: &(impl Env + Files + Input + Print + RandomSource), o: &Options) -> Status {
     let [first, second] = o.names.as_slice() else {
-        return help::wrong_names(rt);
+        return help::wrong_names();
     };
     let mut from = io::buffer();
     match rt.arg(*first, &mut from) {

@@ -1,6 +1,7 @@
 // The C interface of include/halivomue.h, in numbers and flags: C has no Result. Each member of an
-// answer is stated to be that of the definition. Each answer is made in one function: a `From` would
-// only state its members twice.
+// answer is stated to be that of the definition. Each answer is made in one function and not by a
+// `From`, as in bench_c: the clauses here name each member, and the law of a record would be turned
+// into them at each use.
 #![tactic(auto)]
 
 ghost use Rattle.std.specs.Prelude.{◌≡◌, ◌++◌, ◌+◌, ◌/◌, ◌≤◌, length, take, drop};
@@ -47,7 +48,7 @@ pub extern "C" fn halivomue_read(bytes: &[u8]) -> HalivomueReading
             place: 0,
         },
         Err(e) => HalivomueReading {
-            number: e.reason.number(),
+            number: u32::from(e.reason),
             place: e.place,
         },
     }
@@ -85,7 +86,7 @@ fn members(t: Result<Option<Reg>, Refusal>) -> HalivomueTidiness
     match t {
         Ok(None) => tidiness_with(0, 0, 1, 0),
         Ok(Some(r)) => tidiness_with(0, 0, 0, r.0),
-        Err(e) => tidiness_with(e.reason.number(), e.place, 0, 0),
+        Err(e) => tidiness_with(u32::from(e.reason), e.place, 0, 0),
     }
 }
 
@@ -133,7 +134,7 @@ fn answer_of(r: Result<Shortening, Refusal>) -> HalivomueShortening
             rescued: s.rescued,
         },
         Err(refusal) => HalivomueShortening {
-            number: refusal.reason.number(),
+            number: u32::from(refusal.reason),
             place: refusal.place,
             length: 0,
             moved: 0,

@@ -7,7 +7,8 @@ use mathlib.Core.List.{List, [], ◌++◌, map, map-append}
 use borrow.Author.Tests.{leb-true, le-leb}
 use lib.ListN.{length, get_or, take, drop, set, length-set, length-map, length-take, length-drop, get_or-map}
 use lib.Seq.{set-get_or, get_or-set_same}
-use Rattle.general.proofs.Lists.{map-take, map-set}
+use Rattle.std.proofs.lemmas.List.{take-map}
+use Rattle.general.proofs.Lists.{map-set}
 use Rattle.records.specs.declared.Record.{Record}
 use Rattle.records.specs.Record.{records_of, record_at}
 use Rattle.records.proofs.Laws.{length_records}
@@ -168,7 +169,7 @@ module _ (s t : Arena) (a : ℕ) (c : List Code)
     front-written : (b : List Code) → front_records (map record_of b) ≡ map record_of (front b)
     front-written b =
         ap (λ (n : ℕ). take (n - 1) (map record_of b)) (length-map b record_of)
-        ∙ sym (map-take record_of (length b - 1) b)
+        ∙ take-map record_of (length b - 1) b
         ∙ ap (map record_of) (front-take b)
 
     pub replaced-canonical : Canonical s.work s.table → Canonical t.work t.table

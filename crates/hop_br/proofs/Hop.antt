@@ -1,48 +1,33 @@
 -- A join is the copy of a hop of a Br: where the target is small and the next number is one of 16 bits, the blocks become those of the definition.
-use Prim.Native.Nat.{ℕ, suc, ◌+◌, ◌≤◌}
+use Prim.Native.Nat.{ℕ, ◌+◌, ◌≤◌}
 use native.Mathlib.Omega.{arith}
-use mathlib.Core.Path.{◌≡◌, refl, sym, ap, ◌∙◌}
-use mathlib.Core.Bool.{Bool, true, false, ◌&&◌, ◌||◌, not, true≢false}
+use mathlib.Core.Path.{◌≡◌, sym, ap, ◌∙◌}
+use mathlib.Core.Bool.{false}
 use mathlib.Core.List.{List, [], ◌++◌}
 use Rattle.std.proofs.Common.{Option}
 use borrow.Author.Tests.{leb-true}
-use lib.Dec.{leb, eqb, ltb}
+use lib.Dec.{leb}
 use lib.ListN.{length, get_or, take, set}
 use lib.Seq.{take_all}
 use Rattle.general.proofs.Booleans.{and_first}
 use Rattle.inst.specs.declared.Code.{Code}
-use Rattle.procedure.specs.Lists.{present, holds}
 use Rattle.ends.specs.Ends.{front}
 use Rattle.blocks.specs.Blocks.{blocks_of}
 use Rattle.blocks.proofs.Parts.{block_codes}
-use Rattle.steps.specs.Small.{small, copyable, latch, reads_konst}
+use Rattle.steps.specs.Small.{small}
 use Rattle.steps.specs.Facts.{Facts}
-use Rattle.steps.specs.Gate.{copied}
 use Rattle.steps.specs.Copy.{copy_of, kinds_of}
 use Rattle.steps.specs.Thread.{Work, block_at, next_number, stops, appended}
+use Rattle.steps.proofs.Copied.{stops-small}
 use Rattle.facts.specs.Storage.{kinds_in, facts_in}
 use Rattle.arena.specs.Arena.{Arena}
 use Rattle.hop_br.specs.Storage.{next_in, target_in, copy_in, given_in, kinds_put}
 use Rattle.hop_br.proofs.Joins.{kinds-follow}
 
-or_last : (a b : Bool) → (a || b) ≡ false → b ≡ false
-or_last true b e = absurd (true≢false e)
-or_last false b e = e
-
-not_not : (b : Bool) → not b ≡ false → b ≡ true
-not_not true e = refl
-not_not false e = absurd (true≢false e)
-
 -- a target that is copied has four instructions at most
 pub few : (f : Facts) (w : Work) (a l : ℕ) → stops f w a l ≡ false → length (block_at w l) ≤ 4
-unfolding stops copied small
-few f w a l e =
-    let c = block_at w l in
-    let wide = present f.body in
-    let before = eqb l a || holds f.body l || wide && reads_konst f.konst c || ltb f.budget w.grown in
-    let y = not_not (copied wide w.blocks l) (or_last before (not (copied wide w.blocks l)) e) in
-    let z = and_first (small c) (not (latch c (get_or w.blocks (suc l) []) l wide)) y in
-    leb-true (length c) 4 (and_first (leb (length c) 4) (copyable c) z)
+unfolding small
+few f w a l e = leb-true (length (block_at w l)) 4 (and_first (leb (length (block_at w l)) 4) _ (stops-small f w a l e))
 
 module _ (facts : List ℕ) (body : Option ℕ) (budget l fresh : ℕ) (s : Arena) (w : Work)
     (same : w.blocks ≡ blocks_of s.work s.table) (short : length (block_at w l) ≤ 4)

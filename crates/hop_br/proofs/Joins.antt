@@ -1,15 +1,15 @@
 -- Laws of the kinds written one by one, and of a join by its parts.
-use Prim.Native.Nat.{ℕ, suc, ◌+◌, ◌≤◌, ◌<◌}
+use Prim.Native.Nat.{ℕ, suc, ◌+◌, ◌≤◌}
 use native.Mathlib.Numerals.{add-one}
 use native.Mathlib.Omega.{arith}
 use mathlib.Core.Path.{◌≡◌, refl, sym, ap, ◌∙◌}
 use mathlib.Core.List.{List, [], ◌∷◌, ◌++◌, map, append-nil}
+use mathlib.Core.Logic.{◌⊎◌, inl, inr}
 use Rattle.std.proofs.Common.{Option}
-use lib.ListN.{length, get_or, take, drop, set, length-set, length-map, drop_of_length-le, get_or-map}
-use lib.Seq.{drop-cons, take-suc-set, append_snoc, set_out}
+use lib.ListN.{length, get_or, take, set, length-set, length-map}
+use lib.Seq.{take-suc-set, append_snoc, set_out}
 use Rattle.inst.specs.declared.Reg.{Reg}
 use Rattle.inst.specs.declared.Code.{Code}
-use Rattle.roles.specs.Roles.{reg_of}
 use Rattle.procedure.specs.Procedure.{codes_of}
 use Rattle.blocks.specs.Blocks.{block_bytes}
 use Rattle.steps.specs.Copy.{copy_of, kinds_of}
@@ -38,15 +38,9 @@ kinds-follow b at (k ∷ ks) h =
     ∙ ap (λ (l : List ℕ). l ++ ks) (take-suc-set b at k (omega arith))
     ∙ append_snoc (take at b) k ks
 
--- of some kinds from place k on
-module _ (b : List ℕ) (at : ℕ) (ks : List ℕ) (k : ℕ) where
-  pub kinds-step : (d : ℕ) → k < length ks → kinds_put (set b at (get_or ks k d)) (at + 1) (drop (k + 1) ks) ≡ kinds_put b at (drop k ks)
-  unfolding kinds_put
-  kinds-step d h = sym (ap (kinds_put b at) (drop-cons ks k d h) ∙ rw (add-one k, add-one at))
-
-  pub kinds-end : length ks ≤ k → kinds_put b at (drop k ks) ≡ b
-  unfolding kinds_put
-  kinds-end h = ap (kinds_put b at) (drop_of_length-le ks {i = k} h)
+-- a register's kind, by its number; 0 for one that the file doesn't have
+abbrev pub kind_in : List ℕ → ℕ → ℕ
+kind_in facts d = get_or (kinds_in facts) d 0
 
 -- the kinds of the registers that got a new number
 module _ (g : ℕ → ℕ) (given : List (Reg × Reg)) where
@@ -56,9 +50,19 @@ module _ (g : ℕ → ℕ) (given : List (Reg × Reg)) where
   pub kinds-count : length kinds_for ≡ length given
   kinds-count = length-map (map (λ (x : Reg × Reg). x.0.0) given) g ∙ length-map given (λ (x : Reg × Reg). x.0.0)
 
-  pub kind_nth : (k : ℕ) → get_or kinds_for k (g 0) ≡ g (get_or given k (reg_of 0, reg_of 0)).0.0
-  kind_nth k =
-      get_or-map g (map (λ (x : Reg × Reg). x.0.0) given) k 0 ∙ ap g (get_or-map (λ (x : Reg × Reg). x.0.0) given k (reg_of 0, reg_of 0))
+-- the kinds of the registers that are still to come, the first of them written
+pub kinds-step : (g : ℕ → ℕ) (b : List ℕ) (at : ℕ) (p : Reg × Reg) (rest : List (Reg × Reg)) {all : List (Reg × Reg)} {i at' v : ℕ}
+    → all ≡ p ∷ rest → i ≡ at → at' ≡ at + 1 → v ≡ g p.0.0
+    → kinds_put (set b i v) at' (kinds_for g rest) ≡ kinds_put b at (kinds_for g all)
+unfolding kinds_put
+kinds-step g b at p rest e₁ e₂ e₃ e₄ = rw (e₁, e₂, e₃, e₄, add-one)
+
+-- none is to come, or there is no room
+pub kinds-end : (g : ℕ → ℕ) (b : List ℕ) (at : ℕ) (rest : List (Reg × Reg)) → (length b ≤ at) ⊎ (length rest ≡ 0) → kinds_put b at (kinds_for g rest) ≡ b
+unfolding kinds_put
+kinds-end g b at rest (inl h) = kinds-past b at (kinds_for g rest) h
+kinds-end g b at [] (inr e) = refl
+kinds-end g b at (p ∷ rest) (inr e) = absurd (omega arith)
 
 left-same : {t t' : Arena} {k k' : List ℕ} {n n' f f' : ℕ} → t ≡ t' → k ≡ k' → n ≡ n' → f ≡ f' → left t k n f ≡ left t' k' n' f'
 left-same {t' = t'} {k = k} {k' = k'} {n = n} {n' = n'} {f = f} e₁ e₂ e₃ e₄ =

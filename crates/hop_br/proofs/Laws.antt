@@ -2,11 +2,10 @@
 use Prim.Native.Nat.{ℕ, ◌≤◌, ◌<◌}
 use mathlib.Core.Path.{◌≡◌, refl, sym, ap, ◌∙◌}
 use mathlib.Core.Bool.{Bool, true, false, ◌&&◌, ◌||◌, not}
-use mathlib.Core.List.{List, []}
+use mathlib.Core.List.{List}
 use Rattle.std.proofs.Common.{Option}
 use borrow.Author.Tests.{lt-ltb, le-ltb}
 use lib.Dec.{eqb}
-use lib.ListN.{get_or}
 use Rattle.inst.specs.declared.Code.{Code}
 use Rattle.procedure.specs.Lists.{present, holds}
 use Rattle.procedure.specs.Procedure.{codes_of}
@@ -16,44 +15,59 @@ use Rattle.steps.specs.Small.{reads_konst}
 use Rattle.steps.specs.Facts.{Facts}
 use Rattle.steps.specs.Gate.{copied}
 use Rattle.steps.specs.Thread.{Work, block_at, stops}
+use Rattle.facts.specs.Storage.{konst_at, facts_in}
+use Rattle.hop_br.specs.Storage.{grown_to}
 
 -- the tests before a copy, in their order
 tests : {s s' b b' k k' g g' n n' : Bool} → s' ≡ s → b' ≡ b → k' ≡ k → g' ≡ g → n ≡ n' → (s || b || k || g || n) ≡ (s' || b' || k' || g' || n')
 tests e₁ e₂ e₃ e₄ e₅ = rw (e₁, e₂, e₃, e₄, ← e₅)
 
-module _ (f : Facts) (w : Work) (a l : ℕ) where
-  pub stop_self : eqb l a ≡ true → true ≡ stops f w a l
+module _ (facts : List ℕ) (body : Option ℕ) (budget : ℕ) (code table : List ℕ) (grown a l : ℕ) where
+  abbrev f : Facts
+  f = facts_in facts body budget
+
+  abbrev w : Work
+  w = grown_to (blocks_of code table) grown
+
+  pub stop_self : true ≡ eqb l a → true ≡ stops f w a l
   unfolding stops
-  stop_self e = tests e refl refl refl refl
+  stop_self e = tests (sym e) refl refl refl refl
 
-  module _ (self : eqb l a ≡ false) where
-    pub stop_body : holds f.body l ≡ true → true ≡ stops f w a l
+  module _ (self : false ≡ eqb l a) {p : Bool} (paused : p ≡ holds body l) where
+    pub stop_body : p ≡ true → true ≡ stops f w a l
     unfolding stops
-    stop_body e = tests self e refl refl refl
+    stop_body i = tests (sym self) (sym paused ∙ i) refl refl refl
 
-    module _ (body : holds f.body l ≡ false) where
-      pub stop_konst : (present f.body && reads_konst f.konst (block_at w l)) ≡ true → true ≡ stops f w a l
-      unfolding stops
-      stop_konst e = tests self body e refl refl
+    -- block l is told by its bytes
+    module _
+        (isnt : p ≡ false)
+        {wide z : Bool}
+        {c t b : List ℕ}
+        (wide-is : wide ≡ present body)
+        (code-is : c ≡ code)
+        (table-is : t ≡ table)
+        (block : b ≡ block_bytes c t l)
+        (binds : z ≡ (wide && reads_konst (konst_at facts) (codes_of b)))
+      where
+        konst : (v : Bool) → z ≡ v → (present body && reads_konst (konst_at facts) (block_at w l)) ≡ v
+        konst v i =
+            ap (λ (c : List Code). present body && reads_konst (konst_at facts) c) (sym (block_codes code table l))
+            ∙ ap (λ (x : List ℕ). present body && reads_konst (konst_at facts) (codes_of x)) (sym (rw (code-is, table-is) at block))
+            ∙ ap (λ (t : Bool). t && reads_konst (konst_at facts) (codes_of b)) (sym wide-is)
+            ∙ sym binds
+            ∙ i
 
-      module _ (konst : (present f.body && reads_konst f.konst (block_at w l)) ≡ false) where
-        pub stop_grown : f.budget < w.grown → true ≡ stops f w a l
+        pub stop_konst : z ≡ true → true ≡ stops f w a l
         unfolding stops
-        stop_grown h = tests self body konst (lt-ltb f.budget w.grown h) refl
+        stop_konst i = tests (sym self) (sym paused ∙ isnt) (konst true i) refl refl
 
-        pub stop_last : w.grown ≤ f.budget → {z wide : Bool} → wide ≡ present f.body → z ≡ copied wide w.blocks l → not z ≡ stops f w a l
-        unfolding stops
-        stop_last h i e =
-            let y = ap not (e ∙ ap (λ (t : Bool). copied t w.blocks l) i) in
-            tests self body konst (le-ltb f.budget w.grown h) y
+        module _ (free : z ≡ false) {m : ℕ} (m-is : m ≡ budget) where
+          pub stop_grown : m < grown → true ≡ stops f w a l
+          unfolding stops
+          stop_grown h = tests (sym self) (sym paused ∙ isnt) (konst false free) (lt-ltb budget grown (rw m-is at h)) refl
 
--- block l of a process, by its bytes
-pub block-named : (code table : List ℕ) (l : ℕ) (konst : ℕ → Bool) (body : Option ℕ) {z wide v : Bool} {b : List ℕ}
-    → wide ≡ present body → b ≡ block_bytes code table l → z ≡ (wide && reads_konst konst (codes_of b)) → z ≡ v
-    → (present body && reads_konst konst (get_or (blocks_of code table) l [])) ≡ v
-block-named code table l konst body {b = b} e f g h =
-    ap (λ (c : List Code). present body && reads_konst konst c) (sym (block_codes code table l))
-    ∙ ap (λ (x : List ℕ). present body && reads_konst konst (codes_of x)) (sym f)
-    ∙ ap (λ (t : Bool). t && reads_konst konst (codes_of b)) (sym e)
-    ∙ sym g
-    ∙ h
+          pub stop_last : grown ≤ m → {y : Bool} {P : List (List Code)} → P ≡ blocks_of code table → y ≡ copied wide P l → not y ≡ stops f w a l
+          unfolding stops
+          stop_last h {y = y} i j =
+              let n = ap not (rw (wide-is, i) at j) in
+              tests (sym self) (sym paused ∙ isnt) (konst false free) (le-ltb budget grown (rw m-is at h)) n

@@ -9,6 +9,7 @@ ghost use Rattle.steps.specs.Thread as steps;
 ghost use Rattle.facts.specs.Storage.{konst_at, kinds_in, facts_in};
 ghost use Rattle.pause.specs.Storage.{body_in};
 ghost use Rattle.hop_br.specs.Storage.{grown_to, next_in, fresh_to, kinds_put, left, join_of};
+ghost use Rattle.hop_br.specs.Kept.{SameKinds};
 ghost use Rattle.arena.specs.Arena.{arena_in, SameSlices};
 
 use arena::Space;
@@ -30,6 +31,7 @@ fn budget_of(facts: &Facts) -> u32
 
 // Whether a Br of block a to block l stays: l is a or the body, `binds` holds, enough was copied,
 // or l can't be copied.
+#[tactic(auto, using(crate::proofs::Laws::stop_self, crate::proofs::Laws::stop_body, crate::proofs::Laws::stop_konst, crate::proofs::Laws::stop_grown, crate::proofs::Laws::stop_last))]
 pub fn stops(space: &Space, facts: &Facts, grown: u64, a: BlockId, l: BlockId) -> bool
     ensures stops { result ≡ steps.stops (facts_in facts.now.table.now (body_in facts.now.pause) facts.now.budget)
         (grown_to (blocks_of space.now.work.now space.now.table.now) grown) a.0 l.0 }
@@ -54,7 +56,10 @@ pub fn stops(space: &Space, facts: &Facts, grown: u64, a: BlockId, l: BlockId) -
 }
 
 // What threading adds: the new registers' kinds and how many were given, how many instructions were
-// appended by copying, and whether a block was edited.
+// appended by copying, and whether a block was edited. The flag is no Option of the counts: a hop
+// over a CondBr edits a block and adds nothing. `fresh` is no length of `kinds`: it counts on where
+// `kinds` has no room. That `kinds` stays the same slice is a fact about before and after, which no
+// ghost field can hold.
 #[derive(Drop)]
 pub struct Added<'a> {
     pub kinds: &'a mut [u8],
@@ -75,13 +80,8 @@ fn put_kinds(kinds: &mut [u8], facts: &[u64], given: &[(Reg, Reg)], from: usize)
     ensures { kinds.new ≡ kinds_put kinds.old from
         (map (λ (d : ℕ). get_or (kinds_in facts.now) d 0) (map (λ x. x.0.0) given.now)) }
 {
-    let mut at = from;
-    for p in given {
-        if kinds.len() <= at {
-            return;
-        }
+    for (p, at) in given.iter().zip(from..kinds.len()) {
         kinds[at] = kind_at(facts, p.0);
-        at += 1;
     }
 }
 
@@ -99,7 +99,7 @@ impl Added<'_> {
 
     // Gives new registers, with the kinds of the old ones. 65535 at most are given.
     fn give(&mut self, facts: &[u64], given: &[(Reg, Reg)])
-        ensures same { self.new.kinds.ghost_name ≡ self.old.kinds.ghost_name }
+        ensures same { SameKinds self.old self.new }
         ensures kinds { self.new.kinds.now ≡ kinds_put self.old.kinds.now self.old.fresh
             (map (λ (d : ℕ). get_or (kinds_in facts.now) d 0) (map (λ x. x.0.0) given.now)) }
         ensures fresh { self.new.fresh ≡ fresh_to self.old.fresh (length given.now) }
@@ -114,7 +114,7 @@ impl Added<'_> {
 // added.
 pub fn join(space: &mut Space, added: &mut Added, facts: &[u64], a: BlockId, l: BlockId) -> usize
     ensures same { SameSlices space.old space.new }
-    ensures same_kinds { added.new.kinds.ghost_name ≡ added.old.kinds.ghost_name }
+    ensures same_kinds { SameKinds added.old added.new }
     ensures rest { (added.new.grown ≡ added.old.grown) × (added.new.edited ≡ added.old.edited) }
     ensures joined { (body : Option ℕ) (budget : ℕ)
         → left (arena_in space.new) added.new.kinds.now result added.new.fresh

@@ -20,6 +20,7 @@ use Rattle.blocks.specs.Blocks.{Canonical}
 use Rattle.blocks.specs.Rewrite.{Apart, end_rewritten}
 use Rattle.blocks.proofs.Bytes.{end-bytes, end-length}
 use Rattle.blocks.proofs.Apart.{end_codes, end-canonical}
+use Rattle.equal_arms.proofs.Arms.{in-range}
 use Rattle.steps.specs.Facts.{Facts}
 use Rattle.steps.specs.Note.{nothing, notes, source_of, value_of}
 use Rattle.steps.specs.Thread.{Work, last, next, edit, block_at, arm_of, rewrite_if, decide, decide_from, hop_cond_br}
@@ -27,10 +28,6 @@ use Rattle.facts.specs.Storage.{facts_in}
 use Rattle.note.proofs.Gathered.{notes_any}
 use Rattle.hop_cond_br.specs.Storage.{arm_in, turn_if, decide_in, before, turned_in, work_in, hop_in}
 use Rattle.hop_cond_br.proofs.Ranges.{arm-range, tested_range, choose-range}
-
-br_range : (t : ℕ) → t < 2 ^ 32 → in_range (i.Br (block_of t)) ≡ true
-unfolding in_range
-br_range t h = rw (lt-ltb t (2 ^ 32) h)
 
 cond_br_range : (c t e : ℕ) → c < 2 ^ 32 → t < 2 ^ 32 → e < 2 ^ 32 → in_range (i.CondBr (reg_of c) (block_of t) (block_of e)) ≡ true
 unfolding in_range
@@ -53,7 +50,7 @@ module _
       keep_if false c t e h g k = q (i.CondBr (reg_of c) (block_of t) (block_of e)) (cond_br_range c t e h g k)
 
       keep_decide : (o : Option ℕ) (c' : ℕ) → c' < 2 ^ 32 → Q (decide_in table a code body c t e c' o).code
-      keep_decide (Some v) c' h = q (i.Br (block_of (choose v t e))) (br_range (choose v t e) (choose-range v t e ht he))
+      keep_decide (Some v) c' h = q (i.Br (block_of (choose v t e))) (in-range (choose v t e) (choose-range v t e ht he))
       keep_decide None c' h =
           let t' = arm_in table a code body c' true t in
           let e' = arm_in table a code body c' false e in
@@ -94,7 +91,7 @@ module _
         hop-decide : (f : Facts) → f.body ≡ body → (o : Option ℕ) (c' : ℕ) → c' < 2 ^ 32
             → decide f w a c t e c' o ≡ hop_in table kinds grown (decide_in table a code body c t e c' o)
         unfolding arm_of
-        hop-decide f b (Some v) c' r = ap next (edit-end (i.Br (block_of (choose v t e))) (br_range (choose v t e) (choose-range v t e ht he)))
+        hop-decide f b (Some v) c' r = ap next (edit-end (i.Br (block_of (choose v t e))) (in-range (choose v t e) (choose-range v t e ht he)))
         hop-decide f b None c' r =
             let t' = arm_in table a code body c' true t in
             let e' = arm_in table a code body c' false e in

@@ -1,8 +1,7 @@
 -- What a hop of a CondBr leaves, by the tests that its functions make.
 use Prim.Native.Nat.{ℕ, zero, suc, ◌/◌}
-use native.Mathlib.Omega.{arith}
 use mathlib.Core.Path.{◌≡◌, refl, sym, ap, ◌∙◌}
-use mathlib.Core.Bool.{Bool, true, false, ◌&&◌, cond}
+use mathlib.Core.Bool.{Bool, true, false, not, ◌&&◌, cond}
 use mathlib.Core.List.{List, []}
 use Rattle.std.proofs.Common.{Option, None, Some, option_map}
 use borrow.Author.Tests.{eq-eqb, ne_eqb}
@@ -10,11 +9,13 @@ use lib.Dec.{eqb}
 use lib.ListN.{length, get_or}
 use Rattle.records.specs.Record.{record_at}
 use Rattle.inst.specs.declared.BlockId.{BlockId}
+use Rattle.inst.specs.declared.Reg.{Reg}
 use Rattle.inst.specs.declared.Inst.TheVariants as i
 use Rattle.codec.specs.Codec.{reg_of, block_of}
 use Rattle.procedure.specs.Lists.{holds}
 use Rattle.procedure.specs.Procedure.{codes_of}
 use Rattle.word.specs.Word.{choose}
+use Rattle.word.proofs.Laws.{isnt_zero}
 use Rattle.ends.specs.declared.End.{End}
 use Rattle.ends.specs.Ends.{front, lone_of}
 use Rattle.ends.proofs.Laws.{length_codes}
@@ -28,7 +29,7 @@ use Rattle.facts.specs.Storage.{facts_in}
 use Rattle.note.specs.Noted.{enough}
 use Rattle.note.proofs.Gathered.{notes_any}
 use Rattle.hop_cond_br.specs.declared.Turn.TheVariants as u
-use Rattle.hop_cond_br.specs.Storage.{Turned, turned, arm_in, turn_if, turn_in, decide_in, tested_in, before, room_in, turned_in}
+use Rattle.hop_cond_br.specs.Storage.{Turned, turned, arm_in, turn_if, turn_in, fold_in, decide_in, tested_in, before, room_in, turned_in}
 
 -- an arm
 module _ (table : List ℕ) (a : ℕ) (code : List ℕ) (body : Option ℕ) (c : ℕ) (truth : Bool) (l : BlockId) where
@@ -41,15 +42,10 @@ module _ (table : List ℕ) (a : ℕ) (code : List ℕ) (body : Option ℕ) (c :
     unfolding arm_of
     arm_pause h = sym (rw (ne_eqb l.0 a n, h))
 
-    pub arm-past : {x : End} → holds body l.0 ≡ false → x ≡ lone_of (get_or (blocks_of code table) l.0 [])
+    pub arm_past : {x : End} → holds body l.0 ≡ false → x ≡ lone_of (get_or (blocks_of code table) l.0 [])
         → block_of (matching truth c l.0 x) ≡ block_of (arm_in table a code body c truth l.0)
     unfolding arm_of
-    arm-past h e = ap (λ (x : End). block_of (matching truth c l.0 x)) e ∙ sym (rw (ne_eqb l.0 a n, h))
-
--- an arm under another name
-pub arm-named : (table : List ℕ) (a : ℕ) (code : List ℕ) (body : Option ℕ) (c : ℕ) (truth : Bool) {l m r : BlockId} → l ≡ m
-    → r ≡ block_of (arm_in table a code body c truth l.0) → r ≡ block_of (arm_in table a code body c truth m.0)
-arm-named table a code body c truth e h = h ∙ ap (λ (x : BlockId). block_of (arm_in table a code body c truth x.0)) e
+    arm_past h e = ap (λ (x : End). block_of (matching truth c l.0 x)) e ∙ sym (rw (ne_eqb l.0 a n, h))
 
 -- the CondBr, by whether something differs
 module _
@@ -99,30 +95,53 @@ module _ (table : List ℕ) (a : ℕ) (facts : List ℕ) (body : Option ℕ) (co
   by_room true = refl
   by_room false = refl
 
-  -- in slices with room or none
-  module _ (known copy : List ℕ) {b p : List ℕ} (block : p ≡ block_bytes code table a) (fore : b ≡ front_bytes p) where
-    codes : codes_of b ≡ before table a code
-    codes = ap codes_of fore ∙ front_codes p ∙ ap front (ap codes_of block ∙ block_codes code table a)
+  -- in slices with room or none, by the blocks that are told
+  module _
+      (known copy : List ℕ)
+      {w k b p : List ℕ}
+      (code-is : w ≡ code)
+      (table-is : k ≡ table)
+      (block : p ≡ block_bytes w k a)
+      (fore : b ≡ front_bytes p)
+    where
+      codes : codes_of b ≡ before table a code
+      codes =
+          ap codes_of fore
+          ∙ front_codes p
+          ∙ ap front (ap codes_of (rw (code-is, table-is) at block) ∙ block_codes code table a)
 
-    abbrev noted : Option Known
-    noted = cond (enough (length b / 32) known copy) (Some (notes (facts_in facts None 0) nothing (codes_of b))) None
+      abbrev noted : Option Known
+      noted = cond (enough (length b / 32) known copy) (Some (notes (facts_in facts None 0) nothing (codes_of b))) None
 
-    noted-is : noted ≡ cond (room_in table a code known copy) (Some gathered) None
-    noted-is =
-        let none_of = facts_in facts None 0 in
-        let k = ap (notes none_of nothing) codes ∙ notes_any facts body 0 nothing (before table a code) in
-        ap (λ (m : ℕ). cond (enough m known copy) (Some (notes none_of nothing (codes_of b))) None) (sym (length_codes b) ∙ ap length codes)
-        ∙ ap (λ (k : Known). cond (room_in table a code known copy) (Some k) None) k
+      noted-is : noted ≡ cond (room_in table a code known copy) (Some gathered) None
+      noted-is =
+          let none_of = facts_in facts None 0 in
+          let k = ap (notes none_of nothing) codes ∙ notes_any facts body 0 nothing (before table a code) in
+          ap (λ (m : ℕ). cond (enough m known copy) (Some (notes none_of nothing (codes_of b))) None) (sym (length_codes b) ∙ ap length codes)
+          ∙ ap (λ (k : Known). cond (room_in table a code known copy) (Some k) None) k
 
-    pub turned-by : {n : Option (ℕ × Option ℕ)} → n ≡ option_map (tested_in facts c) noted
-        → decided n ≡ turned_in table a facts body code c t e (room_in table a code known copy)
-    turned-by e = ap decided (e ∙ ap (option_map (tested_in facts c)) noted-is) ∙ by_room (room_in table a code known copy)
+      abbrev leaves : Turned
+      leaves = turned_in table a facts body code c t e (room_in table a code known copy)
+
+      -- what `tested` tells
+      abbrev Told : Option (Reg × Option ℕ) → Type 0
+      Told n = option_map (λ (x : Reg × Option ℕ). (x.0.0, x.1)) n ≡ option_map (tested_in facts c) noted
+
+      left : (n : Option (Reg × Option ℕ)) → Told n → decided (option_map (λ (x : Reg × Option ℕ). (x.0.0, x.1)) n) ≡ leaves
+      left n told = ap decided (told ∙ ap (option_map (tested_in facts c)) noted-is) ∙ by_room (room_in table a code known copy)
+
+      pub no_room : {n : Option (Reg × Option ℕ)} → Told n → n ≡ None → turned code u.Stay ≡ leaves
+      no_room {n = n} told i = rw i at (left n told)
+
+      pub by_value : {n : Option (Reg × Option ℕ)} {d : Reg} {v : Option ℕ} {x : ℕ} {z : Turned}
+          → z ≡ fold_in table a code x t e → v ≡ Some x → n ≡ Some (d, v) → Told n → z ≡ leaves
+      by_value {n = n} g j i told = g ∙ (rw (i, j) at (left n told))
+
+      pub no_value : {n : Option (Reg × Option ℕ)} {d : Reg} {v : Option ℕ} {z : Turned}
+          → Told n → n ≡ Some (d, v) → v ≡ None → z ≡ turn_in table a code body c t e d.0 → z ≡ leaves
+      no_value {n = n} told i j g = g ∙ (rw (i, j) at (left n told))
 
 -- the arm that a known value takes
-pub taken : (v : ℕ) (t e : BlockId) → (v ≡ 0 → ⊥) → t ≡ block_of (choose v t.0 e.0)
-taken zero t e n = absurd (n refl)
-taken (suc v) t e n = refl
-
-pub not_taken : (v : ℕ) (t e : BlockId) → v ≡ 0 → e ≡ block_of (choose v t.0 e.0)
-not_taken zero t e n = refl
-not_taken (suc v) t e n = absurd (omega arith)
+pub taken : (v : ℕ) (t e : BlockId) → cond (not (eqb v 0)) t e ≡ block_of (choose v t.0 e.0)
+taken zero t e = refl
+taken (suc v) t e = rw (isnt_zero (suc v))

@@ -4,7 +4,6 @@
 ghost use Rattle.std.specs.Prelude.{◌≡◌, ◌&&◌, ◌/◌, eqb, cond, length, option_map};
 ghost use Rattle.codec.specs.Codec.{block_of};
 ghost use Rattle.procedure.specs.Procedure.{codes_of};
-ghost use Rattle.word.specs.Word as word;
 ghost use Rattle.steps.specs.Thread as steps;
 ghost use Rattle.steps.specs.Note.{nothing, notes};
 ghost use Rattle.facts.specs.Storage.{facts_in};
@@ -26,7 +25,8 @@ pub struct CondBr {
     pub f: BlockId,
 }
 
-// The words for known values and for copies.
+// The words for known values and for copies. That they stay the same slices, as long, is a fact about
+// before and after, which no ghost field can hold.
 #[derive(Drop)]
 pub struct Room<'a> {
     pub known: &'a mut [u64],
@@ -56,12 +56,13 @@ fn matching(truth: bool, c: Reg, l: BlockId, e: End) -> BlockId
     ensures { result ≡ block_of (steps.matching truth c.0 l.0 e) }
 {
     match e {
-        End::CondBr(d, t, f) if d == c => { if truth { t } else { f } }
+        End::CondBr(d, t, f) if d == c => CondBr { c, t, f }.arm(truth),
         _ => l,
     }
 }
 
 // An arm of b, with its block passed over if it only tests the same register again.
+#[tactic(auto, using(crate::proofs::Turns::arm_here, crate::proofs::Turns::arm_pause, crate::proofs::Turns::arm_past))]
 fn arm_of(space: &Space, pause: Pause, a: BlockId, b: CondBr, truth: bool) -> BlockId
     ensures { result ≡ block_of
         (arm_in space.now.table.now a.0 space.now.work.now (body_in pause) b.c.0 truth (cond truth b.t b.f).0) }
@@ -85,6 +86,7 @@ fn same(b: CondBr, x: CondBr) -> bool
 }
 
 // Rewrites the CondBr b of block a to test d, with the arms that `arm_of` gives.
+#[tactic(auto, using(crate::proofs::Turns::all_same, crate::proofs::Turns::one_differs))]
 fn rewrite(space: &mut Space, pause: Pause, a: BlockId, b: CondBr, d: Reg) -> Turn
     ensures same { Recoded space.old space.new }
     ensures turned { turned space.new.work.now result
@@ -102,13 +104,8 @@ fn rewrite(space: &mut Space, pause: Pause, a: BlockId, b: CondBr, d: Reg) -> Tu
     Turn::Last
 }
 
-fn choose(v: u64, t: BlockId, e: BlockId) -> BlockId
-    ensures { result ≡ block_of (word.choose v t.0 e.0) }
-{
-    if v != 0 { t } else { e }
-}
-
 // Turns the CondBr b of block a into a Br, by a known value.
+#[tactic(auto, using(crate::proofs::Turns::taken))]
 fn fold(space: &mut Space, a: BlockId, b: CondBr, v: u64) -> Turn
     ensures same { Recoded space.old space.new }
     ensures turned { turned space.new.work.now result
@@ -116,12 +113,13 @@ fn fold(space: &mut Space, a: BlockId, b: CondBr, v: u64) -> Turn
 {
     let blocks = space.blocks();
     let at = blocks.record(a.0 as usize);
-    blocks::rewrite_br(space.work, at, choose(v, b.t, b.f));
+    blocks::rewrite_br(space.work, at, b.arm(v != 0));
     Turn::Next
 }
 
 // What is known of register c after some code: what it copies, and the value of that. None if there
-// is no room to note it. The slices stand apart, since only so a caller learns that they stay as long.
+// is no room to note it. Tried with a Room: `notes` holds both slices, and a caller wasn't told
+// afterwards that they are as long.
 fn tested(
     code: &[u8],
     known: &mut [u64],
@@ -135,18 +133,14 @@ fn tested(
         (Some (notes (facts_in facts.now None 0) nothing (codes_of code.now)))
         None) }
 {
-    let n = note::notes(code, known, copy, facts);
-    match n {
-        Some(k) => {
-            let d = k.source_of(c);
-            let v = k.value_of(facts, d);
-            Some((d, v))
-        }
-        None => None,
-    }
+    let k = note::notes(code, known, copy, facts)?;
+    let d = k.source_of(c);
+    let v = k.value_of(facts, d);
+    Some((d, v))
 }
 
 // A hop of block a, which ends with b.
+#[tactic(auto, using(crate::proofs::Turns::no_value, crate::proofs::Turns::no_room))]
 pub fn hop_cond_br(space: &mut Space, room: &mut Room, facts: &Facts, a: BlockId, b: CondBr) -> Turn
     ensures same { Recoded space.old space.new }
     ensures same_room { SameRoom room.old room.new }

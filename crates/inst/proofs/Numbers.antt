@@ -52,14 +52,3 @@ numbered k {n} e i t = go (order n 23)
     go : (n < 23) ⊎ (23 ≤ n) → n ≡ number_of k
     go (inl h) = sym (number-low n h) ∙ is
     go (inr h) = let p = ap number_of (kind-past n h) in let q = ltb→lt (number_of k) 23 t in absurd (omega (arith, p, is, q))
-
--- the same in the last arm
-pub numbered_past : {n : ℕ} {x : Kind} → x ≡ kind_at n → x ≡ k.Stmt → 23 ≤ n
-numbered_past {n} e i = go (order n 23)
-  where
-    is : number_of (kind_at n) ≡ 23
-    is = ap number_of (sym e ∙ i)
-
-    go : (n < 23) ⊎ (23 ≤ n) → 23 ≤ n
-    go (inl h) = let l = number-low n h in omega (arith, l, is)
-    go (inr h) = h

@@ -7,10 +7,10 @@ ghost use Rattle.inst.specs.Kinds.{kind_at, number_of};
 
 use real::Real;
 
-#[derive(Clone, Copy, Debug, Default, PartialEq, Eq)]
+#[derive(Clone, Copy, Debug, Default, PartialEq, Eq, PartialOrd, Ord)]
 pub struct Reg(pub u32);
 
-#[derive(Clone, Copy, Debug, PartialEq, Eq)]
+#[derive(Clone, Copy, Debug, PartialEq, Eq, PartialOrd, Ord)]
 pub struct BlockId(pub u32);
 
 #[derive(Clone, Copy, Debug, Default, PartialEq, Eq)]
@@ -117,7 +117,8 @@ pub enum Kind {
     Stmt,
 }
 
-// A number past the last is read as Stmt.
+// A number past the last is read as Stmt, as the definitions have it, so that every record has an instruction: by a TryFrom each
+// caller would say Stmt itself.
 impl From<u32> for Kind {
     ghost from_gives = { λ n k. k ≡ kind_at n };
 
@@ -295,7 +296,7 @@ pub struct Block {
 }
 
 // An arm as its record has it: with its table, and whether it is the default (then its bounds are
-// zero).
+// zero). The flag is no Option of the bounds: a wrong record's needn't be zero, and arm_of keeps them.
 #[derive(Clone, Copy, Debug, PartialEq, Eq)]
 pub struct ArmEntry {
     pub table: u32,

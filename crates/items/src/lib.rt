@@ -2,28 +2,17 @@
 #![tactic(auto)]
 
 ghost use Rattle.std.specs.Prelude.{◌≡◌};
-ghost use Rattle.records.specs.Class.{class_number};
-ghost use Rattle.items.specs.Items.{row_of, register_record, block_of, block_record, operand_of, arm_of};
+ghost use Rattle.items.specs.Items.{register_record, block_of, block_record, operand_of, arm_of};
 
 use inst::{ArmEntry, Block, BlockId, Reg, RegTy};
 use ops::Numbered;
 use records::{Class, DEFAULT_ARM, Record};
 
-// A record with nothing in its places.
-fn row(class: Class, kind: u32) -> Record
-    ensures { result ≡ row_of (class_number class) kind 0 0 0 0 0 0 }
-{
-    Record {
-        class: u32::from(class),
-        kind,
-        ..Record::default()
-    }
-}
-
+// These are functions and no From: both types of each are another crate's.
 pub fn record_of_register(x: RegTy) -> Record
     ensures { result ≡ register_record x }
 {
-    row(Class::Register, RegTy::number(x))
+    Record::empty(Class::Register, RegTy::number(x))
 }
 
 pub fn block_of(r: Record) -> Block
@@ -41,7 +30,7 @@ pub fn record_of_block(x: Block) -> Record
     Record {
         p1: x.start,
         p2: x.end,
-        ..row(Class::Block, 0)
+        ..Record::empty(Class::Block, 0)
     }
 }
 

@@ -55,7 +55,7 @@ pub class-from : (p : ℕ) (r : Record) (rs : List Record) → Sorted p (r ∷ r
 class-from p r rs h = leb-true p r.class (and_second (right r) _ (head_in p r rs h))
 
 -- a right record of a class is in order after that class, and others are so after the next class
-in-class : (c : ℕ) (r : Record) → right_of c r ≡ true → r.class ≡ c
+pub in-class : (c : ℕ) (r : Record) → right_of c r ≡ true → r.class ≡ c
 in-class c r e = eqb-true r.class c (and_first _ (right r) e)
 
 right-in : (c : ℕ) (r : Record) → right_of c r ≡ true → in_order c r ≡ true
@@ -112,11 +112,6 @@ none-past (r ∷ rs) = ordered_stop 7 r rs (⊎_elim past before' (cases (leb 7 
 unfoldable pub end_of : ℕ → List Record → ℕ
 end_of zero rs = 0
 end_of (suc c) rs = end_of c rs + lead (right_of (suc c)) (drop (end_of c rs) rs)
-
-pub end_of_le : (c : ℕ) (rs : List Record) → end_of c rs ≤ length rs
-unfolding end_of
-end_of_le zero rs = omega arith
-end_of_le (suc c) rs = let h = end_of_le c rs in let i = lead_le (right_of (suc c)) (drop (end_of c rs) rs) in let j = length-drop (end_of c rs) rs in omega arith
 
 classes_to : (c : ℕ) (rs : List Record) → Ordered 1 rs ≡ end_of c rs + Ordered (suc c) (drop (end_of c rs) rs)
 unfolding end_of

@@ -58,13 +58,10 @@ pub fn layout_of(b: &[u8]) -> Layout
             end,
         }
     } else {
+        // No Option: it could not fail before, and where the zeros stand Read asks only for the end.
         Layout {
-            blocks: 0,
-            bodies: 0,
-            code: 0,
-            operands: 0,
-            arms: 0,
             end,
+            ..Layout::default()
         }
     }
 }

@@ -10,7 +10,7 @@ use mathlib.Core.List.{List, [], ◌∷◌, ◌++◌, append_assoc}
 use lib.Dec.{eqb, lit≤}
 use borrow.Author.Tests.{lt-ltb, le-ltb, le-leb, eqb-true, ne_eqb}
 use lib.ListN.{length, get_or, take, set, length-set, length-append}
-use lib.Seq.{sets, set_out, length-sets, take-suc, take_all}
+use lib.Seq.{sets, set_out, length-sets, take-suc}
 use Rattle.io.specs.Digits.{last_digits, hex_digit_ascii, IsDigitCount}
 use Rattle.general.proofs.Booleans.{and_first, and_second}
 use Rattle.general.proofs.Numbers.{order}
@@ -68,9 +68,6 @@ put-past {line} {b} full =
 pub put_next : {line line' line'' : Line} (text : List ℕ) (i : ℕ) → Put line (take i text) line' → Put line' (get_or text i 0 ∷ []) line'' → i < length text
     → Put line (take (i + 1) text) line''
 put_next text i p q h = rw (add-one, take-suc text i 0 h) (then p q)
-
-pub put_all : {line line' : Line} (text : List ℕ) (i : ℕ) → Put line (take i text) line' → length text ≤ i → Put line text line'
-put_all text i p h = rw (take_all i text h) at p
 
 powers_positive : (k : ℕ) → 0 < 10 ^ k
 powers_positive zero = omega arith

@@ -1,4 +1,4 @@
-// A line of text that is put together in a lent buffer. What doesn't fit is left out.
+// A line of text that is put together in a lent buffer (there is no heap). What doesn't fit is left out.
 #![tactic(auto)]
 
 ghost use Rattle.std.specs.Prelude.{◌≤◌, ◌≡◌, [], ◌∷◌, length, take};
@@ -58,7 +58,8 @@ impl<'a> Line<'a> {
         }
     }
 
-    // Puts a number in decimal; `write!` says what is written only where it is known to succeed.
+    // Puts a number in decimal. Tried by `write!`, and the proof didn't close: it says what is written only where it is
+    // known to succeed.
     pub fn put_number(&mut self, number: usize)
         ensures { Put self.old (decimal number) self.new }
     {

@@ -5,6 +5,7 @@ use mathlib.Core.Logic.{◌⊎◌, inl, inr}
 use mathlib.Core.List.{List, [], ◌∷◌, ◌++◌}
 use Rattle.std.proofs.Common.{Option, None, Some}
 use native.Mathlib.Omega.{arith}
+use Rattle.std.proofs.lemmas.List.{same_from_push}
 use Rattle.inst.specs.declared.Code.{Code}
 use Rattle.procedure.specs.Procedure.{Procedure}
 use Rattle.machine.specs.Act.{Act}
@@ -26,20 +27,6 @@ split (x ∷ h) (y ∷ xs) a rest e = by (cc) (split h xs a rest (cc))
     by : x ≡ y → Prefix h xs ⊎ (h ≡ xs ++ (a ∷ [])) → Prefix (x ∷ h) (y ∷ xs) ⊎ (x ∷ h ≡ y ∷ (xs ++ (a ∷ [])))
     by i (inl p) = inl (record { rest = p.rest; joins = cc p.joins })
     by i (inr e) = inr (cc)
-
-snoc_inj : (xs ys : List Act) (a b : Act) → xs ++ (a ∷ []) ≡ ys ++ (b ∷ []) → (xs ≡ ys) × (a ≡ b)
-snoc_inj [] [] a b e = (refl, cc)
-snoc_inj [] (y ∷ ys) a b e = absurd (by ys (cc))
-  where
-    by : (ys : List Act) → [] ≡ ys ++ (b ∷ []) → ⊥
-    by [] e = let z : ◌≡◌ {A = ℕ} 0 1 = cc in omega arith
-    by (y ∷ ys) e = let z : ◌≡◌ {A = ℕ} 0 1 = cc in omega arith
-snoc_inj (x ∷ xs) [] a b e = absurd (by xs (cc))
-  where
-    by : (xs : List Act) → xs ++ (a ∷ []) ≡ [] → ⊥
-    by [] e = let z : ◌≡◌ {A = ℕ} 0 1 = cc in omega arith
-    by (y ∷ ys) e = let z : ◌≡◌ {A = ℕ} 0 1 = cc in omega arith
-snoc_inj (x ∷ xs) (y ∷ ys) a b e = let t = snoc_inj xs ys a b (cc) in (cc t.0, t.1)
 
 -- the acts h are done and the run goes on, or the outside ends any run on the last of them
 abbrev Stands : Outside → List Act → Shown → Type 0
@@ -86,7 +73,7 @@ module _ (outside : Outside) (address : Address) (p : Procedure) where
       → Fed outside (answered outside address p o a rs cs g h)
   answered_fed None a rs cs g h e h₀ b x y z = let w : ◌≡◌ {A = ℕ} 0 1 = cc in omega arith
   answered_fed (Some vs) a rs cs g h e h₀ b x y z =
-      let t = snoc_inj h h₀ a b y in
+      let t = same_from_push h h₀ a b y in
       let i = t.0 in
       let j = t.1 in
       let w : ◌≡◌ {A = ℕ} 0 1 = cc in

@@ -3,6 +3,7 @@ use Rattle.std.proofs.Common.{ℕ, ◌≡◌, List, Bool, true, false, ◌&&◌,
 use Rattle.std.specs.Option.{option_eq}
 use Rattle.std.proofs.lemmas.Option.{unwrap_or-slice_get}
 use borrow.Author.Tests.{true-eqb}
+use mathlib.Core.Bool.{and-false}
 use Rattle.steps.specs.Note.{alike}
 use Rattle.facts.specs.Storage.{kinds_in, facts_in}
 
@@ -14,15 +15,11 @@ five v = by (eqb v 5) refl
     by true e = rw (true-eqb v 5 (sym e))
     by false e = refl
 
-never : (b : Bool) → (b && false) ≡ false
-never true = refl
-never false = refl
-
 kinds : (o p : Option ℕ)
     → (eqb (unwrap_or o 5) (unwrap_or p 5) && (eqb (unwrap_or o 5) 0 || eqb (unwrap_or o 5) 2))
     ≡ (option_eq eqb o p && (option_eq eqb o (Some 0) || option_eq eqb o (Some 2)))
 kinds None None = refl
-kinds None (Some w) = never (eqb 5 w)
+kinds None (Some w) = and-false (eqb 5 w)
 kinds (Some v) None = five v
 kinds (Some v) (Some w) = refl
 

@@ -5,7 +5,7 @@ use Rattle.std.proofs.Math.ListN.{drop_of_length-le}
 use Rattle.std.proofs.lemmas.List.{take_more_set, take-set, drop_more, drop-set-lt, get_or-take, length-take-le}
 use Rattle.std.proofs.lemmas.List.Elements.{filter_more}
 use Rattle.std.proofs.lemmas.Grind.{drop_more_same}
-use Rattle.facts.proofs.Rows.{get_d_any}
+use Rattle.general.proofs.Lists.{get_d_any}
 use Rattle.procedure.specs.Lists.{found, value_or}
 use Rattle.steps.specs.Note.{Known, values_without, copies_without}
 use Rattle.note_entries.specs.Storage.{pairs, first_with}
@@ -55,9 +55,6 @@ module _ {W : Type 0} where
     pub long : length l ≡ length l₀
 
   module _ (P : (W × W → Bool) → Type 0) (l₀ : List W) where
-    pub packed_none : Packed P l₀ l₀ 0 0
-    packed_none = record { packed = λ p h. refl; left = refl; behind = omega arith; long = refl }
-
     module _ (l : List W) (k z : ℕ) (q : Packed P l₀ l k z) (x y : W) (h : k < length l / 2)
         (first : x ≡ get_or l (2 * k) x) (second : y ≡ get_or l (2 * k + 1) y) where
       abbrev l' : List W

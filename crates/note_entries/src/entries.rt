@@ -1,6 +1,8 @@
 ghost use Rattle.std.specs.Prelude.{◌≡◌, ◌<◌, ◌≤◌, ◌+◌, ◌/◌, ◌++◌, ◌∷◌, [], Bool, cond, ltb, length, Option, filter, take};
 
-// Entries of two words at the front of a lent slice. The slice is words and no pairs, since C lends it to the benchmark as words.
+// Entries of two words at the front of a lent slice. The slice is words and no pairs, since C lends it to the benchmark as words;
+// std's `as_chunks_mut` would make pairs of them, but promises nothing of what the slice ends as. That the slice stays as long, and
+// how many entries are added (`Keeps`, `Grows`), are facts about before and after, which no ghost field can hold.
 #[derive(Drop)]
 pub struct Entries<'a, W> {
     words: &'a mut [W],

@@ -60,7 +60,7 @@ impl<'a> Known<'a> {
         Reg(self.copies.find(r.0).unwrap_or(r.0))
     }
 
-    // The known value of a register, or that of its Const.
+    // The known value of a register, or that of its Const. Tried by `or_else`, and the proof didn't close.
     pub fn value_of(&self, facts: &[u64], r: Reg) -> Option<u64>
         ensures { result ≡ value_of (facts_in facts.now None 0) (known_in self.now) r.0 }
     {

@@ -8,8 +8,8 @@ ghost use Rattle.std.proofs.Common.{rules};
 
 use inst::{AddrSpace, BoolOp, CheckKind, CmpOp, IntOp, Reg, RegTy, Width};
 
-// An enum whose cases have numbers in a record. A number that it doesn't have is read as its last case. From would have no law,
-// and no impl of it can stand here, since both types are another crate's.
+// An enum whose cases have numbers in a record. A number that it doesn't have is read as its last case. Not `From`, as
+// `Kind` has it in inst: From has no law that a number comes back.
 pub trait Numbered: Sized {
     ghost of_number: { ℕ → Self };
 
@@ -194,6 +194,7 @@ impl Paired for AddrSpace {
     fn of_two(op: u32, n: u32) -> AddrSpace {
         match op {
             0 => AddrSpace::Frame,
+            // A cast alone isn't proved to be the byte.
             1 => AddrSpace::Up((n % 256) as u8),
             2 => AddrSpace::Inst,
             3 => AddrSpace::Pkg(n),

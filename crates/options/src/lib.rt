@@ -54,7 +54,8 @@ fn plain(before: Before) -> Word
     })
 }
 
-// `Unknown` is a role like the others, and no Option: a word that has it is told to the user, with its place.
+// `Unknown` is a role like the others, and no Option: a word that has it is told to the user, with its place. No From: a
+// word's role depends on the words before it, and this is only for words that are options.
 fn named(name: &[u8]) -> Role
     ensures { is_none result ≡ true }
 {

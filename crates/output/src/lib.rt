@@ -26,7 +26,7 @@ pub struct Changes {
 fn short(n: usize) -> u32
     ensures { result ≡ short_of n }
 {
-    n.min(4294967295) as u32
+    u32::try_from(n).unwrap_or(u32::MAX)
 }
 
 // Writes the kinds of new registers as records.

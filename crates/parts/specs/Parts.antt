@@ -1,6 +1,7 @@
--- Storage, not the paper's: where the classes of a file start, by the classes of its records alone, and a part of its bytes.
-use Rattle.std.specs.Prelude.{ℕ, ◌+◌, ◌*◌, ◌-◌, ◌/◌, min, List, ltb, length, take, drop}
+-- Storage, not the paper's: where the classes of a file start, by the classes of its records alone, and the bytes of each.
+use Rattle.std.specs.Prelude.{ℕ, ◌+◌, List, ltb, length, drop}
 use Rattle.records.specs.declared.Record.{Record}
+use Rattle.records.specs.Part.{part_of}
 use Rattle.layout.specs.declared.Layout.{Layout}
 use Rattle.layout.specs.Walk.{lead}
 use Rattle.parts.specs.declared.File.{File}
@@ -17,13 +18,6 @@ starts_in rs =
     let operands = start_at 5 code rs in
     let arms = start_at 6 operands rs in
     record { blocks = blocks; bodies = bodies; code = code; operands = operands; arms = arms; end = length rs }
-
--- the bytes of the records from one place to another, as far as they exist
-abbrev pub part_of : List ℕ → ℕ → ℕ → List ℕ
-part_of b first end =
-    let e = min end (length b / 32) in
-    let s = min first e in
-    take (32 * e - 32 * s) (drop (32 * s) b)
 
 -- the bytes of each class
 pub record Parts : Type 0 where

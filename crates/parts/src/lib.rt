@@ -4,10 +4,10 @@
 ghost use Rattle.std.specs.Prelude.{◌≡◌};
 ghost use Rattle.records.specs.Record.{records_of};
 ghost use Rattle.records.specs.Class.{class_number};
-ghost use Rattle.parts.specs.Parts.{start_at, starts_in, part_of, parts_in};
+ghost use Rattle.parts.specs.Parts.{start_at, starts_in, parts_in};
 
 use layout::Layout;
-use records::Class;
+use records::{Class, part};
 
 // The end of the run of records, from `first` on, whose class comes before `class`.
 fn start_of(b: &[u8], first: usize, class: Class) -> usize
@@ -35,15 +35,6 @@ pub fn starts(b: &[u8]) -> Layout
         arms,
         end: b.len() / 32,
     }
-}
-
-// The bytes of the records from `first` to `end`, as far as they exist.
-pub fn part<'a>(b: &'a [u8], first: usize, end: usize) -> &'a [u8]
-    ensures { result.now ≡ part_of b.now first end }
-{
-    let e = end.min(b.len() / 32);
-    let s = first.min(e);
-    &b[32 * s..32 * e]
 }
 
 // A file's bytes, and where its classes start.

@@ -2,25 +2,19 @@
 use Prim.Native.Nat.{ℕ, zero, suc, ◌+◌, ◌≤◌, ◌<◌}
 use native.Mathlib.Omega.{arith}
 use mathlib.Core.Path.{◌≡◌, refl, sym, ap, ◌∙◌}
-use mathlib.Core.Bool.{Bool, true, false, ◌||◌, cond}
+use mathlib.Core.Bool.{Bool, true, false, ◌||◌, cond, or-true}
 use mathlib.Core.List.{List, [], ◌∷◌, ◌++◌}
 use mathlib.Core.Logic.{◌⊎◌, inl, inr, ⊎_elim, ◌↔◌}
 use borrow.Author.Tests.{eqb-true, eqb-false, eq-eqb, ltb-true, ltb-false}
 use lib.Dec.{eqb, ltb}
 use lib.ListN.{length, get_or, set, replicate, length-set, length-append, length-replicate, get_or-replicate, get_or-eq_default}
 use lib.Seq.{get_or-set_same, get_or-set_other, ext_get_or}
+use borrow.Author.Clash.{clash}
 use Rattle.general.proofs.Booleans.{cases}
 use Rattle.general.proofs.Lists.{get_d_any}
 use Rattle.paths.specs.Paths.{is_in, Path, Leads, total, pushed, walk, reached_from}
 
-pub false_true : {A : Type 0} {b : Bool} → b ≡ false → b ≡ true → A
-false_true e f = absurd (mathlib.Core.Bool.false≢true (sym e ∙ f))
-
 -- membership
-or_true : (b : Bool) → (b || true) ≡ true
-or_true true = refl
-or_true false = refl
-
 pub in-cons : (s x : ℕ) (xs : List ℕ) → is_in s (x ∷ xs) ≡ true → (x ≡ s) ⊎ (is_in s xs ≡ true)
 in-cons s x xs e = by (cases (eqb x s))
   where
@@ -32,7 +26,7 @@ pub in_here : (s : ℕ) (xs : List ℕ) → is_in s (s ∷ xs) ≡ true
 in_here s xs = rw (eq-eqb s s refl)
 
 pub in-more : (s x : ℕ) (xs : List ℕ) → is_in s xs ≡ true → is_in s (x ∷ xs) ≡ true
-in-more s x xs e = rw e (or_true (eqb x s))
+in-more s x xs e = rw e (or-true (eqb x s))
 
 pub in_left : (s : ℕ) (xs ys : List ℕ) → is_in s xs ≡ true → is_in s (xs ++ ys) ≡ true
 in_left s [] ys e = absurd (mathlib.Core.Bool.false≢true e)
@@ -63,7 +57,7 @@ marked_inside m x e = by (cases (ltb x (length m)))
   where
     by : (ltb x (length m) ≡ true) ⊎ (ltb x (length m) ≡ false) → x < length m
     by (inl i) = ltb-true x (length m) i
-    by (inr i) = false_true (get_or-eq_default m false {n = x} (ltb-false x (length m) i)) e
+    by (inr i) = clash _ e (get_or-eq_default m false {n = x} (ltb-false x (length m) i))
 
 -- which marks are set after one more
 pub set_keeps : (m : List Bool) (b x : ℕ) → get_or m x false ≡ true → get_or (set m b true) x false ≡ true
@@ -125,7 +119,7 @@ module _ (edges : List (List ℕ)) where
     where
       by : (ltb a (length edges) ≡ true) ⊎ (ltb a (length edges) ≡ false) → a < length edges
       by (inl i) = ltb-true a (length edges) i
-      by (inr i) = false_true (ap (is_in s) (get_or-eq_default edges [] {n = a} (ltb-false a (length edges) i))) p.0
+      by (inr i) = clash _ p.0 (ap (is_in s) (get_or-eq_default edges [] {n = a} (ltb-false a (length edges) i)))
 
   -- marks that hold the targets of every marked block
   abbrev pub Closed : List Bool → Type 0
@@ -209,7 +203,7 @@ module _ (edges : List (List ℕ)) where
     none : (x : ℕ) → get_or (replicate (length edges) false) x false ≡ true → ⊥
     none x e =
         let h : x < length edges = rw (← length-replicate {A = Bool} (length edges) false) (marked_inside (replicate (length edges) false) x e) in
-        false_true (get_or-replicate (length edges) x false false h) e
+        clash _ e (get_or-replicate (length edges) x false false h)
 
     ended : Going [] (reached_from edges a)
     unfolding reached_from
@@ -260,4 +254,4 @@ module _ (edges : List (List ℕ)) where
         by : (x : ℕ) → x < length edges → (get_or m x false ≡ true) ⊎ (get_or m x false ≡ false) → get_or m x false ≡ get_or n x false
         by x h (inl i) = i ∙ sym ((reached-is x h).1 (sound x i))
         by x h (inr i) = i ∙ sym
-            (⊎_elim (λ (j : get_or n x false ≡ true). false_true i (there x h j)) (λ (j : get_or n x false ≡ false). j) (cases (get_or n x false)))
+            (⊎_elim (λ (j : get_or n x false ≡ true). clash _ (there x h j) i) (λ (j : get_or n x false ≡ false). j) (cases (get_or n x false)))

@@ -1,16 +1,9 @@
 -- How many bytes the parts of an opened file have: a theorem for whoever lends storage, which no proof here needs.
-use Prim.Native.Nat.{ℕ, ◌≤◌}
 use native.Mathlib.Omega.{arith}
-use Rattle.std.proofs.Common.{Option, None, Some}
-use lib.ListN.{length}
 use Rattle.procedure.specs.Procedure.{Procedure}
-use Rattle.steps.specs.Write.{body_records}
+use Rattle.round_trips.proofs.ToRecords.{body-few}
 use Rattle.procedure_parts.specs.Opened.{Parts, Opened, Few}
 use Rattle.procedure_parts.proofs.Laws.{registers-sent}
-
-one-body : (o : Option ℕ) → length (body_records o) ≤ 1
-one-body None = omega arith
-one-body (Some b) = omega arith
 
 pub opened-few : {p : Procedure} {x : Parts} → Opened p x → Few x
 opened-few {p} {x} o =
@@ -21,7 +14,7 @@ opened-few {p} {x} o =
       registers = let e = registers-sent h in let i = o.few-registers in omega arith;
       some_head = let e = c.heads-length in let i = w.some_block in omega arith;
       heads = let e = c.heads-length in let i = w.blocks in omega arith;
-      body = let e = h.body-length in let i = one-body p.body in omega arith;
+      body = let e = h.body-length in let i = body-few p.body in omega arith;
       code = let e = c.code-length in let i = o.few-code in omega arith;
       operands = let e = h.operands-length in let i = w.operands in omega arith;
       arms = let e = h.arms-length in let i = w.arms in omega arith;

@@ -38,7 +38,8 @@ use Rattle.round_trips.proofs.Tables.{length-arms}
 use Rattle.round_trips.proofs.FromRecords as From
 use Rattle.round_trips.proofs.ToRecords.{class_of, records_accepted, procedure-same, records_fit as fits-for}
 use Rattle.step_laws.proofs.Shorten.{Within}
-use Rattle.parts.specs.Parts.{part_of, starts_in}
+use Rattle.records.specs.Part.{part_of}
+use Rattle.parts.specs.Parts.{starts_in}
 use Rattle.parts.proofs.Laws.{starts_laid}
 use Rattle.procedure_parts.specs.Opened.{Parts, parts_of, recoded, Coded, Holds, Parted, Opened, whole}
 use Rattle.procedure_parts.proofs.Parts.{records_of_lem, bytes_of_lem, length_of, part_rest}

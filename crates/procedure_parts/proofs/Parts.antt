@@ -12,7 +12,7 @@ use Rattle.put_record.specs.Store.{Bytes}
 use Rattle.read.specs.Work.{part}
 use Rattle.blocks.proofs.Parts.{records_in_lem}
 use Rattle.blocks.proofs.Bytes.{bytes-part}
-use Rattle.parts.specs.Parts.{part_of}
+use Rattle.records.specs.Part.{part_of}
 
 -- a record that a block from x to y would have
 abbrev from-to : ℕ → ℕ → Record

@@ -5,9 +5,11 @@ use mathlib.Core.Logic.{inl, inr}
 use mathlib.Core.List.{List, [], ◌∷◌, ◌++◌}
 use mathlib.Core.Bool.{Bool, true, false, ◌&&◌, ◌||◌, not, cond}
 use native.Mathlib.Omega.{arith}
-use borrow.Author.Tests.{lt-leb, ne_eqb}
+use borrow.Author.Tests.{lt-leb, ne_eqb, eq-eqb, eqb-true, not-false, ltb-true, lt-ltb}
 use lib.Dec.{eqb, ltb, leb}
 use lib.ListN.{length, get_or, length-append}
+use borrow.Author.Clash.{clash}
+use Rattle.std.proofs.lemmas.Bool.{and_parts}
 use Rattle.inst.specs.Inst.{kind_of}
 use Rattle.inst.specs.declared.Code.{Code}
 use Rattle.inst.specs.declared.Inst.{Inst}
@@ -19,14 +21,14 @@ use Rattle.ends.specs.Forms.{fixed_of, is_fixed}
 use Rattle.ends.proofs.Laws.{fixed_kind, fixed-kind}
 use Rattle.tidy.specs.Tidy.{Placed, Field, placed_in, placed_from, placed, fields_at, written, reads, writers}
 use Rattle.tidy.specs.Tidy.{leads, too_early, later, wrong, wrong_for, only_one, offends, regs_of, Tidy}
+use Rattle.tidy.proofs.Answers.{writers-append}
 use Rattle.round_trips.specs.WellFormed.{All}
 use Rattle.round_trips.proofs.Lists.{all_left, all_right, all_append}
 use Rattle.demand.specs.Setting.{In, Each, defs_at, reads_at, Exposed}
 use Rattle.demand.specs.Whole.{Inside}
-use Rattle.demand.proofs.Basics.{clash, eqb_eq, eqb_true, eqb_false, and_both, not_false}
 use Rattle.demand.proofs.Codes.{each_left, each_right}
 use Rattle.demand.proofs.Counted.{writes-append}
-use Rattle.demand.proofs.Original.{singly-one, ltb_true, lt_yes}
+use Rattle.demand.proofs.Original.{singly-one}
 
 -- Const, ConstF and AddrOf by their kinds, as `wrong` has them
 low_or_third : (k : ℕ) → (leb k 1 || eqb k 3) ≡ fixed_kind k
@@ -108,22 +110,12 @@ module _ (ops : List ℕ) (F : Field → Type 0) (r : ℕ) where
 
 -- the writers of r: there is one for each field that writes it, each where it is placed
 module _ (r : ℕ) where
-  writers-append : (fs gs : List Field) → writers r (fs ++ gs) ≡ writers r fs ++ writers r gs
-  unfolding writers
-  writers-append [] gs = refl
-  writers-append (f ∷ fs) gs = by (eqb f.reg r) (writers-append fs gs)
-    where
-      by : (b : Bool) → writers r (fs ++ gs) ≡ writers r fs ++ writers r gs
-          → cond b (f.at ∷ writers r (fs ++ gs)) (writers r (fs ++ gs)) ≡ cond b (f.at ∷ writers r fs) (writers r fs) ++ writers r gs
-      by true ih = ap (λ z. f.at ∷ z) ih
-      by false ih = ih
-
   eqb_sym : (a b : ℕ) → eqb a b ≡ eqb b a
   eqb_sym a b = by (eqb a b) refl
     where
       by : (t : Bool) → eqb a b ≡ t → t ≡ eqb b a
-      by true z = sym (eqb_true b a (sym (eqb_eq a b z)))
-      by false z = sym (eqb_false b a (λ q. clash (eqb_true a b (sym q)) z))
+      by true z = sym (eq-eqb b a (sym (eqb-true a b z)))
+      by false z = sym (ne_eqb b a (λ q. clash _ (eq-eqb a b (sym q)) z))
 
   count-fields : (x : Placed) (rs : List ℕ) → length (writers r (fields_at x rs)) ≡ times r rs
   unfolding writers times
@@ -145,7 +137,7 @@ module _ (r : ℕ) where
       let gs = written (placed_in b (suc n) c ++ ys) in
       omega (
         arith,
-        ap length (writers-append fs gs),
+        ap length (writers-append r fs gs),
         length-append (writers r fs) (writers r gs),
         count-fields y (defs_of x.inst),
         count-in b (suc n) c ys,
@@ -163,7 +155,7 @@ module _ (r : ℕ) where
     writers-all (f ∷ fs) p = by (eqb f.reg r) refl (writers-all fs p.1)
       where
         by : (b : Bool) → eqb f.reg r ≡ b → All F (writers r fs) → All F (cond b (f.at ∷ writers r fs) (writers r fs))
-        by true z ih = (p.0 (eqb_eq f.reg r z), ih)
+        by true z ih = (p.0 (eqb-true f.reg r z), ih)
         by false z ih = ih
 
     fields-all : (x : Placed) (rs : List ℕ) → (In r rs → F x) → All (λ f. f.reg ≡ r → F f.at) (fields_at x rs)
@@ -214,11 +206,11 @@ not_wrong : (lead : ℕ → ℕ → Bool) (kind x y b k : ℕ) → (leb kind 1 |
 not_wrong lead kind x y b k q e = by (leb kind 1) (eqb kind 3) q e
   where
     by : (s t : Bool) → (s || t) ≡ false → cond s false (cond t (too_early lead x y b k) (not (later x y b k))) ≡ false → (x ≡ b) × (y < k)
-    by true t q e = clash refl q
-    by false true q e = clash refl q
+    by true t q e = clash _ refl q
+    by false true q e = clash _ refl q
     by false false q e =
-        let u = and_both (eqb b x) (ltb y k) (not_false (later x y b k) e) in
-        (sym (eqb_eq b x u.0), ltb_true y k u.1)
+        let u = and_parts (eqb b x) (ltb y k) (not-false (later x y b k) e) in
+        (sym (eqb-true b x u.0), ltb-true y k u.1)
 
 -- a register that isn't read wrongly is read later in the block that writes it
 pub tidy-inside : (p : Procedure) → Tidy p → Inside p
@@ -247,7 +239,7 @@ tidy-inside p tidy r low once varying b z = by (writers r (written (placed p))) 
     offends_by ws q = subst (λ ws. only_one (λ w. wrong_for (leads p) w (record { block = 0 + b; place = at.0; inst = read.0 })) ws ≡ false) q
         (subst (λ t. (t && only_one (λ w. wrong_for (leads p) w (record { block = 0 + b; place = at.0; inst = read.0 }))
         (writers r (written (placed p)))) ≡ false)
-        (lt_yes r (length p.registers) low) read.1)
+        (lt-ltb r (length p.registers) low) read.1)
 
     by : (ws : List Placed) → writers r (written (placed p)) ≡ ws → length (writers r (written (placed p))) ≡ writes_in (joined p.blocks) r
         → All (Stands r p.blocks) (writers r (written (placed p))) → ⊥

@@ -7,6 +7,7 @@ ghost use Rattle.put_record.specs.Store.{byte_of, word_bytes, tag_bytes, record_
 
 use records::Record;
 
+// A number's low byte. A cast alone isn't proved to be byte_of: a cast must lose nothing.
 fn low(x: u32) -> u8
     ensures { result ≡ byte_of x }
 {

@@ -1,5 +1,5 @@
 -- A byte that is shown is told again, and one part of a name after another is both as one.
-use Prim.Native.Nat.{ℕ, ◌+◌, ◌*◌, ◌-◌, ◌/◌, ◌%◌, ◌≤◌, ◌<◌}
+use Prim.Native.Nat.{ℕ, zero, suc, ◌+◌, ◌*◌, ◌^◌, ◌-◌, ◌/◌, ◌%◌, ◌≤◌, ◌<◌}
 use native.Mathlib.Omega.{arith}
 use native.Mathlib.Numerals.{add-one}
 use mathlib.Core.Path.{◌≡◌, refl, sym, ap, ◌∙◌}
@@ -9,12 +9,31 @@ use mathlib.Core.List.{List, [], ◌∷◌, ◌++◌, append_assoc}
 use borrow.Author.Tests.{lt-ltb, le-ltb, ne_eqb}
 use lib.ListN.{length, get_or, take}
 use lib.Seq.{take-suc}
-use Rattle.io.specs.Digits.{hex_digit_ascii}
+use Rattle.std.proofs.Math.Nat.{pow-le-pow_right}
+use Rattle.io.specs.Digits.{last_digits, hex_digit_ascii, IsDigitCount}
 use Rattle.general.proofs.Numbers.{order}
 use Rattle.line.specs.declared.Line.{Line}
 use Rattle.line.specs.Line.{Put, is_plain}
 use Rattle.line.proofs.Laws.{then, put-none, plain_byte, plain_both}
 use Rattle.quote.specs.Quote.{hex_of, nothing, value_of, told, Quoted}
+
+-- the kit's `hex` writes a byte as two digits
+two_digits : (b k : ℕ) → b < 256 → IsDigitCount 16 2 b k → last_digits 16 k b ≡ hex_of b
+two_digits b zero h f = absurd (omega (arith, f.0))
+two_digits b (suc zero) h f = absurd (omega (arith, f.0))
+two_digits b (suc (suc zero)) h f =
+    let e : (b / 16) % 16 ≡ b / 16 = omega arith in
+    rw e
+two_digits b (suc (suc (suc k))) h f =
+    let e : suc (suc (suc k)) - 1 ≡ suc (suc k) = omega arith in
+    let most : 16 ^ suc (suc k) ≤ b = rw e at (f.2 (omega arith)) in
+    let two : 2 ≤ suc (suc k) = omega arith in
+    let more : 16 ^ 2 ≤ 16 ^ suc (suc k) = pow-le-pow_right (omega arith) two in
+    absurd (omega arith)
+
+pub put_hex_digits : {line line' : Line} (out : List ℕ) (k b : ℕ) → Put line (take k out) line' → take k out ≡ last_digits 16 k b → IsDigitCount 16 2 b k
+    → b < 256 → Put line (hex_of b) line'
+put_hex_digits out k b p e f h = rw (e, two_digits b k h f) at p
 
 value_of_lem : (d : ℕ) → d < 16 → value_of (hex_digit_ascii d) ≡ d
 value_of_lem d h =

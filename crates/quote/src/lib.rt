@@ -5,9 +5,8 @@
 
 mod unseen;
 
-ghost use Rattle.std.specs.Prelude.{◌<◌, ◌≡◌, [], ◌∷◌, encode_utf8};
+ghost use Rattle.std.specs.Prelude.{[], ◌∷◌, encode_utf8};
 ghost use Rattle.line.specs.Line.{Put};
-ghost use Rattle.io.specs.Digits.{hex_digit_ascii};
 ghost use Rattle.quote.specs.Quote.{Quoted, hex_of};
 
 use line::Line;
@@ -15,20 +14,13 @@ use line::Line;
 // A path of 4,096 bytes, each quoted, and an answer in words.
 pub const ROOM: usize = 16768;
 
-// By hand, since `write!` of `{:x}` says what is written only where it is known to succeed.
-fn glyph(d: u8) -> u8
-    requires { d < 16 }
-    ensures { result ≡ hex_digit_ascii d }
-{
-    if d < 10 { 48 + d } else { 87 + d }
-}
-
 // Puts a byte as two digits.
 pub fn put_digits(line: &mut Line<'_>, b: u8)
     ensures { Put line.old (hex_of b) line.new }
 {
-    line.put_byte(glyph(b / 16));
-    line.put_byte(glyph(b % 16));
+    let mut digits = [0u8; 16];
+    let k = io::hex(u64::from(b), 2, &mut digits);
+    line.put(&digits[..k]);
 }
 
 fn put_hex(line: &mut Line<'_>, b: u8)

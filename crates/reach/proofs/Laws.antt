@@ -6,17 +6,15 @@ use mathlib.Core.Path.{◌≡◌, refl, sym, ap, subst, ◌∙◌}
 use mathlib.Core.Bool.{Bool, true, false, cond, false≢true}
 use mathlib.Core.List.{List, [], ◌∷◌, ◌++◌, map}
 use mathlib.Core.Logic.{◌⊎◌, inl, inr, ⊎_elim}
-use borrow.Author.Tests.{eqb-true, eq-eqb, ne_eqb}
+use borrow.Author.Tests.{eq-eqb, ne_eqb}
 use lib.Dec.{eqb}
-use lib.ListN.{length, get_or, take, replicate, length-map, get_or-append, get_or-eq_default}
-use lib.Seq.{take_all, take_at}
-use Rattle.general.proofs.Booleans.{cases, and_first, and_second}
-use Rattle.general.proofs.Numbers.{order}
+use lib.ListN.{length, get_or, replicate, length-map}
+use lib.Seq.{take_all}
+use Rattle.general.proofs.Booleans.{cases}
 use Rattle.records.specs.declared.Record.{Record}
 use Rattle.records.specs.Record.{records_of}
-use Rattle.layout.specs.Walk.{walk}
-use Rattle.layout.proofs.Walks.{walk_head, walk_tail}
-use Rattle.read.specs.Structure.{numbers, next_arm, numbered, is_default}
+use Rattle.read.specs.Structure.{numbered, is_default}
+use Rattle.read.proofs.Laws.{Numbered, first_table, last-default, next-table}
 use Rattle.inst.specs.declared.Code.{Code}
 use Rattle.procedure.specs.Procedure.{Arm, Table, arm_of, tables_from, table_at}
 use Rattle.paths.specs.Paths.{is_in, Path, Leads, reached_from}
@@ -28,7 +26,6 @@ use Rattle.blocks.specs.Blocks.{blocks_of}
 use Rattle.blocks.proofs.Parts.{length-blocks}
 use Rattle.steps.specs.Emit.{arm_targets, leads, edges_of, reached}
 use Rattle.reach.specs.Reached.{targets_in, leads_in, edges_in, marks_of, seen_in}
-use Rattle.search.proofs.Laws.{clear-past}
 use Rattle.reach.proofs.Edges.{length_edges}
 
 -- targets are the same, or there is no table, which is taken to lead to block 0
@@ -66,27 +63,9 @@ module _ (es fs : List (List ℕ)) (size : length es ≡ length fs) (some : 0 < 
           first (inl q) = rw (← q) start
           first (inr q) = absurd (false≢true q)
 
--- all of some arms are numbered as they should be, from table k on
-abbrev Numbered : ℕ → List Record → Type 0
-Numbered k rs = walk numbers next_arm (k, length rs) rs ≡ length rs
-
-module _ (k : ℕ) (r : Record) (rs : List Record) (h : Numbered k (r ∷ rs)) where
-  first_table : r.p1 ≡ k
-  unfolding numbers
-  first_table = eqb-true r.p1 k (and_first (eqb r.p1 k) _ (walk_head numbers next_arm (k, suc (length rs)) r rs h))
-
-  next-table : (d : ℕ) → k + cond (is_default r) 1 0 ≡ d → Numbered d rs
-  next-table d i =
-      let f : suc (length rs) - 1 ≡ length rs = omega arith in
-      rw (i, f) at (walk_tail numbers next_arm (k, suc (length rs)) r rs h)
-
-last-default : (k : ℕ) (r : Record) → Numbered k (r ∷ []) → is_default r ≡ true
-unfolding numbers
-last-default k r h = and_second (eqb r.p1 k) _ (walk_head numbers next_arm (k, 1) r [] h)
-
 some_table : (k : ℕ) (seen : List Arm) (r : Record) (rs : List Record) → Numbered k (r ∷ rs) → 0 < length (tables_from seen (r ∷ rs))
 unfolding tables_from
-some_table k seen r [] h = rw (last-default k r h) (omega arith)
+some_table k seen r [] h = rw (last-default k r [] h refl) (omega arith)
 some_table k seen r (q ∷ rs) h = by (cases (is_default r)) (some_table k (seen ++ (arm_of r ∷ [])) q rs)
   where
     by :
@@ -197,16 +176,9 @@ module _ (code table arms : List ℕ) (few : length table / 32 ≤ 160) (right :
       ∙ ap (λ (k : ℕ). reached_from (edges_in code table arms) 0 ++ replicate (160 - k) false) n
       ∙ ap (λ (m : List Bool). m ++ past) (same-marks (records_of arms) right (blocks_of code table))
 
-  pub mark_is : (k : ℕ) → get_or (seen_in code table arms) k false ≡ get_or wanted k false
-  mark_is k = ap (λ (m : List Bool). get_or m k false) seen-is ∙ ⊎_elim (λ (h : k < length wanted). get_or-append wanted past false k h)
-      (λ (h : length wanted ≤ k). clear-past wanted (160 - length table / 32) k h ∙ sym (get_or-eq_default wanted false h)) (order k (length wanted))
-
   pub wanted_length : length wanted ≡ length table / 32
   unfolding reached
   wanted_length =
       length-reached (edges_of (tables_from [] (records_of arms)) (blocks_of code table)) 0
       ∙ length-map (blocks_of code table) (λ c. leads (tables_from [] (records_of arms)) (end_of c))
       ∙ length-blocks code table
-
-  pub first_marks : take (length table / 32) (seen_in code table arms) ≡ wanted
-  first_marks = ap (take (length table / 32)) seen-is ∙ take_at wanted past (length table / 32) wanted_length

@@ -9,8 +9,9 @@ use mathlib.Core.Logic.{◌⊎◌, inl, inr}
 use borrow.Author.Tests.{lt-ltb, le-ltb, eq-eqb, ltb-true, ltb-false, leb-true, eqb-true}
 use lib.Dec.{ltb, leb, eqb}
 use lib.ListN.{length, drop}
-use Rattle.general.proofs.Booleans.{cases, and_first, and_second, or_second}
+use Rattle.general.proofs.Booleans.{cases, and_first, and_second}
 use Rattle.records.specs.declared.Record.{Record}
+use Rattle.records.specs.Record.{records_of}
 use Rattle.record_rules.specs.declared.exist.Counts.{Counts}
 use Rattle.record_rules.specs.Exist.{names_exist}
 use Rattle.record_rules.proofs.Laws.{no_names}
@@ -19,9 +20,12 @@ use Rattle.layout.specs.Walk.{walk, lead}
 use Rattle.layout.specs.Classes.{in_order, ordered, of_class, before, layout_of}
 use Rattle.layout.proofs.Walks.{walk_pass, walk_head, walk_tail, walk_le}
 use Rattle.layout.proofs.Order.{Sorted, sorted_of, before-none, before-count, before-end, ordered_end, of_part, tail_in, before-in, before_out}
-use Rattle.read.specs.Structure.{State, tiles, next_block, tiled, ended, numbered, tables}
+use Rattle.read.specs.Structure.{State, tiles, next_block, tiled, tables}
 use Rattle.read.specs.Reading.{Reading, answer, unless, counts_of, named, beyond, beyond_limit}
+use Rattle.read.specs.declared.span.Span.{Span}
 use Rattle.read.specs.Work.{part, InCode, LaidOut}
+use Rattle.read.specs.Spans.{spanned, OfClass}
+use Rattle.read.proofs.Laws.{part_length}
 
 -- where each class starts, by how many records each has
 pub record Sizes (rs : List Record) (l : Layout) : Type 0 where
@@ -118,23 +122,25 @@ in-tiles n s [] e k h = absurd (omega arith)
 in-tiles n s (r ∷ bs) e zero h = tiles-in n s r (walk_head (tiles n) next_block s r bs e)
 in-tiles n s (r ∷ bs) e (suc k) h = in-tiles n (next_block s r) bs (walk_tail (tiles n) next_block s r bs e) k (omega arith)
 
+pub tiled-in : (s : Span) (n : ℕ) → s.count ≤ tiled n (spanned s) → InCode n (spanned s)
+tiled-in s n i =
+    let bs = spanned s in
+    let m = walk_le (tiles n) next_block (0, length bs) bs in
+    let w = part_length (records_of s.b.now) s.first s.count s.within in
+    in-tiles n (0, length bs) bs (omega arith)
+
+-- what a walk along the span of a class tells, by the class
+pub of-class :
+    {c : ℕ} {rs : List Record} {s : Span} → OfClass c rs s → (number : ℕ) (walked : List Record → ℕ) {x : Reading} →
+    x ≡ unless number s.first (walked (spanned s)) s.count (answer 0 0) →
+    x ≡ unless number (before c rs) (walked (of_class c rs)) (length (of_class c rs)) (answer 0 0)
+of-class {c} {rs} {s} h number walked e =
+    e
+    ∙ ap (λ (f : ℕ). unless number f (walked (spanned s)) s.count (answer 0 0)) h.first
+    ∙ ap (λ (l : List Record). unless number (before c rs) (walked l) s.count (answer 0 0)) h.spanned
+    ∙ ap (λ (n : ℕ). unless number (before c rs) (walked (of_class c rs)) n (answer 0 0)) h.count
+
 module _ {rs : List Record} {l : Layout} (h : LaidOut rs l) where
-  the_blocks : part l.blocks (l.bodies - l.blocks) rs ≡ of_class 2 rs
-  the_blocks = let z = sizes h in class-part h 2 {y = l.bodies - l.blocks} h.blocks (omega arith)
-
-  the_code : part l.code (l.operands - l.code) rs ≡ of_class 4 rs
-  the_code = let z = sizes h in class-part h 4 {y = l.operands - l.code} h.code (omega arith)
-
-  the_arms : part l.arms (l.end - l.arms) rs ≡ of_class 6 rs
-  the_arms = let z = sizes h in class-part h 6 {y = l.end - l.arms} h.arms (omega arith)
-
-  pub arms-numbered : {k : ℕ} → k ≡ numbered (part l.arms (l.end - l.arms) rs) → k ≡ numbered (of_class 6 rs)
-  arms-numbered e = e ∙ ap numbered the_arms
-
-  -- the defaults of the arms are the tables
-  pub all-tables : {t : ℕ} → t ≡ tables (part l.arms (l.end - l.arms) rs) → t ≡ tables (of_class 6 rs)
-  all-tables e = e ∙ ap tables the_arms
-
   pub counts_are :
       (n : Counts) → n.registers ≡ l.blocks → n.blocks ≡ l.bodies - l.blocks → n.tables ≡ tables (of_class 6 rs) →
       n.operands ≡ l.arms - l.operands → n ≡ counts_of rs
@@ -151,65 +157,6 @@ module _ {rs : List Record} {l : Layout} (h : LaidOut rs l) where
       ∙ ap (λ (x : ℕ). x + lead (names_exist n) (drop x rs)) h.bodies
       ∙ sym (names-from n 1 rs (sorted_of rs h.sorted))
       ∙ ap (λ (m : Counts). lead (names_exist m) rs) e
-
-  pub blocks-tiled :
-      {k : ℕ} → k ≡ tiled (l.operands - l.code) (part l.blocks (l.bodies - l.blocks) rs) → k ≡ tiled (length (of_class 4 rs)) (of_class 2 rs)
-  blocks-tiled e =
-      let z = sizes h in
-      let n : l.operands - l.code ≡ length (of_class 4 rs) = omega arith in
-      e ∙ ap (tiled (l.operands - l.code)) the_blocks ∙ ap (λ (x : ℕ). tiled x (of_class 2 rs)) n
-
-  pub blocks-ended :
-      {k : ℕ} → k ≡ ended (part l.code (l.operands - l.code) rs) (part l.blocks (l.bodies - l.blocks) rs) →
-      k ≡ ended (of_class 4 rs) (of_class 2 rs)
-  blocks-ended e = e ∙ ap (λ (c : List Record). ended c (part l.blocks (l.bodies - l.blocks) rs)) the_code ∙ ap (ended (of_class 4 rs)) the_blocks
-
-  -- where all blocks tile, they lie within the code
-  pub tiled-in :
-      {k : ℕ} → k ≡ tiled (l.operands - l.code) (part l.blocks (l.bodies - l.blocks) rs) → l.bodies - l.blocks ≤ k →
-      InCode (l.operands - l.code) (part l.blocks (l.bodies - l.blocks) rs)
-  tiled-in {k} e i =
-      let bs = part l.blocks (l.bodies - l.blocks) rs in
-      let n = l.operands - l.code in
-      let z = sizes h in
-      let m = walk_le (tiles n) next_block (0, length bs) bs in
-      let w : length bs ≡ l.bodies - l.blocks = ap length the_blocks ∙ omega arith in
-      in-tiles n (0, length bs) bs (omega arith)
-
-  -- what the walks along the blocks tell, by the classes
-  pub tiling-told :
-      {x : Reading} → x ≡ unless 4 l.blocks (tiled (l.operands - l.code) (part l.blocks (l.bodies - l.blocks) rs)) (l.bodies - l.blocks) (answer 0 0) →
-      x ≡ unless 4 (before 2 rs) (tiled (length (of_class 4 rs)) (of_class 2 rs)) (length (of_class 2 rs)) (answer 0 0)
-  tiling-told e =
-      let z = sizes h in
-      let n : l.bodies - l.blocks ≡ length (of_class 2 rs) = omega arith in
-      e
-      ∙ ap (λ (f : ℕ). unless 4 f (tiled (l.operands - l.code) (part l.blocks (l.bodies - l.blocks) rs)) (l.bodies - l.blocks) (answer 0 0)) h.blocks
-      ∙ ap (λ (k : ℕ). unless 4 (before 2 rs) k (l.bodies - l.blocks) (answer 0 0)) (blocks-tiled refl)
-      ∙ ap (λ (m : ℕ). unless 4 (before 2 rs) (tiled (length (of_class 4 rs)) (of_class 2 rs)) m (answer 0 0)) n
-
-  pub ends-told :
-      {x : Reading} →
-      x ≡ unless 5 l.blocks (ended (part l.code (l.operands - l.code) rs) (part l.blocks (l.bodies - l.blocks) rs)) (l.bodies - l.blocks) (answer 0 0) →
-      x ≡ unless 5 (before 2 rs) (ended (of_class 4 rs) (of_class 2 rs)) (length (of_class 2 rs)) (answer 0 0)
-  ends-told e =
-      let z = sizes h in
-      let n : l.bodies - l.blocks ≡ length (of_class 2 rs) = omega arith in
-      e
-      ∙ ap (λ (f : ℕ). unless 5 f (ended (part l.code (l.operands - l.code) rs) (part l.blocks (l.bodies - l.blocks) rs)) (l.bodies - l.blocks) (answer 0 0)) h.blocks
-      ∙ ap (λ (k : ℕ). unless 5 (before 2 rs) k (l.bodies - l.blocks) (answer 0 0)) (blocks-ended refl)
-      ∙ ap (λ (m : ℕ). unless 5 (before 2 rs) (ended (of_class 4 rs) (of_class 2 rs)) m (answer 0 0)) n
-
-  pub arms-told :
-      {x : Reading} → x ≡ unless 6 l.arms (numbered (part l.arms (l.end - l.arms) rs)) (l.end - l.arms) (answer 0 0) →
-      x ≡ unless 6 (before 6 rs) (numbered (of_class 6 rs)) (length (of_class 6 rs)) (answer 0 0)
-  arms-told e =
-      let z = sizes h in
-      let n : l.end - l.arms ≡ length (of_class 6 rs) = omega arith in
-      e
-      ∙ ap (λ (f : ℕ). unless 6 f (numbered (part l.arms (l.end - l.arms) rs)) (l.end - l.arms) (answer 0 0)) h.arms
-      ∙ ap (λ (k : ℕ). unless 6 (before 6 rs) k (l.end - l.arms) (answer 0 0)) (arms-numbered refl)
-      ∙ ap (λ (m : ℕ). unless 6 (before 6 rs) (numbered (of_class 6 rs)) m (answer 0 0)) n
 
 -- the layout that the classes give
 module _ (rs : List Record) {l : Layout} (e : l ≡ layout_of rs) where
@@ -247,9 +194,3 @@ beyond-is {rs} {l} h =
     let e : l.arms - l.operands ≡ length (of_class 5 rs) = omega arith in
     let f : l.end - l.arms ≡ length (of_class 6 rs) = omega arith in
     rw (b, c, d, e, f, z.registers)
-
-pub few-arms : (a b c d e f : ℕ) → beyond a b c d e f ≡ false → f ≤ 128
-few-arms a b c d e f h =
-    ltb-false 128 f
-    (or_second (ltb 128 e) _
-    (or_second (ltb 756 d) _ (or_second (ltb 1 c) _ (or_second (eqb b 0) _ (or_second (ltb 160 b) _ (or_second (ltb 756 a) _ h))))))

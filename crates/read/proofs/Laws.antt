@@ -1,20 +1,22 @@
 -- Laws of parts of a file.
-use Prim.Native.Nat.{ℕ, ◌+◌, ◌-◌, ◌≤◌, ◌<◌}
+use Prim.Native.Nat.{ℕ, suc, ◌+◌, ◌-◌, ◌≤◌, ◌<◌}
 use native.Mathlib.Numerals.{add-one}
 use native.Mathlib.Omega.{arith}
 use mathlib.Core.Path.{◌≡◌, refl, sym, ap, ◌∙◌}
 use mathlib.Core.Bool.{Bool, true, false, cond}
 use mathlib.Core.List.{List, [], ◌∷◌, ◌++◌}
+use borrow.Author.Tests.{eqb-true}
+use lib.Dec.{eqb}
 use lib.ListN.{length, get_or, take, drop, length-drop}
 use lib.Seq.{get_or-take, get_or-drop, length-take-le, take-suc, take-take, drop-drop}
 use Rattle.general.proofs.Lists.{drop-take}
-pub use Rattle.general.proofs.Booleans.{either, otherwise}
-use Rattle.general.proofs.Booleans.{told}
+pub use Rattle.general.proofs.Booleans.{otherwise}
+use Rattle.general.proofs.Booleans.{told, and_first, and_second}
 use Rattle.records.specs.declared.Record.{Record}
 use Rattle.records.specs.Record.{blank}
 use Rattle.layout.specs.Walk.{walk, lead}
-use Rattle.layout.proofs.Walks.{pass_at, stop_at, end-at}
-use Rattle.read.specs.Structure.{State, code_of, is_default, tables}
+use Rattle.layout.proofs.Walks.{walk_head, walk_tail, pass_at, stop_at, end-at}
+use Rattle.read.specs.Structure.{State, code_of, is_default, tables, numbers, next_arm}
 use Rattle.read.specs.Work.{part, InCode}
 
 module _ (rs : List Record) (first count : ℕ) (h : first + count ≤ length rs) where
@@ -85,3 +87,23 @@ pub tables-next :
 tables-next rs first count k h r i e {t} {d} f g =
     rw (f, g, e ∙ sym (part_at rs first count h k i), add-one k, take-suc (part first count rs) k blank (rw (part_length rs first count h) i))
     (sym (tables_snoc (take k (part first count rs)) (get_or (part first count rs) k blank)))
+
+-- all of some arms are numbered as they should be, from table k on
+abbrev pub Numbered : ℕ → List Record → Type 0
+Numbered k rs = walk numbers next_arm (k, length rs) rs ≡ length rs
+
+module _ (k : ℕ) (r : Record) (rs : List Record) (h : Numbered k (r ∷ rs)) where
+  pub first_table : r.p1 ≡ k
+  unfolding numbers
+  first_table = eqb-true r.p1 k (and_first (eqb r.p1 k) _ (walk_head numbers next_arm (k, suc (length rs)) r rs h))
+
+  pub last-default : length rs ≡ 0 → is_default r ≡ true
+  unfolding numbers
+  last-default i =
+      let e = rw i at (walk_head numbers next_arm (k, suc (length rs)) r rs h) in
+      and_second (eqb r.p1 k) _ e
+
+  pub next-table : (d : ℕ) → k + cond (is_default r) 1 0 ≡ d → Numbered d rs
+  next-table d i =
+      let f : suc (length rs) - 1 ≡ length rs = omega arith in
+      rw (i, f) at (walk_tail numbers next_arm (k, suc (length rs)) r rs h)

@@ -1,10 +1,11 @@
-ghost use Rattle.std.specs.Prelude.{◌≡◌, cond, ℕ, ◌+◌, ◌≤◌, length, MatchResult};
-ghost use Rattle.records.specs.Record.{records_of};
+ghost use Rattle.std.specs.Prelude.{◌≡◌, cond, ◌≤◌, MatchResult};
 ghost use Rattle.read.specs.Structure.{numbers as numbersAfter, numbered, tables, is_default};
 ghost use Rattle.read.specs.Reading.{answer, unless};
-ghost use Rattle.read.specs.Work.{part, told};
+ghost use Rattle.read.specs.Work.{told};
+ghost use Rattle.read.specs.Spans.{spanned};
 
-use crate::{Reason, Refusal, refused};
+use crate::span::Span;
+use crate::{Reason, Refusal};
 use records::{DEFAULT_ARM, Record};
 
 // Whether the arm belongs to the table that is expected; the last one must be a default.
@@ -18,21 +19,20 @@ fn numbers(due: u32, left: usize, r: Record) -> bool
 fn ends_table(r: Record) -> u32
     ensures { (result ≡ cond (is_default r) 1 0) × (result ≤ 1) }
 {
-    if r.kind == DEFAULT_ARM { 1 } else { 0 }
+    u32::from(r.kind == DEFAULT_ARM)
 }
 
-// How many tables `count` arms end; the first that is misnumbered or lacks its default is refused.
-pub fn numbered_arms(b: &[u8], first: usize, count: usize) -> Result<u32, Refusal>
-    requires { (first + count ≤ length (records_of b.now)) × (length (records_of b.now) ≤ 2048) × (count ≤ 128) }
+// How many tables the arms end; the first that is misnumbered or lacks its default is refused.
+pub fn numbered_arms(arms: Span) -> Result<u32, Refusal>
     ensures { MatchResult result
-        (λ n. (count ≡ numbered (part first count (records_of b.now))) × (n ≡ tables (part first count (records_of b.now))))
-        (λ e. told e ≡ unless 6 first (numbered (part first count (records_of b.now))) count (answer 0 0)) }
+        (λ n. (arms.entry.count ≡ numbered (spanned arms.entry)) × (n ≡ tables (spanned arms.entry)))
+        (λ e. told e ≡ unless 6 arms.entry.first (numbered (spanned arms.entry)) arms.entry.count (answer 0 0)) }
 {
     let mut due = 0;
-    for k in 0..count {
-        let r = records::record_at(b, first + k);
-        if !numbers(due, count - k, r) {
-            return Err(refused(Reason::Table, first + k));
+    for k in 0..arms.count {
+        let r = arms.at(k);
+        if !numbers(due, arms.count - k, r) {
+            return Err(arms.refused(Reason::Table, k));
         }
         due += ends_table(r);
     }

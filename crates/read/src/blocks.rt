@@ -1,12 +1,13 @@
-ghost use Rattle.std.specs.Prelude.{◌≡◌, [], ◌∷◌, not, ℕ, ◌+◌, ◌-◌, ◌≤◌, ◌<◌, eqb, length, take, drop};
-ghost use Rattle.records.specs.Record.{records_of};
+ghost use Rattle.std.specs.Prelude.{◌≡◌, [], ◌∷◌, not, ◌≤◌, ◌<◌, eqb};
 ghost use Rattle.layout.specs.Walk.{lead};
-ghost use Rattle.read.specs.Structure.{tiles as tilesAfter, tiled, terminator as isTerminator, ended, ends_well};
+ghost use Rattle.read.specs.Structure.{tiles as tilesAfter, tiled, terminator as isTerminator, code_of, ended, ends_well};
 ghost use Rattle.read.specs.Reading.{answer, unless};
 ghost use Rattle.read.specs.Refusal.{reading_of};
-ghost use Rattle.read.specs.Work.{part, InCode};
+ghost use Rattle.read.specs.Work.{InCode};
+ghost use Rattle.read.specs.Spans.{spanned};
 
-use crate::{Reason, Refusal, refused};
+use crate::span::Span;
+use crate::{Reason, Refusal};
 use inst::Kind;
 use records::Record;
 
@@ -19,16 +20,15 @@ fn tiles(n: u32, due: u32, left: usize, r: Record) -> bool
     r.p1 == due && r.p1 < r.p2 && r.p2 <= n && (left != 1 || r.p2 == n)
 }
 
-// Whether `count` blocks tile n instructions of code; else the first that doesn't is refused.
-pub fn tiled_blocks(b: &[u8], first: usize, count: usize, n: u32) -> Result<(), Refusal>
-    requires { (first + count ≤ length (records_of b.now)) × (length (records_of b.now) ≤ 2048) }
-    ensures { reading_of result ≡ unless 4 first (tiled n (part first count (records_of b.now))) count (answer 0 0) }
+// Whether the blocks tile n instructions of code; else the first that doesn't is refused.
+pub fn tiled_blocks(blocks: Span, n: u32) -> Result<(), Refusal>
+    ensures { reading_of result ≡ unless 4 blocks.entry.first (tiled n (spanned blocks.entry)) blocks.entry.count (answer 0 0) }
 {
     let mut due = 0;
-    for k in 0..count {
-        let r = records::record_at(b, first + k);
-        if !tiles(n, due, count - k, r) {
-            return Err(refused(Reason::Tiling, first + k));
+    for k in 0..blocks.count {
+        let r = blocks.at(k);
+        if !tiles(n, due, blocks.count - k, r) {
+            return Err(blocks.refused(Reason::Tiling, k));
         }
         due = r.p2;
     }
@@ -42,41 +42,43 @@ fn terminator(r: Record) -> bool
     u32::from(Kind::Br) <= r.kind && r.kind <= u32::from(Kind::Unreachable)
 }
 
-// How many of `count` instructions come before the first terminator.
-fn first_terminator(b: &[u8], first: usize, count: usize) -> usize
-    requires { first + count ≤ length (records_of b.now) }
-    ensures { result ≡ lead (λ i. not (isTerminator i)) (part first count (records_of b.now)) }
+// How many of a block's instructions come before the first terminator.
+fn first_terminator(code: Span) -> usize
+    ensures { result ≡ lead (λ i. not (isTerminator i)) (spanned code.entry) }
 {
-    let run = (first..first + count).take_while(|k| !terminator(records::record_at(b, *k)));
+    let end = code.first + code.count;
+    let run = (code.first..end).take_while(|k| !terminator(records::record_at(code.b, *k)));
     run.count()
 }
 
-// Whether the last of `count` instructions is the only terminator.
-fn ends_well(b: &[u8], first: usize, count: usize) -> bool
-    requires { first + count ≤ length (records_of b.now) }
-    ensures { result ≡ ends_well (part first count (records_of b.now)) }
+// Whether the last of a block's instructions is its only terminator.
+fn ends_well(code: Span) -> bool
+    ensures { result ≡ ends_well (spanned code.entry) }
 {
-    first_terminator(b, first, count) + 1 == count
+    first_terminator(code) + 1 == code.count
 }
 
-// Whether each of `count` blocks ends in its only terminator; else the first that doesn't is
-// refused.
-pub fn ended_blocks(
-    b: &[u8],
-    first: usize,
-    count: usize,
-    code: usize,
-    n: usize,
-) -> Result<(), Refusal>
-    requires range { (first + count ≤ length (records_of b.now)) × (code + n ≤ length (records_of b.now)) × (length (records_of b.now) ≤ 2048) }
-    requires within { InCode n (part first count (records_of b.now)) }
-    ensures { reading_of result ≡ unless 5 first (ended (part code n (records_of b.now)) (part first count (records_of b.now))) count (answer 0 0) }
+// The instructions of a block.
+fn code_of<'a>(code: Span<'a>, block: Record) -> Span<'a>
+    requires { (block.p1 < block.p2) × (block.p2 ≤ code.count) }
+    ensures { spanned result ≡ code_of (spanned code.entry) block }
 {
-    for k in 0..count {
-        let r = records::record_at(b, first + k);
-        let start = r.p1 as usize;
-        if !ends_well(b, code + start, r.p2 as usize - start) {
-            return Err(refused(Reason::Terminator, first + k));
+    let start = block.p1 as usize;
+    Span {
+        b: code.b,
+        first: code.first + start,
+        count: block.p2 as usize - start,
+    }
+}
+
+// Whether each of the blocks ends in its only terminator; else the first that doesn't is refused.
+pub fn ended_blocks(blocks: Span, code: Span) -> Result<(), Refusal>
+    requires { InCode code.count (spanned blocks) }
+    ensures { reading_of result ≡ unless 5 blocks.entry.first (ended (spanned code.entry) (spanned blocks.entry)) blocks.entry.count (answer 0 0) }
+{
+    for k in 0..blocks.count {
+        if !ends_well(code_of(code, blocks.at(k))) {
+            return Err(blocks.refused(Reason::Terminator, k));
         }
     }
     Ok(())

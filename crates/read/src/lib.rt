@@ -1,18 +1,21 @@
 // Document 01's Read: a file is accepted, or refused with number and record.
 #![tactic(auto)]
 
-ghost use Rattle.std.specs.Prelude.{◌≡◌, ◌||◌, ℕ, ◌+◌, ◌-◌, ◌≤◌, ltb, eqb, length};
+ghost use Rattle.std.specs.Prelude.{◌≡◌, ◌||◌, ℕ, ◌-◌, ◌≤◌, ltb, eqb, length};
 ghost use Rattle.records.specs.Record.{records_of};
 ghost use Rattle.read.specs.Reading.{answer, beyond as beyondLimits, read_tables, read_blocks, read_records, checked, reading};
 ghost use Rattle.read.specs.Refusal.{number_of, reading_of};
-ghost use Rattle.read.specs.Work.{LaidOut, told};
+ghost use Rattle.read.specs.Work.{told};
 
+use file::File;
 use layout::Layout;
 use record_rules::exist::Counts;
 
 mod arms;
 mod blocks;
+mod file;
 mod names;
+mod span;
 
 // Why a file is refused. Read gives the first seven, and Shorten the last two.
 #[derive(Clone, Copy, Debug, PartialEq, Eq)]
@@ -28,16 +31,17 @@ pub enum Reason {
     Output = 9,
 }
 
-impl Reason {
-    // Its number in document 01.
-    pub fn number(self) -> u32
-        ensures { result ≡ number_of self }
-    {
-        self as u32
+// Its number in document 01.
+impl From<Reason> for u32 {
+    ghost from_gives = { λ r n. n ≡ number_of r };
+
+    fn from(reason: Reason) -> u32 {
+        reason as u32
     }
 }
 
-// A refusal: why, and the offending record.
+// A refusal: why, and the offending record. Where none is at fault the place is 0, as document 01 and the C struct tell it: an Option
+// would be made into that 0 again by each reader but one.
 #[derive(Clone, Copy, Debug, PartialEq, Eq)]
 pub struct Refusal {
     pub reason: Reason,
@@ -70,31 +74,29 @@ fn beyond(l: Layout) -> bool
 }
 
 // Conditions 6 and 7.
-fn read_tables(b: &[u8], l: Layout) -> Result<(), Refusal>
-    requires { LaidOut (records_of b.now) l × (length (records_of b.now) ≤ 2048) × (l.end ≤ l.arms + 128) }
-    ensures { reading_of result ≡ read_tables (records_of b.now) }
+fn read_tables(f: File) -> Result<(), Refusal>
+    ensures { reading_of result ≡ read_tables (records_of f.entry.b.now) }
 {
-    let count = l.end - l.arms;
-    let tables = arms::numbered_arms(b, l.arms, count)?;
+    let tables = arms::numbered_arms(f.arms())?;
+    let l = f.l;
     let counts = Counts {
         registers: l.blocks as u32,
         blocks: (l.bodies - l.blocks) as u32,
         tables,
         operands: (l.arms - l.operands) as u32,
     };
-    names::named_records(b, l.bodies, counts)
+    names::named_records(f, counts)
 }
 
 // Conditions 4 and 5, and those after them.
-fn read_blocks(b: &[u8], l: Layout) -> Result<(), Refusal>
-    requires { LaidOut (records_of b.now) l × (length (records_of b.now) ≤ 2048) × (l.end ≤ l.arms + 128) }
-    ensures { reading_of result ≡ read_blocks (records_of b.now) }
+fn read_blocks(f: File) -> Result<(), Refusal>
+    ensures { reading_of result ≡ read_blocks (records_of f.entry.b.now) }
 {
-    let count = l.bodies - l.blocks;
-    let n = l.operands - l.code;
-    blocks::tiled_blocks(b, l.blocks, count, n as u32)?;
-    blocks::ended_blocks(b, l.blocks, count, l.code, n)?;
-    read_tables(b, l)
+    let heads = f.heads();
+    let code = f.code();
+    blocks::tiled_blocks(heads, code.count as u32)?;
+    blocks::ended_blocks(heads, code)?;
+    read_tables(f)
 }
 
 // Conditions 2 and 3, and those after them.
@@ -109,10 +111,10 @@ fn read_records(b: &[u8]) -> Result<(), Refusal>
     if beyond(l) {
         return Err(refused(Reason::Limit, 0));
     }
-    read_blocks(b, l)
+    read_blocks(File { b, l })
 }
 
-// Asks the seven conditions of a file.
+// Asks the seven conditions of a file. Beside `read`, since request 2.8 gives that one condition more.
 pub fn check(b: &[u8]) -> Result<(), Refusal>
     ensures { reading_of result ≡ checked b.now }
 {

@@ -11,6 +11,7 @@ pub enum Real {
     Nan(u64),
 }
 
+// Functions and no From: a u64 may be any word, and the names say that these are an f64's bits.
 pub fn real_of(bits: u64) -> Real
     ensures { result ≡ real_of bits }
 {

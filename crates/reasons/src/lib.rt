@@ -1,4 +1,5 @@
-// Refusals and untidy registers, as numbers, and in words if these are asked for.
+// Refusals and untidy registers, as numbers, and in words if these are asked for. `line` and `words` stand apart: most of
+// what is put into a line has no words, so a struct of both would be no plainer.
 #![tactic(auto)]
 
 ghost use Rattle.std.specs.Prelude.{◌≡◌, true};
@@ -15,7 +16,8 @@ fn is_of_record(reason: Reason) -> bool {
     )
 }
 
-// The reason; what is said of a record follows `record` and its number.
+// The reason; what is said of a record follows `record` and its number. No Display: the clause says that the words are
+// plain, and `write!` says what is written only where it is known to succeed.
 fn words_of(reason: Reason) -> &'static [u8]
     ensures { plain result.now ≡ true }
 {
@@ -61,7 +63,7 @@ fn put_words(line: &mut Line<'_>, refusal: Refusal)
 fn put_numbers(line: &mut Line<'_>, refusal: Refusal)
     ensures { Added line.old line.new }
 {
-    line.put_numbered(b"refused ", refusal.reason.number() as usize);
+    line.put_numbered(b"refused ", u32::from(refusal.reason) as usize);
     line.put_numbered(b" ", refusal.place as usize);
 }
 

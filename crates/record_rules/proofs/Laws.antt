@@ -1,20 +1,21 @@
 -- Laws of the tests of a record's places.
 use Prim.Native.Nat.{ℕ, zero, suc, ◌+◌, ◌≤◌, ◌<◌}
 use native.Mathlib.Nat.{zero-add, suc-add, eq-or-lt_of_le}
-use mathlib.Core.Logic.{⊎_elim}
+use mathlib.Core.Logic.{◌⊎◌, inl, inr, ⊎_elim}
 use native.Mathlib.Omega.{arith}
 use mathlib.Core.Path.{◌≡◌, refl, sym, ap, subst, ◌∙◌}
 use mathlib.Core.Bool.{Bool, true, false, ◌&&◌, cond, and-true}
 use mathlib.Core.List.{List, [], ◌∷◌}
 use lib.Dec.{leb, ltb, eqb, leb-suc-suc, leb-suc-zero, eqb-suc-zero}
 use borrow.Author.Tests.{lt-ltb, le-ltb, lt-leb, ne_eqb, eq-eqb, eqb-true, eqb-false}
-use lib.ListN.{get_or, drop, drop_of_length-le}
+use lib.ListN.{get_or, get_or-eq_default, drop, drop_of_length-le}
+use Rattle.general.proofs.Numbers.{order}
 use Rattle.general.proofs.Lists.{at_rest}
 use Rattle.general.proofs.Booleans.{and_first, and_second}
 pub use Rattle.general.proofs.Booleans.{both, neither}
 pub use Rattle.general.proofs.Lists.{at_key}
 use Rattle.records.specs.declared.Record.{Record}
-use Rattle.records.specs.Kinds.{Place, space_number, zeros, fields, all_fit, places, kind_count, op_count}
+use Rattle.records.specs.Kinds.{Place, space_number, instruction_ops, zeros, fields, all_fit, places, kind_count, op_count}
 use Rattle.records.specs.Kinds.{statement_fits, instruction_places, right}
 use Rattle.record_rules.specs.Work.{plain, below, listed_places}
 use Rattle.record_rules.specs.declared.exist.Counts.{Counts}
@@ -207,12 +208,26 @@ pub instruction_right :
 unfolding right_as
 instruction_right r e = right_as_lem r e
 
-module _ (r : Record) (e : r.class ≡ 4) where
-  pub kind-past : 24 ≤ r.kind → false ≡ right r
-  kind-past h = neither _ refl (le-ltb r.kind 24 h) ∙ sym (instruction_right r e)
+no-ops : (k : ℕ) → 24 ≤ k → instruction_ops k ≡ 0
+no-ops k i = get_or-eq_default (1 ∷ 1 ∷ 1 ∷ 6 ∷ 1 ∷ 6 ∷ 4 ∷ 7 ∷ 7 ∷ 4 ∷ 4 ∷ 5 ∷ 1 ∷ 1 ∷ 1 ∷ 1 ∷ 1 ∷ 2 ∷ 1 ∷ 1 ∷ 1 ∷ 2 ∷ 1 ∷ 1 ∷ []) 0 i
 
-  pub op-past : r.kind < 24 → op_count 4 r.kind ≤ r.op → false ≡ right r
-  op-past h i = both refl (lt-ltb r.kind 24 h) (neither _ refl (le-ltb r.op _ i)) ∙ sym (instruction_right r e)
+-- a kind that has an op is one of the 24
+pub kind-listed : (k op : ℕ) → op < instruction_ops k → k < 24
+kind-listed k op h = go (order k 24)
+  where
+    go : (k < 24) ⊎ (24 ≤ k) → k < 24
+    go (inl i) = i
+    go (inr i) = let e = subst (λ (n : ℕ). op < n) (no-ops k i) h in absurd (omega (arith, e))
+
+module _ (r : Record) (e : r.class ≡ 4) where
+  pub op-past : op_count 4 r.kind ≤ r.op → false ≡ right r
+  op-past i = ⊎_elim in-range past (order r.kind 24)
+    where
+      past : 24 ≤ r.kind → false ≡ right r
+      past h = neither _ refl (le-ltb r.kind 24 h) ∙ sym (instruction_right r e)
+
+      in-range : r.kind < 24 → false ≡ right r
+      in-range h = both refl (lt-ltb r.kind 24 h) (neither _ refl (le-ltb r.op _ i)) ∙ sym (instruction_right r e)
 
   pub zero-set : r.kind < 24 → r.op < op_count 4 r.kind → (r.zero ≡ 0 → ⊥) → false ≡ right r
   zero-set h i j = both refl (lt-ltb r.kind 24 h) (both refl (lt-ltb r.op _ i) (neither _ refl (ne_eqb r.zero 0 j))) ∙ sym (instruction_right r e)

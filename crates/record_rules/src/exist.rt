@@ -53,7 +53,7 @@ fn list_exists(operands: u32, start: u32, length: u32) -> bool
     u64::from(start) + u64::from(length) <= u64::from(operands)
 }
 
-// From kind 16 on. Unreachable and Stmt name nothing.
+// From kind 16 on. Unreachable and Stmt name nothing. Op 0 means no register; `Option::<Reg>::of_two` for this one test is no plainer.
 fn late_exist(n: Counts, r: Record) -> bool
     requires { 16 ≤ r.kind }
     ensures { result ≡ all_exist n (get_or (instruction_places r.op) r.kind []) (fields r) }
@@ -74,7 +74,7 @@ fn late_exist(n: Counts, r: Record) -> bool
 fn instruction_exist(n: Counts, r: Record) -> bool
     ensures { result ≡ all_exist n (get_or (instruction_places r.op) r.kind []) (fields r) }
 {
-    if 16 <= r.kind {
+    if u32::from(Kind::TakeBounds) <= r.kind {
         return late_exist(n, r);
     }
     first_exist(n.registers, leading(r.kind), r)

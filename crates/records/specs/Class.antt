@@ -3,6 +3,7 @@ use Rattle.std.specs.Prelude.{ℕ, [], ◌∷◌, Result, Ok, Err, get_or}
 use Rattle.records.specs.declared.Class.{Class}
 use Rattle.records.specs.declared.Class.TheVariants.{Register, Block, Body, Instruction, Operand, Arm}
 use Rattle.records.specs.declared.NoClass.{NoClass}
+use Rattle.records.specs.declared.Record.{Record}
 
 -- Class 1 is a register, 2 a block, 3 a body, 4 an instruction, 5 an operand, 6 an arm.
 abbrev pub class_number : Class → ℕ
@@ -27,3 +28,19 @@ class_at n =
     ∷ [])
     n
     (Err (record { 0 = n }))
+
+-- a record of a class and a kind, with nothing in its places
+abbrev pub empty_record : ℕ → ℕ → Record
+empty_record class kind = record {
+  class = class;
+  kind = kind;
+  op = 0;
+  zero = 0;
+  stmt = 0;
+  p1 = 0;
+  p2 = 0;
+  p3 = 0;
+  p4 = 0;
+  p5 = 0;
+  p6 = 0;
+}

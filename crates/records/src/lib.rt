@@ -3,7 +3,8 @@
 
 ghost use Rattle.std.specs.Prelude.{◌≡◌, ℕ, ◌+◌, ◌*◌, ◌≤◌, ◌<◌, length};
 ghost use Rattle.records.specs.Record.{word_at, record_in, record_at};
-ghost use Rattle.records.specs.Class.{class_at, class_number};
+ghost use Rattle.records.specs.Class.{class_at, class_number, empty_record};
+ghost use Rattle.records.specs.Part.{part_of};
 
 // The classes of records, with their numbers in a record's first byte.
 #[derive(Clone, Copy, Debug, PartialEq, Eq)]
@@ -46,7 +47,8 @@ impl From<Class> for u32 {
     }
 }
 
-// The kinds of arms.
+// The kinds of arms. Constants and no enum: a record's kind may be any number, and each place that
+// asks compares it with one of these, so an enum would only be turned into its number again.
 pub const CASE_ARM: u32 = 0;
 
 pub const DEFAULT_ARM: u32 = 1;
@@ -65,6 +67,19 @@ pub struct Record {
     pub p4: u32,
     pub p5: u32,
     pub p6: u32,
+}
+
+impl Record {
+    // A record of a class and a kind, with nothing in its places.
+    pub fn empty(class: Class, kind: u32) -> Record
+        ensures { result ≡ empty_record (class_number class) kind }
+    {
+        Record {
+            class: u32::from(class),
+            kind,
+            ..Record::default()
+        }
+    }
 }
 
 // The little-endian word that starts at a byte.
@@ -95,7 +110,8 @@ fn record_in(b: &[u8], at: usize) -> Record
     }
 }
 
-// Record k of a file; past the last whole record, a blank one.
+// Record k of a file; past the last whole record, a blank one, as the definitions have it. By an Option each caller would put that
+// record in again.
 pub fn record_at(b: &[u8], k: usize) -> Record
     ensures { result ≡ record_at b.now k }
 {
@@ -104,4 +120,13 @@ pub fn record_at(b: &[u8], k: usize) -> Record
     } else {
         Record::default()
     }
+}
+
+// The bytes of the records from `first` to `end`, as far as they exist.
+pub fn part<'a>(b: &'a [u8], first: usize, end: usize) -> &'a [u8]
+    ensures { result.now ≡ part_of b.now first end }
+{
+    let e = end.min(b.len() / 32);
+    let s = first.min(e);
+    &b[32 * s..32 * e]
 }

@@ -1,7 +1,8 @@
 // The command `list`: document 01's listing of the shortened form, or a part of it.
 use files::Unsaid;
+use inst::Block;
 use line::Line;
-use records::{Class, Record};
+use parts::File;
 use steps::Shortening;
 
 #[derive(Clone, Copy, Debug, PartialEq, Eq)]
@@ -13,7 +14,7 @@ pub enum Part {
     Code,
 }
 
-// The part of this name.
+// The part of this name. No TryFrom: its error would say no more than `None` does.
 pub fn part_named(word: &[u8]) -> Option<Part> {
     match word {
         b"counts" => Some(Part::Counts),
@@ -31,68 +32,88 @@ pub const ROOM: usize = 61728;
 // record.
 const FULL: usize = 16384;
 
-// Writes what the line has, where it is full.
-fn turn(rt: &impl Print, line: &mut Line<'_>) -> Result<(), Unsaid> {
-    if line.at >= FULL {
-        files::say(rt, line.text())?;
-        line.clear();
-    }
-    Ok(())
+// A listing on its way: where its lines go, and the line that they are put together in.
+#[derive(Drop)]
+struct Listing<'a, 'b, R> {
+    rt: &'a R,
+    line: &'a mut Line<'b>,
 }
 
-// Whether records of a class are in the part.
-fn is_listed(part: Part, class: Class) -> bool {
-    match part {
-        Part::All => true,
-        Part::Registers => class == Class::Register,
-        Part::Blocks => class == Class::Block,
-        Part::Code => class == Class::Instruction,
-        Part::Counts => false,
-    }
-}
-
-// The line of a record, the one of number i in its class. Body, operands and arms have none.
-fn put_record(line: &mut Line<'_>, i: usize, class: Class, r: Record) {
-    match class {
-        Class::Register => listing::put_reg(line, i, r.kind),
-        Class::Block => listing::put_block(line, i, items::block_of(r)),
-        Class::Instruction => listing::put_code(line, i, r),
-        Class::Body | Class::Operand | Class::Arm => (),
-    }
-}
-
-// Writes what the line has, and a line for each record that the part has.
-fn say_records(rt: &impl Print, line: &mut Line<'_>, part: Part, res: &[u8]) -> Result<(), Unsaid> {
-    turn(rt, line)?;
-    let mut at = Class::Register;
-    let mut first = 0;
-    for k in 0..res.len() / 32 {
-        let r = records::record_at(res, k);
-        let class = Class::try_from(r.class).unwrap_or(at);
-        if class != at {
-            at = class;
-            first = k;
+impl<R: Print> Listing<'_, '_, R> {
+    // Writes what the line has, where it is full.
+    fn turn(&mut self) -> Result<(), Unsaid> {
+        if self.line.at >= FULL {
+            files::say(self.rt, self.line.text())?;
+            self.line.clear();
         }
-        if is_listed(part, class) {
-            put_record(line, k - first, class, r);
-            turn(rt, line)?;
-        }
+        Ok(())
     }
-    files::say(rt, line.text())
+
+    // A line for each register.
+    fn say_registers(&mut self, registers: &[u8]) -> Result<(), Unsaid> {
+        for i in 0..registers.len() / 32 {
+            listing::put_reg(self.line, i, records::record_at(registers, i).kind);
+            self.turn()?;
+        }
+        Ok(())
+    }
+
+    // A line for each block.
+    fn say_blocks(&mut self, blocks: &[Block]) -> Result<(), Unsaid> {
+        for (i, b) in blocks.iter().enumerate() {
+            listing::put_block(self.line, i, *b);
+            self.turn()?;
+        }
+        Ok(())
+    }
+
+    // A line for each instruction of a block that starts at `first`.
+    fn say_part(&mut self, first: u32, part: &[u8]) -> Result<(), Unsaid> {
+        for i in 0..part.len() / 32 {
+            listing::put_code(self.line, first as usize + i, records::record_at(part, i));
+            self.turn()?;
+        }
+        Ok(())
+    }
+
+    // A line for each instruction, block by block.
+    fn say_code(&mut self, code: &[u8], blocks: &[Block]) -> Result<(), Unsaid> {
+        for (k, b) in blocks.iter().enumerate() {
+            self.say_part(b.start, block_slice::block_in(code, blocks, k))?;
+        }
+        Ok(())
+    }
+
+    // Writes what the line has, and a line for each record that the part has.
+    fn say_records(&mut self, part: Part, form: File<'_>) -> Result<(), Unsaid> {
+        let table = block_slice::table_of(form.heads());
+        let blocks = &table[..usize::min(form.heads().len() / 32, table.len())];
+        self.turn()?;
+        if matches!(part, Part::All | Part::Registers) {
+            self.say_registers(form.registers())?;
+        }
+        if matches!(part, Part::All | Part::Blocks) {
+            self.say_blocks(blocks)?;
+        }
+        if matches!(part, Part::All | Part::Code) {
+            self.say_code(form.code(), blocks)?;
+        }
+        files::say(self.rt, self.line.text())
+    }
 }
 
 // A name that no register follows is followed by `none`.
-fn put_none(line: &mut Line<'_>, first: Record) {
-    if Class::try_from(first.class) != Ok(Class::Register) && line.at > 0 {
+fn put_none(line: &mut Line<'_>, registers: &[u8]) {
+    if registers.is_empty() && line.at > 0 {
         line.put(b"none\n");
     }
 }
 
 // What comes before the records.
-fn put_head(line: &mut Line<'_>, part: Part, s: Shortening, first: Record) {
+fn put_head(line: &mut Line<'_>, part: Part, s: Shortening, form: File<'_>) {
     match part {
         Part::All | Part::Counts => listing::put_counts(line, s),
-        Part::Registers => put_none(line, first),
+        Part::Registers => put_none(line, form.registers()),
         Part::Blocks | Part::Code => (),
     }
 }
@@ -107,9 +128,10 @@ pub fn say(
     let mut result = [0u8; ROOM];
     match shorten::shorten(bytes, &mut result) {
         Ok(s) => {
-            put_head(line, part, s, records::record_at(&result, 0));
             let end = s.length.min(result.len());
-            say_records(rt, line, part, &result[..end])?;
+            let form = File::open(&result[..end]);
+            put_head(line, part, s, form);
+            Listing { rt, line }.say_records(part, form)?;
             Ok(true)
         }
         Err(refusal) => {

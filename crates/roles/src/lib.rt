@@ -10,7 +10,7 @@ use std::marker::Model;
 
 // The registers of an instruction, in the order of visit_mut: the first `defs` of reg are written,
 // the others up to `n` are read. Then the list of operands that it reads too, empty if it has none.
-// An ArrayVec of five is no plainer (d): it would be filled by calls that may refuse.
+// An ArrayVec of five is no plainer: the call that adds an array may refuse, and `push` adds one register at a time.
 #[derive(Drop)]
 pub struct Roles {
     defs: usize,

@@ -7,6 +7,7 @@ use mathlib.Core.List.{List}
 use borrow.Author.Tests.{ltb-false, eqb-true, eqb-false, eq-eqb, ne_eqb, le-ltb, not-false}
 use lib.Dec.{eqb, ltb}
 use lib.ListN.{length}
+use native.Mathlib.Nat.{le_antisymm}
 pub use Rattle.general.proofs.Booleans.{or_first, or_second}
 use Rattle.records.specs.declared.Record.{Record}
 use Rattle.records.specs.Record.{records_of}
@@ -20,7 +21,7 @@ use Rattle.round_trips.specs.WellFormed.{All}
 use Rattle.round_trips.proofs.Lists.{lead-all, all-lead}
 use Rattle.round_trips.proofs.Sections.{InOrder}
 use Rattle.round_trips.proofs.Blocks.{Tiled}
-use Rattle.round_trips.proofs.Tables.{Numbered}
+use Rattle.read.proofs.Laws.{Numbered}
 
 -- how many records a class has
 abbrev pub sized : ℕ → List Record → ℕ
@@ -70,9 +71,6 @@ module _ (a b c d e f : ℕ) where
       rw (le-ltb 756 a w.registers, le-ltb 160 b w.blocks, ne_eqb b 0 (λ i. omega arith), le-ltb 1 c w.bodies)
       (rw (le-ltb 756 d w.code, le-ltb 128 e w.operands, le-ltb 128 f w.arms))
 
-all_of : {k n : ℕ} → k ≤ n → n ≤ k → k ≡ n
-all_of h i = omega arith
-
 module _ (rs : List Record) where
   abbrev C : List Record
   C = of_class 4 rs
@@ -93,12 +91,12 @@ module _ (rs : List Record) where
       let six = passed 6 _ (numbered A) (length A) _ (omega arith) five.1 in
       let seven = passed 7 0 (named rs) (length rs) _ (omega arith) six.1 in
       record {
-        order = all_of (walk_le in_order (λ prev r. r.class) 1 rs) two.0;
+        order = le_antisymm (walk_le in_order (λ prev r. r.class) 1 rs) two.0;
         within = within_of _ _ _ _ _ _ three.0;
-        tile = all_of (walk_le (tiles (length C)) next_block (0, length B) B) four.0;
-        end = all-lead (λ r. ends_well (recordsOfBlock C r)) B (all_of (lead_le (λ r. ends_well (recordsOfBlock C r)) B) five.0);
-        number = all_of (walk_le numbers next_arm (0, length A) A) six.0;
-        name = all-lead (names_exist (counts_of rs)) rs (all_of (lead_le (names_exist (counts_of rs)) rs) seven.0);
+        tile = le_antisymm (walk_le (tiles (length C)) next_block (0, length B) B) four.0;
+        end = all-lead (λ r. ends_well (recordsOfBlock C r)) B (le_antisymm (lead_le (λ r. ends_well (recordsOfBlock C r)) B) five.0);
+        number = le_antisymm (walk_le numbers next_arm (0, length A) A) six.0;
+        name = all-lead (names_exist (counts_of rs)) rs (le_antisymm (lead_le (names_exist (counts_of rs)) rs) seven.0);
       }
 
   at_least : {k n : ℕ} → k ≡ n → n ≤ k

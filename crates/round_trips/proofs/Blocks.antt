@@ -14,6 +14,7 @@ use Rattle.records.specs.declared.Record.{Record}
 use Rattle.layout.specs.Walk.{walk}
 use Rattle.layout.specs.Work.{right_of}
 use Rattle.layout.proofs.Walks.{walk_pass, walk_head, walk_tail}
+use Rattle.layout.proofs.Order.{in-class}
 use Rattle.read.specs.Structure.{tiles, next_block, code_of as recordsOfBlock}
 use Rattle.inst.specs.declared.Code.{Code}
 use Rattle.codec.specs.Codec.{code_of, record_of, InRange}
@@ -24,7 +25,7 @@ use Rattle.procedure.specs.Lists.{joined}
 use Rattle.steps.specs.Write.{block_records}
 use Rattle.round_trips.specs.WellFormed.{All}
 use Rattle.round_trips.proofs.Lists.{map_back}
-use Rattle.round_trips.proofs.Sections.{class-is, is_right}
+use Rattle.round_trips.proofs.Sections.{is_right}
 
 -- a block that tiles, after blocks that end at due
 pub record Tile (n due left : ℕ) (r : Record) : Type 0 where
@@ -76,7 +77,7 @@ module _ (code : List Record) where
       let m : length (map code_of (recordsOfBlock code r)) ≡ r.p2 - r.p1 = length-map (recordsOfBlock code r) code_of ∙ part-size due _ r t in
       let e : due + length (map code_of (recordsOfBlock code r)) ≡ r.p2 = omega arith in
       let s = t.start in
-      rw (e, blocks-back r.p2 bs (next-tiles (length code) due r bs h) c.1, ← s, block_write_back r (is_right 2 r c.0) (class-is 2 r c.0))
+      rw (e, blocks-back r.p2 bs (next-tiles (length code) due r bs h) c.1, ← s, block_write_back r (is_right 2 r c.0) (in-class 2 r c.0))
 
   -- the parts of the blocks are the code
   pub code-back : (due : ℕ) (b : Record) (bs : List Record) → Tiled (length code) due (b ∷ bs) → joined (map (recordsOfBlock code) (b ∷ bs)) ≡ drop due code

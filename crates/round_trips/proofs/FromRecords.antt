@@ -14,6 +14,7 @@ use Rattle.record_rules.specs.declared.exist.Counts.{Counts}
 use Rattle.record_rules.specs.Exist.{names_exist}
 use Rattle.layout.specs.Classes.{of_class}
 use Rattle.layout.specs.Work.{right_of}
+use Rattle.layout.proofs.Order.{in-class}
 use Rattle.read.specs.Structure.{ends_well, code_of as recordsOfBlock}
 use Rattle.read.specs.Reading.{counts_of}
 use Rattle.put_record.specs.Store.{Fits}
@@ -27,7 +28,7 @@ use Rattle.procedure.specs.Lists.{joined}
 use Rattle.steps.specs.Write.{block_records, body_records, table_records, records_for}
 use Rattle.round_trips.specs.WellFormed.{All, Sound, BlockIn, BodyIn, TableIn, arm_count, counts_in, WellFormed}
 use Rattle.round_trips.proofs.Lists.{all-turn, all_both, all_map, all_take, all_drop, map_back}
-use Rattle.round_trips.proofs.Sections.{class-is, is_right, right_of_lem, classes_joined, all_right, all_of, all-class}
+use Rattle.round_trips.proofs.Sections.{is_right, right_of_lem, classes_joined, all_right, all_of, all-class}
 use Rattle.round_trips.proofs.Blocks.{blocks-back, code-back, joined-map, Tiled}
 use Rattle.round_trips.proofs.Ends.{Back, read-ends}
 use Rattle.round_trips.proofs.Tables.{tables-back, length-tables, length-arms, tables-in}
@@ -39,7 +40,7 @@ map-map f g (x ∷ xs) = ap (λ (l : List _). f (g x) ∷ l) (map-map f g xs)
 
 body_back : (s : List Record) → length s ≤ 1 → All (λ r. right_of 3 r ≡ true) s → body_records (first_of (map (λ r. r.p1) s)) ≡ s
 body_back [] h c = refl
-body_back (r ∷ []) h c = ap (λ (x : Record). x ∷ []) (body_write_back r (is_right 3 r c.0) (class-is 3 r c.0))
+body_back (r ∷ []) h c = ap (λ (x : Record). x ∷ []) (body_write_back r (is_right 3 r c.0) (in-class 3 r c.0))
 body_back (r ∷ q ∷ s) h c = absurd (omega arith)
 
 -- what a record names, by its class
@@ -48,7 +49,7 @@ unfolding right
 kind_lt r h = and_first (ltb r.kind (kind_count r.class)) _ h
 
 register-kind : (r : Record) → right_of 1 r ≡ true → r.kind < 5
-register-kind r h = let e = class-is 1 r h in ltb-true r.kind 5 (rw e at (kind_lt r (is_right 1 r h)))
+register-kind r h = let e = in-class 1 r h in ltb-true r.kind 5 (rw e at (kind_lt r (is_right 1 r h)))
 
 body-names : (n : Counts) (r : Record) → r.class ≡ 3 → names_exist n r ≡ true → r.p1 < n.blocks
 unfolding names_exist
@@ -61,7 +62,7 @@ operand_names n r e h = ltb-true r.p1 n.registers (and_first (ltb r.p1 n.registe
 arm-names : (n : Counts) (r : Record) → right_of 6 r ≡ true → names_exist n r ≡ true → r.p6 < n.blocks
 unfolding names_exist
 arm-names n r c h =
-    let e = class-is 6 r c in
+    let e = in-class 6 r c in
     by r.kind (ltb-true r.kind 2 (rw e at (kind_lt r (is_right 6 r c)))) (rw e at h)
   where
     by : (k : ℕ) → k < 2 → Rattle.record_rules.specs.Exist.all_exist n (lib.ListN.get_or arm_places k []) (fields r) ≡ true → r.p6 < n.blocks
@@ -92,7 +93,7 @@ module _ (rs : List Record) (a : Accepted rs) (f : All Fits rs) where
 
   codes_back : All Back C
   codes_back =
-      all-turn (λ r h. write_back r (is_right 4 r h.0) (class-is 4 r h.0) h.1) C (all_both (λ r. right_of 4 r ≡ true) Fits C (of_class_lem 4) (fit-class 4))
+      all-turn (λ r h. write_back r (is_right 4 r h.0) (in-class 4 r h.0) h.1) C (all_both (λ r. right_of 4 r ≡ true) Fits C (of_class_lem 4) (fit-class 4))
 
   -- the code of all blocks is the file's
   parts-joined : (bs : List Record) → 1 ≤ length bs → Tiled (length C) 0 bs → joined (map (λ b. map code_of (recordsOfBlock C b)) bs) ≡ map code_of C
@@ -111,7 +112,7 @@ module _ (rs : List Record) (a : Accepted rs) (f : All Fits rs) where
   unfolding procedure_of
   registers-same =
       map_back {P = λ r. right_of 1 r ≡ true} (λ r. r.kind) (λ k. register_record (reg_ty_of k))
-      (λ r h. register_write_back r (is_right 1 r h) (class-is 1 r h)) (of_class 1 rs) (of_class_lem 1)
+      (λ r h. register_write_back r (is_right 1 r h) (in-class 1 r h)) (of_class 1 rs) (of_class_lem 1)
 
   pub blocks-same : block_records 0 (procedure_of rs).blocks ≡ B
   unfolding procedure_of
@@ -128,7 +129,7 @@ module _ (rs : List Record) (a : Accepted rs) (f : All Fits rs) where
   unfolding procedure_of
   operands_same =
       map_back {P = λ r. right_of 5 r ≡ true} (λ r. r.p1) (λ r. operand_record (reg_of r))
-      (λ r h. operand_write_back r (is_right 5 r h) (class-is 5 r h)) (of_class 5 rs) (of_class_lem 5)
+      (λ r h. operand_write_back r (is_right 5 r h) (in-class 5 r h)) (of_class 5 rs) (of_class_lem 5)
 
   pub tables-same : table_records 0 (procedure_of rs).tables ≡ of_class 6 rs
   unfolding procedure_of

@@ -41,10 +41,6 @@ module _ {A : Type 0} (P : A → Type 0) where
   all_drop (suc n) [] h = tt
   all_drop (suc n) (x ∷ xs) h = all_drop n xs h.1
 
-  pub all-each : ((x : A) → P x) → (xs : List A) → All P xs
-  all-each f [] = tt
-  all-each f (x ∷ xs) = (f x, all-each f xs)
-
 pub all_map : {A B : Type 0} (P : A → Type 0) (Q : B → Type 0) (f : A → B) → ((x : A) → P x → Q (f x)) → (xs : List A) → All P xs → All Q (map f xs)
 all_map P Q f g [] h = tt
 all_map P Q f g (x ∷ xs) h = (g x h.0, all_map P Q f g xs h.1)

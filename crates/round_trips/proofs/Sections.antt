@@ -17,7 +17,7 @@ use Rattle.layout.specs.Walk.{walk}
 use Rattle.layout.specs.Classes.{in_order, ordered, of_class, before}
 use Rattle.layout.specs.Work.{right_of}
 use Rattle.layout.proofs.Walks.{walk_pass, walk_head, walk_tail}
-use Rattle.layout.proofs.Order.{Sorted, sorted_of, before-none, before-count, before-end, ordered_end, of_part}
+use Rattle.layout.proofs.Order.{in-class, Sorted, sorted_of, before-none, before-count, before-end, ordered_end, of_part}
 use Rattle.procedure.specs.Lists.{joined}
 use Rattle.round_trips.specs.WellFormed.{All}
 
@@ -25,9 +25,6 @@ use Rattle.round_trips.specs.WellFormed.{All}
 abbrev pub Sections : ℕ → List (List Record) → Type 0
 Sections c [] = Unit {0}
 Sections c (s ∷ ss) = All (λ r. right_of c r ≡ true) s × Sections (suc c) ss
-
-pub class-is : (c : ℕ) (r : Record) → right_of c r ≡ true → r.class ≡ c
-class-is c r e = eqb-true r.class c (and_first _ (right r) e)
 
 pub is_right : (c : ℕ) (r : Record) → right_of c r ≡ true → right r ≡ true
 is_right c r e = and_second (eqb r.class c) (right r) e
@@ -42,7 +39,7 @@ InOrder p rs = walk in_order (λ prev r. r.class) p rs ≡ length rs
 section_first : (c p : ℕ) (s rest : List Record) → p ≤ c → All (λ r. right_of c r ≡ true) s → ((q : ℕ) → q ≤ c → InOrder q rest) → InOrder p (s ++ rest)
 section_first c p [] rest i h k = k p i
 section_first c p (r ∷ s) rest i h k =
-    let e = class-is c r h.0 in
+    let e = in-class c r h.0 in
     let o : in_order p r ≡ true = rw (is_right c r h.0, e) (le-leb p c i) in
     walk_pass in_order (λ prev r. r.class) (s ++ rest) o
     ∙ ap suc (section_first c r.class s rest (omega arith) h.1 k)
@@ -66,12 +63,12 @@ of_append c (r ∷ xs) ys = by (eqb r.class c) (of_append c xs ys)
 of_same : (c : ℕ) (s : List Record) → All (λ r. right_of c r ≡ true) s → of_class c s ≡ s
 unfolding of_class
 of_same c [] h = refl
-of_same c (r ∷ s) h = rw (eq-eqb r.class c (class-is c r h.0), of_same c s h.1)
+of_same c (r ∷ s) h = rw (eq-eqb r.class c (in-class c r h.0), of_same c s h.1)
 
 of_other : (c d : ℕ) (s : List Record) → (d ≡ c → ⊥) → All (λ r. right_of d r ≡ true) s → of_class c s ≡ []
 unfolding of_class
 of_other c d [] n h = refl
-of_other c d (r ∷ s) n h = rw (ne_eqb r.class c (λ e. n (sym (class-is d r h.0) ∙ e)), of_other c d s n h.1)
+of_other c d (r ∷ s) n h = rw (ne_eqb r.class c (λ e. n (sym (in-class d r h.0) ∙ e)), of_other c d s n h.1)
 
 of_before : (ss : List (List Record)) (c d : ℕ) → d < c → Sections c ss → of_class d (joined ss) ≡ []
 unfolding of_class

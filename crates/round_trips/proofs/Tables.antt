@@ -14,48 +14,26 @@ use Rattle.records.specs.declared.Record.{Record}
 use Rattle.records.specs.Kinds.{right}
 use Rattle.layout.specs.Walk.{walk}
 use Rattle.layout.specs.Work.{right_of}
-use Rattle.layout.proofs.Walks.{walk_pass, walk_head, walk_tail}
+use Rattle.layout.proofs.Walks.{walk_pass}
+use Rattle.layout.proofs.Order.{in-class}
 use Rattle.read.specs.Structure.{State, numbers, next_arm, is_default, tables}
+use Rattle.read.proofs.Laws.{Numbered, first_table, last-default, next-table}
 use Rattle.put_record.specs.Store.{Fits}
 use Rattle.codec.specs.Codec.{word_of, low_of, high_of, block_of}
 use Rattle.codec.proofs.Read.{word_join}
+use Rattle.codec.proofs.Write.{word_fits}
 use Rattle.items.specs.Items.{arm_record, ArmInRange}
 use Rattle.items.proofs.Laws.{arm_write_back, arm-right, arm-fits}
 use Rattle.procedure.specs.Procedure.{Arm, Table, arm_of, tables_from}
 use Rattle.steps.specs.Write.{case_record, default_record, table_records}
 use Rattle.round_trips.specs.WellFormed.{All, ArmIn, TableIn, arm_count}
 use Rattle.round_trips.proofs.Lists.{all_append}
-use Rattle.round_trips.proofs.Blocks.{map-append, last_of, to_last}
-use Rattle.round_trips.proofs.Sections.{class-is, is_right}
-
--- all of some arms are numbered as they should be, from table k on
-abbrev pub Numbered : ℕ → List Record → Type 0
-Numbered k rs = walk numbers next_arm (k, length rs) rs ≡ length rs
-
--- an arm of the table that is due
-record Due (k left : ℕ) (r : Record) : Type 0 where
-  table : r.p1 ≡ k
-  last : left ≡ 1 → is_default r ≡ true
-
-due : (k left : ℕ) (r : Record) → numbers (k, left) r ≡ true → Due k left r
-unfolding numbers
-due k left r e = record {
-  table = eqb-true r.p1 k (and_first (eqb r.p1 k) _ e);
-  last = last_of left (is_default r) (and_second (eqb r.p1 k) _ e);
-}
+use Rattle.round_trips.proofs.Blocks.{map-append, to_last}
+use Rattle.round_trips.proofs.Sections.{is_right}
 
 due_ok : (k left : ℕ) (r : Record) → r.p1 ≡ k → (left ≡ 1 → is_default r ≡ true) → numbers (k, left) r ≡ true
 unfolding numbers
 due_ok k left r e h = rw (eq-eqb r.p1 k e) (to_last left (is_default r) h)
-
-module _ (k : ℕ) (r : Record) (rs : List Record) (h : Numbered k (r ∷ rs)) where
-  first_due : Due k (suc (length rs)) r
-  first_due = due k (suc (length rs)) r (walk_head numbers next_arm (k, suc (length rs)) r rs h)
-
-  next_due : (d : ℕ) → k + cond (is_default r) 1 0 ≡ d → Numbered d rs
-  next_due d e =
-      let f : suc (length rs) - 1 ≡ length rs = omega arith in
-      rw (e, f) at (walk_tail numbers next_arm (k, suc (length rs)) r rs h)
 
 -- "the default, low and high zero"
 default-zeros : (r : Record) → right r ≡ true → r.class ≡ 6 → r.kind ≡ 1 → (word_of r.p2 r.p3 ≡ 0) × (word_of r.p4 r.p5 ≡ 0)
@@ -77,14 +55,14 @@ default-zeros r h e k =
 module _ (r : Record) (c : right_of 6 r ≡ true) (f : Fits r) where
   arm_same : {k low high : ℕ} {d : Bool} → r.p1 ≡ k → word_of r.p2 r.p3 ≡ low → word_of r.p4 r.p5 ≡ high → is_default r ≡ d →
       arm_record (record { table = k; low = low; high = high; to = block_of r.p6; default = d }) ≡ r
-  arm_same t a b d = rw (← t, ← a, ← b, ← d) (arm_write_back r (is_right 6 r c) (class-is 6 r c) f)
+  arm_same t a b d = rw (← t, ← a, ← b, ← d) (arm_write_back r (is_right 6 r c) (in-class 6 r c) f)
 
   case_back : {k : ℕ} → r.p1 ≡ k → is_default r ≡ false → case_record k (arm_of r) ≡ r
   case_back t d = arm_same t refl refl d
 
   default-back : {k : ℕ} → r.p1 ≡ k → is_default r ≡ true → default_record k r.p6 ≡ r
   default-back t d =
-      let z = default-zeros r (is_right 6 r c) (class-is 6 r c) (eqb-true r.kind 1 d) in
+      let z = default-zeros r (is_right 6 r c) (in-class 6 r c) (eqb-true r.kind 1 d) in
       arm_same t z.0 z.1 d
 
 pub tables-back : (k : ℕ) (seen : List Arm) (rs : List Record) → Numbered k rs → All (λ r. right_of 6 r ≡ true) rs → All Fits rs →
@@ -101,18 +79,16 @@ tables-back k seen (r ∷ rs) h c f e = by (cases (is_default r)) (tables-back (
     by : (is_default r ≡ true) ⊎ (is_default r ≡ false) → Back (suc k) [] → Back k (seen ++ (arm_of r ∷ [])) →
         table_records k (tables_from seen (r ∷ rs)) ≡ map (case_record k) seen ++ (r ∷ rs)
     by (inl d) g _ =
-        let t = first_due k r rs h in
-        let n = next_due k r rs h (suc k) (rw d (omega arith)) in
-        rw (d, default-back r c.0 f.0 t.table d, g n c.1 f.1 (λ i. refl))
+        let n = next-table k r rs h (suc k) (rw d (omega arith)) in
+        rw (d, default-back r c.0 f.0 (first_table k r rs h) d, g n c.1 f.1 (λ i. refl))
     by (inr d) _ g =
-        let t = first_due k r rs h in
-        let n = next_due k r rs h k (rw d (add-zero k)) in
-        let some : length rs ≡ 0 → seen ++ (arm_of r ∷ []) ≡ [] = λ i. absurd (true≢false (sym (t.last (ap suc i)) ∙ d)) in
+        let n = next-table k r rs h k (rw d (add-zero k)) in
+        let some : length rs ≡ 0 → seen ++ (arm_of r ∷ []) ≡ [] = λ i. absurd (true≢false (sym (last-default k r rs h i) ∙ d)) in
         rw d
         (g n c.1 f.1 some
         ∙ ap (λ (l : List Record). l ++ rs) (map-append (case_record k) seen (arm_of r ∷ []))
         ∙ append_assoc (map (case_record k) seen) (case_record k (arm_of r) ∷ []) rs
-        ∙ ap (λ (x : Record). map (case_record k) seen ++ (x ∷ rs)) (case_back r c.0 f.0 t.table d))
+        ∙ ap (λ (x : Record). map (case_record k) seen ++ (x ∷ rs)) (case_back r c.0 f.0 (first_table k r rs h) d))
 
 -- how many there are
 pub length-tables : (seen : List Arm) (rs : List Record) → length (tables_from seen rs) ≡ tables rs
@@ -137,11 +113,8 @@ few-tables [] = omega arith
 few-tables (t ∷ ts) = let h = few-tables ts in omega arith
 
 -- what holds of the tables that are read
-word_lt : (p q : ℕ) → p < 2 ^ 32 → q < 2 ^ 32 → word_of p q < 2 ^ 64
-word_lt p q h i = omega arith
-
 arm_in_lem : (n : ℕ) (r : Record) → Fits r → r.p6 < n → ArmIn n (arm_of r)
-arm_in_lem n r f h = record { low = word_lt r.p2 r.p3 f.p2 f.p3; high = word_lt r.p4 r.p5 f.p4 f.p5; target = h }
+arm_in_lem n r f h = record { low = word_fits r.p2 r.p3 f.p2 f.p3; high = word_fits r.p4 r.p5 f.p4 f.p5; target = h }
 
 pub tables-in : (n : ℕ) (seen : List Arm) (rs : List Record) → All Fits rs → All (λ r. r.p6 < n) rs → All (ArmIn n) seen → All (TableIn n) (tables_from seen rs)
 unfolding tables_from

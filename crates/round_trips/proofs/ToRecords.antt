@@ -50,7 +50,7 @@ body-read : (o : Option ℕ) → first_of (map (λ r. r.p1) (body_records o)) �
 body-read None = refl
 body-read (Some b) = refl
 
-body-few : (o : Option ℕ) → length (body_records o) ≤ 1
+pub body-few : (o : Option ℕ) → length (body_records o) ≤ 1
 body-few None = omega arith
 body-few (Some b) = omega arith
 
@@ -120,7 +120,7 @@ module _ (p : Procedure) (w : WellFormed p) where
   few-arms : length p.tables ≤ 2 ^ 32
   few-arms = let a = w.arms in let b = few-tables p.tables in omega arith
 
-  few-blocks : length p.blocks ≤ 2 ^ 32
+  pub few-blocks : length p.blocks ≤ 2 ^ 32
   few-blocks = let a = w.blocks in omega arith
 
   sections : Sections 1 six

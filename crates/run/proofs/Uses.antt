@@ -1,17 +1,16 @@
 -- No register past a file's is counted, and no count of uses reaches the cap.
-use Prim.Native.Nat.{ℕ, suc, ◌+◌, ◌*◌, ◌≤◌, ◌<◌}
+use Prim.Native.Nat.{ℕ, ◌*◌, ◌≤◌, ◌<◌}
 use native.Mathlib.Omega.{arith}
 use mathlib.Core.Path.{◌≡◌, refl}
-use mathlib.Core.Bool.{Bool, true, false, cond}
 use mathlib.Core.List.{List, [], ◌∷◌}
 use borrow.Author.Tests.{ne_eqb}
-use lib.Dec.{eqb}
 use lib.ListN.{length, drop, length-append, length-take, length-drop}
 use Rattle.record_rules.specs.declared.exist.Counts.{Counts}
 use Rattle.inst.specs.declared.Code.{Code}
 use Rattle.roles.specs.Roles.{defs_of, uses_of, list_of, operands_of, reads_of}
 use Rattle.roles.proofs.Laws.{all-few}
 use Rattle.procedure.specs.Lists.{times}
+use Rattle.procedure.proofs.Laws.{times_le}
 use Rattle.procedure.specs.Counts.{writes_in, use_count}
 use Rattle.round_trips.specs.WellFormed.{All, Sound}
 use Rattle.round_trips.proofs.Lists.{all_append, all_left, all_right, all_take, all_drop}
@@ -24,15 +23,6 @@ times_none m [] h r i = refl
 times_none m (x ∷ xs) h r i =
     let l = h.0 in
     rw (ne_eqb r x (λ e. omega arith), times_none m xs h.1 r i)
-
-times-few : (r : ℕ) (xs : List ℕ) → times r xs ≤ length xs
-unfolding times
-times-few r [] = omega arith
-times-few r (x ∷ xs) = by (eqb r x) (times-few r xs)
-  where
-    by : (b : Bool) → times r xs ≤ length xs → cond b 1 0 + times r xs ≤ suc (length xs)
-    by true h = omega arith
-    by false h = omega arith
 
 module _ (n : Counts) (ops : List ℕ) (low : All (λ r. r < n.registers) ops) where
   abbrev Low : ℕ → Type 0
@@ -64,7 +54,7 @@ unfolding use_count
 uses-few ops h [] r = omega arith
 uses-few ops h (x ∷ c) r =
     let l = list_of x.inst in
-    let here = times-few r (reads_of ops x.inst) in
+    let here = times_le r (reads_of ops x.inst) in
     let reads = length-append (uses_of x.inst) (operands_of ops l) in
     let all = length-append (defs_of x.inst) (uses_of x.inst) in
     let five = all-few x.inst in

@@ -37,7 +37,7 @@ fn still(n: usize) -> Threaded
 fn budget(n: usize) -> u32
     ensures { result ≡ r.budget_in n }
 {
-    (n / 2 + 32).min(4294967295) as u32
+    u32::try_from(n / 2 + 32).unwrap_or(u32::MAX)
 }
 
 // The facts of the first n instructions.
@@ -87,8 +87,9 @@ fn threaded(
 
 // The Rust's `run` before emit, over n instructions: equal arms, then the gate, the counts and
 // threading. Fewer than 6 instructions stay. Each slice stands by itself, since C lends them so. Tried:
-// a struct of the three that threading takes, and one made of slices that another lent struct holds;
-// the borrow checker then tells nothing of what the slices hold when they come back.
+// a struct of the three that threading changes (Space, Added and Room), and one made of slices that
+// another lent struct holds; the borrow checker then tells nothing of what the slices hold when they
+// come back.
 pub fn run(
     work: &mut [u8],
     table: &mut [u8],

@@ -8,17 +8,13 @@ use mathlib.Core.Logic.{◌⊎◌, inl, inr, ⊎_elim}
 use borrow.Author.Tests.{lt-ltb, le-ltb}
 use lib.ListN.{length, get_or, set, replicate, length-set, length-append, length-replicate, get_or-replicate, get_or-append}
 use lib.Seq.{get_or-set_same, ext_get_or}
+use borrow.Author.Clash.{clash}
 use Rattle.general.proofs.Booleans.{cases}
 use Rattle.general.proofs.Numbers.{order}
 use Rattle.paths.specs.Paths.{is_in, Leads, reached_from}
-use Rattle.paths.proofs.Paths.{false_true, in-cons, in_here, in_left, in_right, in-append, marked_inside, set_keeps, set_marked}
+use Rattle.paths.proofs.Paths.{in-cons, in_here, in_left, in_right, in-append, marked_inside, set_keeps, set_marked}
 use Rattle.paths.proofs.Paths.{leads_on, leads-inside, closed_leads, length-reached, reached-is}
 use Rattle.search.specs.Search.{clear, unmarked, Found, pushed, pushed_all, State, started, with_block, with_blocks, on_top, Sized}
-
--- marks that are all clear
-pub is-clear : replicate 160 false ≡ clear
-unfolding clear
-is-clear = refl
 
 clear-length : length clear ≡ 160
 unfolding clear
@@ -29,10 +25,7 @@ unfolding clear
 clear_none x e =
     let h = marked_inside (replicate 160 false) x e in
     let l = length-replicate {A = Bool} 160 false in
-    false_true (get_or-replicate 160 x false false (omega arith)) e
-
-clear_at : (x : ℕ) → get_or clear x false ≡ false
-clear_at x = ⊎_elim (λ (i : get_or clear x false ≡ true). clear_none x i) (λ (i : get_or clear x false ≡ false). i) (cases (get_or clear x false))
+    clash _ e (get_or-replicate 160 x false false (omega arith))
 
 unmarked-set : (m : List Bool) (a : ℕ) → a < length m → get_or m a false ≡ false → unmarked (set m a true) + 1 ≡ unmarked m
 unfolding unmarked
@@ -122,13 +115,6 @@ module _ {n : ℕ} {m : List Bool} {l : List ℕ} (z : Sized n m l) {b : ℕ} (l
 
 pub sized_start : (n : ℕ) → Sized (min n 160) clear []
 sized_start n = let e = clear-length in let u = unmarked_le clear in record { few = omega arith; marks = e; room = omega arith }
-
-pub sized_popped : {n : ℕ} {m : List Bool} {l : List ℕ} → Sized n m l → (t : List ℕ) (b : ℕ) → l ≡ t ++ (b ∷ []) → Sized n m t
-sized_popped z t b e =
-    let k = ap length e in
-    let j = length-append t (b ∷ []) in
-    let r = z.room in
-    record { few = z.few; marks = z.marks; room = omega arith }
 
 -- places past some marks that are clear
 pub clear-past : (xs : List Bool) (k x : ℕ) → length xs ≤ x → get_or (xs ++ replicate k false) x false ≡ false
@@ -259,7 +245,7 @@ module _ (es : List (List ℕ)) (a : ℕ) where
       same : (x : ℕ) → x < length es → (get_or m x false ≡ true) ⊎ (get_or m x false ≡ false) → get_or m x false ≡ get_or reached x false
       same x h (inl i) = i ∙ sym ((reached-is es a x h).1 (w.sound x i))
       same x h (inr i) = i ∙ sym
-          (⊎_elim (λ (j : get_or reached x false ≡ true). false_true i (there x h j)) (λ (j : get_or reached x false ≡ false). j)
+          (⊎_elim (λ (j : get_or reached x false ≡ true). clash _ (there x h j) i) (λ (j : get_or reached x false ≡ false). j)
           (cases (get_or reached x false)))
 
       unset : (x : ℕ) → length es ≤ x → (get_or m x false ≡ true) ⊎ (get_or m x false ≡ false) → get_or m x false ≡ false

@@ -8,7 +8,8 @@ use arrayvec::ArrayVec;
 use inst::BlockId;
 use std::marker::Model;
 
-// Marks of n blocks, and a stack of the blocks whose targets are still to be pushed.
+// Marks of n blocks, and a stack of the blocks whose targets are still to be pushed: numbers, as the definitions' stack
+// has them, since of BlockIds each clause would map them.
 // Document 01 has an array of 160 marks, so a count of those in use stands beside it.
 #[derive(Drop)]
 pub struct Search {

@@ -8,7 +8,7 @@ use mathlib.Core.Logic.{◌⊎◌, inl, inr}
 use borrow.Author.Tests.{lt-ltb, le-ltb, eq-eqb, ne_eqb, ltb-false}
 use lib.Dec.{eqb, ltb}
 use lib.ListN.{length, take, drop}
-use Rattle.general.proofs.Booleans.{either, otherwise}
+use Rattle.general.proofs.Booleans.{otherwise}
 use Rattle.records.specs.declared.Record.{Record}
 use Rattle.records.specs.Record.{records_of}
 use Rattle.records.proofs.Laws.{length_records}
@@ -18,6 +18,7 @@ use Rattle.read.specs.Reading.{Reading, reading, answer}
 use Rattle.procedure.specs.Procedure.{procedure_of}
 use Rattle.round_trips.proofs.Accepted.{or_first, or_second}
 use Rattle.std.specs.Prelude.{◌≢◌, Option, None, Result, Ok, Err, IfOk, IfErr}
+use Rattle.std.proofs.lemmas.Bool.{or_left}
 use Rattle.inst.specs.declared.Reg.{Reg}
 use Rattle.read.specs.declared.Reason.TheVariants.{Output}
 use Rattle.read.specs.declared.Refusal.{Refusal}
@@ -84,7 +85,7 @@ module _ (registers code : ℕ) (b out : List ℕ) where
     pub many-registers : registers < length x.registers / 32 → refusal 8 0 out ≡ shorten_within registers code b out
     many-registers i =
         let m = n-registers in
-        limits-is (sym (either (ltb code (length (of_class 4 rs))) (lt-ltb registers (length (of_class 1 rs)) (omega arith))))
+        limits-is (or_left _ (ltb code (length (of_class 4 rs))) (lt-ltb registers (length (of_class 1 rs)) (omega arith)))
 
     pub much-code : length x.registers / 32 ≤ registers → code < length x.code / 32 → refusal 8 0 out ≡ shorten_within registers code b out
     much-code i j =

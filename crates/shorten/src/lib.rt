@@ -1,4 +1,5 @@
-// Document 01's Shorten: bytes in, bytes out.
+// Document 01's Shorten: bytes in, bytes out. The clauses stand in full at each function: they are what
+// a reader has to believe, and tests/theorem.py states them.
 #![tactic(auto)]
 
 ghost use Rattle.std.specs.Prelude.{◌≡◌, ◌≢◌, true, false, ◌++◌, ◌+◌, ◌/◌, ◌≤◌, min, length, take, drop, IfOk, IfErr};
@@ -98,7 +99,8 @@ fn shorten_read(file: &File, out: &mut [u8]) -> Result<Shortening, Refusal>
     }
 }
 
-// A file that Read has accepted. The limits are at most 480, for which there is storage.
+// A file that Read has accepted. The limits are at most 480, for which there is storage. Two numbers
+// and no struct: callers give `shorten_within` two, and only this function compares them.
 fn shorten_accepted(
     bytes: &[u8],
     out: &mut [u8],

@@ -71,7 +71,7 @@ pub fn no_step(file: &File) -> bool
 
 // Writes the result in code, block table and new registers, with the other parts of the file, if it
 // fits. Six parameters: tried as a Form that a function makes of a file, and the borrow checker
-// covers no struct that holds references at two lifetimes of a signature.
+// doesn't cover it: a Form has one lifetime, and the file's parts and the lent slices have several.
 fn put(
     out: &mut [u8],
     file: &File,
@@ -117,8 +117,9 @@ pub fn put_sent(out: &mut [u8], file: &File) -> Result<Shortening, Refusal>
 }
 
 // Code, block table and new registers hold what Emit left, or what there is if nothing was threaded. Steps after Emit go
-// here, each over the storage in place; then the result is written. Code and block table are no Stage: tried, and the
-// borrow checker doesn't cover a Stage of parts of the storage that is lent here.
+// here, each over the storage in place; then the result is written. Until there is one it is `put` alone, so that a step changes one
+// place (docs/ADDING-A-STEP.md). Code and block table are no Stage: tried, and the borrow checker doesn't cover a Stage of parts of
+// the storage that is lent here.
 fn finish(
     out: &mut [u8],
     file: &File,
@@ -185,13 +186,15 @@ fn write_emitted(
         &s.kinds[..m],
         Changes {
             moved: true,
-            grown: r.at.grown.min(4294967295) as u32,
+            grown: u32::try_from(r.at.grown).unwrap_or(u32::MAX),
             rescued: e.rescued,
         },
     )
 }
 
-// Emits what `run` left, if threading edited some block, and writes it.
+// Emits what `run` left, if threading edited some block, and writes it. Output and file are no struct: tried, and it is no plainer. It has
+// three lifetime parameters, each function takes it apart again, and each clause has `job.old.out.now` for `out.old`. The clauses are
+// about any procedure that the file holds, so no ghost field of Storage or Stage can say them.
 fn write(
     out: &mut [u8],
     file: &File,

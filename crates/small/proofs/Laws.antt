@@ -3,42 +3,25 @@ use Prim.Native.Nat.{ℕ, suc, ◌+◌, ◌/◌, ◌≤◌, ◌<◌}
 use native.Mathlib.Numerals.{add-one}
 use native.Mathlib.Omega.{arith}
 use mathlib.Core.Path.{◌≡◌, refl, sym, ap, ◌∙◌}
-use mathlib.Core.Bool.{Bool, true, false, ◌&&◌, ◌||◌, not, and-false, true≢false}
+use mathlib.Core.Bool.{Bool, true, false, ◌&&◌, ◌||◌, and-false, true≢false}
 use mathlib.Core.List.{List, [], ◌∷◌}
-use mathlib.Core.Logic.{◌⊎◌, inl, inr}
-use borrow.Author.Tests.{lt-leb, le-leb, eq-eqb, ne_eqb}
+use borrow.Author.Tests.{lt-leb, le-leb}
 use lib.Dec.{leb, eqb}
-use lib.ListN.{length, get_or, drop, drop_of_length-le}
-use lib.Seq.{drop-cons}
-use Rattle.general.proofs.Booleans.{both, neither, either, otherwise}
-use Rattle.general.proofs.Numbers.{order}
-use Rattle.records.specs.declared.Record.{Record}
+use lib.ListN.{length}
+use Rattle.std.proofs.lemmas.Bool.{or_left}
+use Rattle.general.proofs.Booleans.{both, neither, otherwise}
 use Rattle.inst.specs.declared.Code.{Code}
 use Rattle.procedure.specs.Lists.{any_of}
-use Rattle.steps.specs.Small.{dupable, small_end, copyable, small}
-use Rattle.codec.specs.Codec.{inst_of}
+use Rattle.steps.specs.Small.{copyable, small}
 use Rattle.procedure.specs.Procedure.{codes_of}
 use Rattle.ends.specs.declared.End.{End}
 use Rattle.ends.specs.Forms.{form_of}
-use Rattle.ends.proofs.Laws.{length_codes, same_kind}
+use Rattle.ends.proofs.Laws.{length_codes}
 use Rattle.ends.specs.Ends.{end_of}
 use Rattle.inst.specs.Inst.{kind_of}
 use Rattle.inst.specs.declared.Inst.{Inst}
 use Rattle.inst.specs.declared.Inst.TheVariants as i
 use Rattle.steps.specs.Small as s
-
-module _ {A : Type 0} (p : A → Bool) (l : List A) (k : ℕ) (d : A) where
-  pub any_pass : k < length l → p (get_or l k d) ≡ false → any_of p (drop (k + 1) l) ≡ any_of p (drop k l)
-  unfolding any_of
-  any_pass h e = sym (ap (any_of p) (drop-cons l k d h) ∙ rw (e, add-one k))
-
-  pub any_stop : k < length l → p (get_or l k d) ≡ true → true ≡ any_of p (drop k l)
-  unfolding any_of
-  any_stop h e = sym (ap (any_of p) (drop-cons l k d h) ∙ rw e)
-
-  pub any_end : length l ≤ k → false ≡ any_of p (drop k l)
-  unfolding any_of
-  any_end h = sym (ap (any_of p) (drop_of_length-le l h))
 
 pub copyable-none : (c : List Code) → length c ≡ 0 → copyable c ≡ false
 unfolding copyable
@@ -90,36 +73,6 @@ no_step wide (i.Ret v) q = refl
 no_step wide (i.Unreachable w) q = refl
 no_step wide i.Stmt q = refl
 
--- the tests of an instruction's kind are those of its record's
-dupable-past : (k : ℕ) → 23 ≤ k → s.dupable_kind k ≡ s.dupable_kind 23
-dupable-past k h = rw (lt-leb k 2 (omega arith), le-leb 4 k (omega arith), lt-leb k 6 (omega arith))
-
--- of the first seven kinds, all but AddrOf
-pub dupable-within : (k : ℕ) → k ≤ 6 → not (eqb k 3) ≡ s.dupable_kind k
-dupable-within k h = go (order k 3) (order 3 k)
-  where
-    go : (k < 3) ⊎ (3 ≤ k) → (3 < k) ⊎ (k ≤ 3) → not (eqb k 3) ≡ s.dupable_kind k
-    go (inl i) j = rw (ne_eqb k 3 (λ e. omega arith), le-leb k 2 (omega arith))
-    go (inr i) (inl j) = rw (ne_eqb k 3 (λ e. omega arith), lt-leb k 2 (omega arith), le-leb 4 k (omega arith), le-leb k 6 h)
-    go (inr i) (inr j) = rw (eq-eqb k 3 (omega arith), lt-leb k 2 (omega arith), lt-leb 4 k (omega arith))
-
-pub dupable_record : (r : Record) → dupable (inst_of r) ≡ s.dupable_kind r.kind
-dupable_record r = same_kind s.dupable_kind dupable-past r
-
-end-past : (k : ℕ) → 23 ≤ k → s.small_end_kind k ≡ s.small_end_kind 23
-end-past k h = rw (ne_eqb k 18 (omega arith), ne_eqb k 19 (omega arith), ne_eqb k 21 (omega arith))
-
--- Br and CondBr
-pub ends_br : (k : ℕ) → 18 ≤ k → k ≤ 19 → s.small_end_kind k ≡ true
-ends_br k h i = go (order 18 k)
-  where
-    go : (18 < k) ⊎ (k ≤ 18) → s.small_end_kind k ≡ true
-    go (inl l) = let e : k ≡ 19 = omega arith in rw e
-    go (inr l) = let e : k ≡ 18 = omega arith in rw e
-
-pub end_record : (r : Record) → small_end (inst_of r) ≡ s.small_end_kind r.kind
-end_record r = same_kind s.small_end_kind end-past r
-
 -- two instructions that end in a Br, as the code tells it
 pub two_told : (b : List ℕ) {e : End} {z : Bool} → e ≡ end_of (codes_of b) → z ≡ (eqb (length b / 32) 2 && s.is_br e)
     → (eqb (length (codes_of b)) 2 && s.is_br (end_of (codes_of b))) ≡ z
@@ -135,7 +88,7 @@ module _ (wide : Bool) (l : ℕ) (c : List Code) where
   two = eqb (length c) 2 && s.is_br (end_of c)
 
   pub shape_two : two ≡ true → true ≡ s.step_shape wide l c
-  shape_two e = either _ e
+  shape_two e = sym (or_left _ _ e)
 
   pub shape_narrow : two ≡ false → wide ≡ false → false ≡ s.step_shape wide l c
   shape_narrow e f = otherwise e (sym (rw f))

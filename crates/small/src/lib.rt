@@ -73,15 +73,15 @@ fn any_step(wide: bool, code: &[u8]) -> bool
 fn tests_after(l: BlockId, e: End) -> bool
     ensures { result ≡ steps.tests_into (l.0 + 1) e }
 {
-    let next = l.0 as u64 + 1;
-    matches!(e, End::CondBr(_, t, f) if t.0 as u64 == next || f.0 as u64 == next)
+    let next = l.0.checked_add(1).map(BlockId);
+    matches!(e, End::CondBr(_, t, f) if Some(t) == next || Some(f) == next)
 }
 
 // Whether it is a Br to block l or an earlier one.
 fn jumps_back(l: BlockId, e: End) -> bool
     ensures { result ≡ steps.jumps_back l.0 e }
 {
-    matches!(e, End::Br(to) if to.0 <= l.0)
+    matches!(e, End::Br(to) if to <= l)
 }
 
 fn is_br(e: End) -> bool

@@ -1,5 +1,5 @@
 -- What `run` leaves of a well-formed procedure: its sizes, and that it is well formed.
-use Prim.Native.Nat.{ℕ, ◌+◌, ◌/◌, ◌≤◌, ◌<◌, ◌^◌}
+use Prim.Native.Nat.{ℕ, ◌+◌, ◌/◌, ◌≤◌, ◌<◌}
 use native.Mathlib.Omega.{arith}
 use mathlib.Core.Path.{◌≡◌, refl, ap, ◌∙◌}
 use mathlib.Core.Bool.{Bool, true, false, ◌&&◌, true≢false}
@@ -17,6 +17,7 @@ use Rattle.steps.specs.Run.{Shortened, with_blocks, unchanged, arms_joined, emit
 use Rattle.steps.proofs.Edits.{Edits, thread_edits}
 use Rattle.round_trips.specs.WellFormed.{All, BlockIn, counts_in, WellFormed}
 use Rattle.round_trips.proofs.Lists.{all_append, all-turn}
+use Rattle.round_trips.proofs.ToRecords.{few-blocks}
 use Rattle.step_laws.specs.Size.{code_size, Sized}
 use Rattle.step_laws.proofs.Names.{with_regs}
 use Rattle.step_laws.proofs.Arms.{Kept, arms-kept}
@@ -50,9 +51,6 @@ stage_then r P moved n each few =
     }
 
 module _ (p : Procedure) (h : WellFormed p) where
-  few : length p.blocks ≤ 2 ^ 32
-  few = let i = h.blocks in omega arith
-
   unchanged_stage : Stage p (unchanged p)
   unchanged_stage = record {
     sized = record { code = omega arith; grown = omega arith; fresh = omega arith; rescued = omega arith; registers = omega arith; blocks = refl };
@@ -64,7 +62,7 @@ module _ (p : Procedure) (h : WellFormed p) where
   }
 
   kept : Kept (counts_in p) p.blocks (equal_arms p.blocks)
-  kept = arms-kept (counts_in p) few p.blocks h.each-block
+  kept = arms-kept (counts_in p) (few-blocks p h) p.blocks h.each-block
 
   arms_stage : Stage p (arms_joined p)
   arms_stage =
@@ -97,8 +95,8 @@ module _ (p : Procedure) (h : WellFormed p) where
       let i = h.registers in
       let j = h.code in
       let half = ap (λ (n : ℕ). n / 2 + 32) k.code in
-      let start = start_keeps f (counts_in p) (code_size p) refl half h.each-register few (omega arith) q.blocks k.each k.blocks k.code in
-      edits_keep f (counts_in p) (code_size p) refl half h.each-register few (omega arith) es start
+      let start = start_keeps f (counts_in p) (code_size p) refl half h.each-register (few-blocks p h) (omega arith) q.blocks k.each k.blocks k.code in
+      edits_keep f (counts_in p) (code_size p) refl half h.each-register (few-blocks p h) (omega arith) es start
 
   inv : Inv f (counts_in p) (code_size p) w
   inv = edits_inv (thread_edits f q.blocks)
@@ -119,9 +117,9 @@ module _ (p : Procedure) (h : WellFormed p) where
       let len : length (onto_front kept P) ≡ length p.blocks = onto_length kept P ∙ empty_length 0 marks w.blocks ∙ v.blocks in
       let regs = length-append p.registers w.kinds in
       let n' : length (p.registers ++ w.kinds) ≡ next_number f w = let a = names_at in omega arith in
-      let blocks = onto_in n few kept P (rescues-in n few f marks w.blocks v.each) (empty_in_lem n few 0 marks w.blocks e v.each) in
+      let blocks = onto_in n (few-blocks p h) kept P (rescues-in n (few-blocks p h) f marks w.blocks v.each) (empty_in_lem n (few-blocks p h) 0 marks w.blocks e v.each) in
       let x = onto_few kept P in
-      let y = emit-few n few f 0 marks w.blocks v.each in
+      let y = emit-few n (few-blocks p h) f 0 marks w.blocks v.each in
       let z = v.code in
       let g = v.grown in
       record {

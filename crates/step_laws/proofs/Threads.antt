@@ -5,7 +5,7 @@ use mathlib.Core.Path.{◌≡◌, sym, ap, ◌∙◌}
 use mathlib.Core.Bool.{Bool, true, false, ◌&&◌, ◌||◌, not, cond, false≢true}
 use mathlib.Core.List.{List, [], ◌++◌, append-nil}
 use mathlib.Core.Logic.{◌⊎◌, inl, inr}
-use borrow.Author.Tests.{leb-true, ltb-false, not-false}
+use borrow.Author.Tests.{leb-true, ltb-false}
 use lib.Dec.{eqb, ltb, leb}
 use lib.ListN.{length, get_or, length-append, length-set, get_or-eq_default}
 use Rattle.general.proofs.Booleans.{and_first, or_first, or_second}
@@ -27,6 +27,7 @@ use Rattle.steps.specs.Gate.{copied}
 use Rattle.steps.specs.Copy.{copy_of, kinds_of, own_uses}
 use Rattle.steps.specs.Thread.{Work, block_at, edit, matching, arm_of, stops, next_number, unthreaded}
 use Rattle.steps.proofs.Edits.{source_at, turned, joined_to, Edit, joins, folds, turns, Edits, nil, then}
+use Rattle.steps.proofs.Copied.{stops-small}
 use Rattle.round_trips.specs.WellFormed.{All, BlockIn}
 use Rattle.round_trips.proofs.Lists.{all-at, all-turn, all_append}
 use Rattle.step_laws.proofs.Names.{with_regs, more-block}
@@ -41,12 +42,8 @@ choose-in : (m v t e : ℕ) → t < m → e < m → choose v t e < m
 choose-in m zero t e h i = i
 choose-in m (suc v) t e h i = h
 
--- the block that is copied is there, and has at most four instructions
-copied-small : (wide : Bool) (P : List (List Code)) (l : ℕ) → copied wide P l ≡ true → small (get_or P l []) ≡ true
-unfolding copied
-copied-small wide P l h = and_first (small (get_or P l [])) _ h
-
-small-there : (P : List (List Code)) (l : ℕ) → small (get_or P l []) ≡ true → l < length P
+-- a small block is there, and has at most four instructions
+pub small-there : (P : List (List Code)) (l : ℕ) → small (get_or P l []) ≡ true → l < length P
 unfolding small copyable
 small-there P l h = by (order l (length P))
   where
@@ -158,10 +155,7 @@ module _ (f : Facts) (n : Counts) (N : ℕ) (own : n.registers ≡ length f.regi
       let body = present f.body in
       let first = eqb l a || holds f.body l || body && reads_konst f.konst (block_at w l) in
       let over = ltb f.budget w.grown in
-      let fits = copied body w.blocks l in
-      let q = or_first (first || over) (not fits) h in
-      let r = or_second (first || over) (not fits) h in
-      (ltb-false f.budget w.grown (or_second first over q), copied-small body w.blocks l (not-false fits r))
+      (ltb-false f.budget w.grown (or_second first over (or_first (first || over) (not (copied body w.blocks l)) h)), stops-small f w a l h)
 
   join_inv : (w : Work) (a : ℕ) (l : BlockId) → end_of (block_at w a) ≡ e.Br l → stops f w a l.0 ≡ false → Inv f n N w → Inv f n N (joined_to f w a l.0)
   join_inv w a l q h v =

@@ -1,2 +1,3 @@
 pub mod Edits
+pub mod Copied
 pub mod Table

@@ -5,6 +5,7 @@ use native.Mathlib.Omega.{arith}
 use mathlib.Core.Path.{◌≡◌, refl, sym, ap, ◌∙◌}
 use mathlib.Core.Bool.{Bool, true, false, ◌&&◌, ◌||◌, not, false≢true, true≢false}
 use mathlib.Core.List.{List, [], ◌∷◌, ◌++◌}
+use mathlib.Core.Logic.{◌⊎◌, inl, inr}
 use Rattle.std.proofs.Common.{Option}
 use borrow.Author.Tests.{ltb-false}
 use lib.Dec.{eqb, ltb, leb}
@@ -114,11 +115,9 @@ module _ (facts : List ℕ) (body : Option ℕ) (budget known copy : ℕ) (work 
         → z ≡ hop_in facts body budget known copy s a
     hop_cond_br_lem e h = h ∙ hop_by e
 
-    pub hop_case : {n : ℕ} → x ≡ e.Case n → stay_in s ≡ hop_in facts body budget known copy s a
-    hop_case e = hop_by e
-
-    pub hop-other : x ≡ e.Other → stay_in s ≡ hop_in facts body budget known copy s a
-    hop-other e = hop_by e
+    pub hop_stay : ((n : ℕ) × x ≡ e.Case n) ⊎ (x ≡ e.Other) → stay_in s ≡ hop_in facts body budget known copy s a
+    hop_stay (inl h) = hop_by h.1
+    hop_stay (inr e) = hop_by e
 
 six : (h : ℕ) → h < 6 → 6 - h ≡ suc (6 - (h + 1))
 six h l = omega arith
@@ -148,11 +147,6 @@ module _ (facts : List ℕ) (body : Option ℕ) (budget known copy : ℕ) where
   pub thread-end : (n a : ℕ) (s : Store) → n ≡ 0 → s ≡ thread_from_in facts body budget known copy n a s
   unfolding thread_from_in
   thread-end n a s e = rw e refl
-
-  pub thread-start : (n : ℕ) (s : Store) → thread_from_in facts body budget known copy (n - 0) 0 s ≡ thread_from_in facts body budget known copy n 0 s
-  thread-start n s =
-      let e : n - 0 ≡ n = omega arith in
-      rw e refl
 
   pub thread_go : (n a : ℕ) (s : Store) {s' : Store} {known' copy' : ℕ} → a < n → known' ≡ known → copy' ≡ copy
       → s' ≡ hops_in facts body budget known' copy' 6 a s

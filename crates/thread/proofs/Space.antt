@@ -2,32 +2,29 @@
 use Prim.Native.Nat.{ℕ, ◌+◌, ◌-◌, ◌/◌, ◌≤◌, ◌<◌, min}
 use native.Mathlib.Omega.{arith}
 use mathlib.Core.Path.{◌≡◌, refl, sym, ap, subst, ◌∙◌}
-use mathlib.Core.Bool.{Bool, true, false, ◌&&◌, ◌||◌, not, false≢true}
+use mathlib.Core.Bool.{Bool, true, false, ◌&&◌}
 use mathlib.Core.List.{List, [], ◌∷◌}
 use mathlib.Core.Logic.{◌⊎◌, inl, inr}
 use Rattle.std.proofs.Common.{Option}
-use borrow.Author.Tests.{le-leb, not-false}
-use lib.Dec.{eqb, ltb}
-use lib.ListN.{length, get_or, take, drop, length-take, length-drop, length-map, get_or-eq_default}
+use borrow.Author.Tests.{le-leb}
+use lib.ListN.{length, get_or, take, drop, length-take, length-drop, length-map}
 use lib.Seq.{length-take-le}
-use Rattle.general.proofs.Booleans.{and_first, or_second}
 use Rattle.general.proofs.Numbers.{order}
 use Rattle.records.specs.Record.{records_of, record_at}
 use Rattle.records.proofs.Laws.{length_records}
 use Rattle.record_rules.specs.declared.exist.Counts.{Counts}
 use Rattle.inst.specs.declared.Code.{Code}
 use Rattle.codec.specs.Codec.{code_of}
-use Rattle.procedure.specs.Lists.{present, holds}
+use Rattle.procedure.specs.Lists.{holds}
 use Rattle.ends.specs.Ends.{end_of}
 use Rattle.blocks.specs.Blocks.{block_records_in}
 use Rattle.blocks.proofs.Apart.{last-place}
 use Rattle.blocks.proofs.Parts.{codes_at, records_at}
 use Rattle.blocks.proofs.Rewrites.{front-take}
-use Rattle.steps.specs.Small.{small, copyable, reads_konst}
 use Rattle.steps.specs.Facts.{Facts}
-use Rattle.steps.specs.Gate.{copied}
 use Rattle.steps.specs.Copy.{copy_of, kinds_of, own_uses}
-use Rattle.steps.specs.Thread.{Work, block_at, next_number, stops}
+use Rattle.steps.specs.Thread.{block_at, next_number, stops}
+use Rattle.steps.proofs.Copied.{stops-small}
 use Rattle.facts.specs.Storage.{facts_in, kinds_in}
 use Rattle.hop_cond_br.specs.Storage.{before}
 use Rattle.arena.specs.Arena.{size_of}
@@ -38,7 +35,7 @@ use Rattle.hop_br.proofs.Hop as j
 use Rattle.round_trips.specs.WellFormed as wf
 use Rattle.round_trips.proofs.Lists.{all-at}
 use Rattle.step_laws.proofs.Names.{with_regs}
-use Rattle.step_laws.proofs.Threads.{Inv, counts_at}
+use Rattle.step_laws.proofs.Threads.{Inv, counts_at, small-there}
 use Rattle.step_laws.proofs.Copies.{copied-in, kinds-few}
 use Rattle.thread.specs.Storage.{Store}
 use Rattle.thread.proofs.Laws.{copy-short, grown_le}
@@ -70,23 +67,6 @@ block_size s w a = by (order (record_at s.table a).p1 (record_at s.table a).p2)
         let f = w.fit in
         omega arith
     by (inr i) = let c = count in omega arith
-
--- a target that is copied is small, and there
-stops-small : (f : Facts) (w : Work) (a l : ℕ) → stops f w a l ≡ false → small (block_at w l) ≡ true
-unfolding stops copied
-stops-small f w a l h =
-    let wide = present f.body in
-    let first = eqb l a || holds f.body l || wide && reads_konst f.konst (block_at w l) || ltb f.budget w.grown in
-    let fits = copied wide w.blocks l in
-    and_first (small (block_at w l)) _ (not-false fits (or_second first (not fits) h))
-
-small-there : (P : List (List Code)) (l : ℕ) → small (get_or P l []) ≡ true → l < length P
-unfolding small copyable
-small-there P l h = by (order l (length P))
-  where
-    by : (l < length P) ⊎ (length P ≤ l) → l < length P
-    by (inl i) = i
-    by (inr i) = absurd (false≢true (ap small (sym (get_or-eq_default P [] i)) ∙ h))
 
 all-range : (n : Counts) (c : List Code) → wf.All (wf.Sound n) c → AllInRange c
 all-range n [] h = tt

@@ -10,6 +10,7 @@ use borrow.Author.Tests.{le-leb, eq-eqb}
 use lib.Dec.{leb}
 use lib.ListN.{length, length-append, length-take, get_or-eq_default}
 use lib.Seq.{length-take-le}
+use Rattle.std.proofs.lemmas.Bool.{and_from}
 use Rattle.general.proofs.Numbers.{order}
 use Rattle.records.specs.Record.{record_at}
 use Rattle.record_rules.specs.declared.exist.Counts.{Counts}
@@ -66,9 +67,6 @@ sizes_next nb a t = by (order a nb)
         let z : nb - suc a ≡ 0 = omega arith in
         let n = ap (λ (m : ℕ). sizes_from m (suc a) t) z in
         omega arith
-
-both : {x y : Bool} → x ≡ true → y ≡ true → (x && y) ≡ true
-both p q = rw (p, q) refl
 
 -- lengths that stay, and the new registers that have a kind
 pub record Long (W T K : ℕ) (s : Store) : Type 0 where
@@ -150,7 +148,7 @@ module _ (B C W T K : ℕ) where
             let t = replaced a c (arena_of s) in
             let q = record_at t.table a in
             let h = (join_grown facts body budget known copy s a l w.sound r).last in
-            both (le-leb q.p1 q.p2 h.ordered) (eq-eqb q.p2 t.top h.end)
+            and_from _ _ (le-leb q.p1 q.p2 h.ordered) (eq-eqb q.p2 t.top h.end)
 
         behind : {n : ℕ} → Far a n (arena_of s) (replaced a c (arena_of s))
             → sizes_from (nb - suc a) (suc a) (replaced a c (arena_of s)).table ≡ sizes_from (nb - suc a) (suc a) s.table

@@ -1,9 +1,11 @@
-// Thread: goes over the blocks in order, with at most six hops for each.
+// Thread: goes over the blocks in order, with at most six hops for each. The functions take four lent
+// structs and no struct of them: run::run tells what was tried.
 #![tactic(auto)]
 
 ghost use Rattle.std.specs.Prelude.{◌≡◌, ℕ, length};
 ghost use Rattle.pause.specs.Storage.{body_in};
 ghost use Rattle.arena.specs.Arena.{SameSlices};
+ghost use Rattle.hop_br.specs.Kept.{SameKinds};
 ghost use Rattle.hop_cond_br.specs.Kept.{SameRoom};
 ghost use Rattle.thread.specs.Storage.{hop_br_in, hop_in, hops_in, thread_in};
 ghost use Rattle.thread.specs.Threading.{Edited, at_in, store_in, hopping_to};
@@ -52,7 +54,7 @@ fn hop_br(
     l: BlockId,
 ) -> ControlFlow<()>
     ensures same { SameSlices space.old space.new }
-    ensures same_kinds { added.new.kinds.ghost_name ≡ added.old.kinds.ghost_name }
+    ensures same_kinds { SameKinds added.old added.new }
     ensures hopped { (known copy : ℕ) → hopping_to (store_in space.new added.new) result
         ≡ hop_br_in facts.now.table.now (body_in facts.now.pause) facts.now.budget known copy
         (store_in space.old added.old) a.0 l.0 }
@@ -75,7 +77,7 @@ fn hop(
     a: BlockId,
 ) -> ControlFlow<()>
     ensures same { SameSlices space.old space.new }
-    ensures same_kinds { added.new.kinds.ghost_name ≡ added.old.kinds.ghost_name }
+    ensures same_kinds { SameKinds added.old added.new }
     ensures same_room { SameRoom room.old room.new }
     ensures hopped { hopping_to (store_in space.new added.new) result
         ≡ hop_in facts.now.table.now (body_in facts.now.pause) facts.now.budget
@@ -89,15 +91,14 @@ fn hop(
             turned(n, added)
         }
         End::Br(l) => hop_br(space, added, facts, a, l),
-        End::Case(_) => ControlFlow::Break(()),
-        End::Other => ControlFlow::Break(()),
+        End::Case(_) | End::Other => ControlFlow::Break(()),
     }
 }
 
 // The hops of block a, at most six.
 fn hops(space: &mut Space, added: &mut Added, room: &mut Room, facts: &Facts, a: BlockId)
     ensures same { SameSlices space.old space.new }
-    ensures same_kinds { added.new.kinds.ghost_name ≡ added.old.kinds.ghost_name }
+    ensures same_kinds { SameKinds added.old added.new }
     ensures same_room { SameRoom room.old room.new }
     ensures hopped { store_in space.new added.new
         ≡ hops_in facts.now.table.now (body_in facts.now.pause) facts.now.budget
@@ -117,7 +118,7 @@ fn hops(space: &mut Space, added: &mut Added, room: &mut Room, facts: &Facts, a:
 // forgotten.
 pub fn thread(space: &mut Space, added: &mut Added, room: &mut Room, facts: &Facts) -> Threaded
     ensures same { SameSlices space.old space.new }
-    ensures same_kinds { added.new.kinds.ghost_name ≡ added.old.kinds.ghost_name }
+    ensures same_kinds { SameKinds added.old added.new }
     ensures same_known { room.new.known.ghost_name ≡ room.old.known.ghost_name }
     ensures same_copy { room.new.copy.ghost_name ≡ room.old.copy.ghost_name }
     ensures at { result ≡ at_in space.new added.new }
@@ -129,7 +130,7 @@ pub fn thread(space: &mut Space, added: &mut Added, room: &mut Room, facts: &Fac
     added.fresh = 0;
     added.grown = 0;
     added.edited = false;
-    let n = (space.table.len() / 32).min(4294967296);
+    let n = (space.table.len() / 32).min(u32::MAX as usize + 1);
     for a in 0..n {
         hops(space, added, room, facts, BlockId(a as u32));
     }

@@ -54,7 +54,7 @@ low-from n b [] h = tt
 low-from n b (cs ∷ bs) h =
     low-append n (placed_in b 0 cs) (placed_from (suc b) bs) (low-in n b 0 cs (omega arith)) (low-from n (suc b) bs (omega arith))
 
-writers-append : (r : ℕ) (fs gs : List Field) → writers r (fs ++ gs) ≡ writers r fs ++ writers r gs
+pub writers-append : (r : ℕ) (fs gs : List Field) → writers r (fs ++ gs) ≡ writers r fs ++ writers r gs
 unfolding writers
 writers-append r [] gs = refl
 writers-append r (f ∷ fs) gs = by (eqb f.reg r) (writers-append r fs gs)

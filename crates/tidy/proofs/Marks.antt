@@ -1,12 +1,11 @@
 -- Laws of the marks of the block that is read: those that the search leaves, and whether they were asked for.
-use Prim.Native.Nat.{ℕ, ◌-◌, ◌≤◌, ◌<◌}
+use Prim.Native.Nat.{ℕ, ◌-◌, ◌<◌}
 use native.Mathlib.Omega.{arith}
-use mathlib.Core.Path.{◌≡◌, refl, ap, ◌∙◌}
-use mathlib.Core.Bool.{Bool, true, false}
+use mathlib.Core.Path.{◌≡◌, ap, ◌∙◌}
+use mathlib.Core.Bool.{Bool, false}
 use mathlib.Core.List.{List, [], ◌++◌, append-nil}
-use lib.ListN.{length, get_or, replicate, get_or-eq_default}
+use lib.ListN.{length, get_or, replicate}
 use Rattle.paths.specs.Paths.{reached_from}
-use Rattle.paths.proofs.Paths.{length-reached, reached-is}
 use Rattle.search.specs.Search.{State, on_top, with_block, pushed_all}
 use Rattle.search.proofs.Laws.{Held, weight, held-block, held_more, held_less}
 use Rattle.tidy.specs.declared.targets.Targets.{Targets}
@@ -14,15 +13,6 @@ use Rattle.tidy.specs.Work.Marks.{both, edges_in}
 use Rattle.tidy.proofs.Edges.{edges_length, edges_at}
 
 module _ (ts : List Targets) (size : length ts ≡ 160) (a : ℕ) where
-  reached-length : length (reached_from (edges_in ts) a) ≡ 160
-  reached-length = length-reached (edges_in ts) a ∙ edges_length ts ∙ size
-
-  pub reached-past : (t : ℕ) → 160 ≤ t → get_or (reached_from (edges_in ts) a) t false ≡ false
-  reached-past t h = get_or-eq_default (reached_from (edges_in ts) a) false {n = t} (let n = reached-length in omega arith)
-
-  reached-start : a < 160 → get_or (reached_from (edges_in ts) a) a false ≡ true
-  reached-start h = (reached-is (edges_in ts) a a (let n = edges_length ts ∙ size in omega arith)).1 ([], refl)
-
   -- 160 blocks, so there are no marks past them
   pub all_marked : {m : List Bool} → m ≡ reached_from (edges_in ts) a ++ replicate (160 - length (edges_in ts)) false → m ≡ reached_from (edges_in ts) a
   all_marked e =

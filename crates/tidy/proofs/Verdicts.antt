@@ -1,5 +1,5 @@
 -- Laws of reads judged one by one, and of the registers that an instruction reads.
-use Prim.Native.Nat.{ℕ, ◌+◌, ◌-◌, ◌≤◌, ◌<◌, min}
+use Prim.Native.Nat.{ℕ, suc, ◌+◌, ◌-◌, ◌≤◌, ◌<◌, min}
 use native.Mathlib.Numerals.{add-one}
 use native.Mathlib.Omega.{arith}
 use mathlib.Core.Path.{◌≡◌, refl, sym, ap, ◌∙◌}
@@ -24,7 +24,10 @@ use Rattle.tidy.specs.declared.writers.Writer.TheVariants as w
 use Rattle.general.proofs.Lists.{get_d_any}
 use Rattle.tidy.specs.Tidy.{Placed, Field, placed_in, placed_from, fields_at, reads}
 use Rattle.tidy.specs.Work.Marks.{Leading, leading}
-use Rattle.tidy.specs.Work.Reads.{judged, offence, lower, step, stepped, judged_all}
+use Rattle.tidy.specs.Work.Reads.{judged, offence, lower, step, judged_all}
+use Rattle.tidy.specs.declared.reads.Reads.{Reads}
+use Rattle.tidy.specs.declared.reader.Reader.{Reader}
+use Rattle.tidy.specs.Work.Reader.{lowest_now, read, read_all}
 use Rattle.tidy.specs.Work.Parts.{placed_at, operands_in, Fit}
 use Rattle.tidy.proofs.Tables.{placed-step, placed_end, from_step, from_end, reads-append}
 
@@ -46,37 +49,47 @@ module _ (m : Leading) (n : ℕ) (ws : List Writer) (k : ℕ) (s : Option Reg) (
     unfolding step offence
     step_wrong e {x} f = ap (λ (m : ℕ). let y : Reg = record { 0 = m } in Some y) f ∙ sym (rw (lt-ltb r n h, any, e))
 
+-- one read more
+pub read_more : (s : Reader) {t w : Reader} (l : List ℕ) (j : ℕ) → j < length l → t ≡ read s (get_or l j 0) → read_all s (drop j l) ≡ w → read_all t (drop (j + 1) l) ≡ w
+unfolding read_all
+read_more s {t} l j h e i =
+    rw (add-one j)
+    (ap (λ (t : Reader). read_all t (drop (suc j) l)) e
+    ∙ sym (ap (read_all s) (drop-cons l j 0 h))
+    ∙ i)
+
+pub read_end : (s : Reader) {w : Reader} (l : List ℕ) (j : ℕ) → length l ≤ j → read_all s (drop j l) ≡ w → s ≡ w
+unfolding read_all
+read_end s l j h i = sym (ap (read_all s) (drop_of_length-le l h)) ∙ i
+
+read-append : (xs ys : List ℕ) (s : Reader) → read_all s (xs ++ ys) ≡ read_all (read_all s xs) ys
+unfolding read_all
+read-append [] ys s = refl
+read-append (x ∷ xs) ys s = read-append xs ys (read s x)
+
+read-kept : (xs : List ℕ) (s : Reader) → (read_all s xs).reads ≡ s.reads
+unfolding read_all read
+read-kept [] s = refl
+read-kept (x ∷ xs) s = read-kept xs (read s x)
+
+-- some reads, and then others
+pub read_both : (s : Reader) {t u : Reader} (xs : List ℕ) (ys : Reads → List ℕ) → t ≡ read_all s xs → u ≡ read_all t (ys t.reads) → u ≡ read_all s (xs ++ ys s.reads)
+read_both s xs ys e i =
+    i
+    ∙ ap (λ (t : Reader). read_all t (ys t.reads)) e
+    ∙ ap (λ (r : Reads). read_all (read_all s xs) (ys r)) (read-kept xs s)
+    ∙ sym (read-append xs (ys s.reads) s)
+
 -- the registers that one instruction reads
-module _ (m : Leading) (n : ℕ) (ws : List Writer) (k : ℕ) where
-  stepped-next : (s : Option Reg) (l : List ℕ) (j : ℕ) → j < length l
-      → stepped m n ws k (step m n ws k s (get_or l j 0)) (drop (j + 1) l) ≡ stepped m n ws k s (drop j l)
-  unfolding stepped
-  stepped-next s l j h = rw (add-one j) (sym (ap (stepped m n ws k s) (drop-cons l j 0 h)))
-
-  -- one read more
-  pub stepped-more : {m' : Leading} → m' ≡ m → (s : Option Reg) (l : List ℕ) (j : ℕ) → j < length l → {i : ℕ} → i ≡ j + 1 → {r : ℕ} → r ≡ get_or l j 0
-      → {t : Option Reg} → t ≡ step m' n ws k s r → stepped m n ws k t (drop i l) ≡ stepped m n ws k s (drop j l)
-  stepped-more {m'} e s l j h {i} f {r} g {t} o =
-      ap (λ (i : ℕ). stepped m n ws k t (drop i l)) f
-      ∙ ap (λ (t : Option Reg). stepped m n ws k t (drop (j + 1) l)) (o ∙ ap (λ (m : Leading). step m n ws k s r) e ∙ ap (step m n ws k s) g)
-      ∙ stepped-next s l j h
-
-  pub stepped-end : (s : Option Reg) (l : List ℕ) (j : ℕ) → length l ≤ j → s ≡ stepped m n ws k s (drop j l)
-  unfolding stepped
-  stepped-end s l j h = sym (ap (stepped m n ws k s) (drop_of_length-le l h))
-
-  pub stepped-append : (xs ys : List ℕ) (s : Option Reg) → stepped m n ws k s (xs ++ ys) ≡ stepped m n ws k (stepped m n ws k s xs) ys
-  unfolding stepped
-  stepped-append [] ys s = refl
-  stepped-append (x ∷ xs) ys s = stepped-append xs ys (step m n ws k s x)
+pub read-fields : (x : Placed) (s : Reader) (es : List (List ℕ)) (rs : List ℕ) → s.lead.now ≡ leading es x.block → s.place ≡ x.place
+    → read_all s rs ≡ lowest_now s (judged_all es s.reads.f.l.blocks s.reads.ws.now s.lowest (fields_at x rs))
+unfolding read_all read judged_all
+read-fields x s es [] e f = refl
+read-fields x s es (r ∷ rs) e f =
+    read-fields x (read s r) es rs e f
+    ∙ rw (e, f) refl
 
 module _ (es : List (List ℕ)) (n : ℕ) (ws : List Writer) where
-  stepped-fields : (x : Placed) (s : Option Reg) (rs : List ℕ)
-      → stepped (leading es x.block) n ws x.place s rs ≡ judged_all es n ws s (fields_at x rs)
-  unfolding stepped judged_all
-  stepped-fields x s [] = refl
-  stepped-fields x s (r ∷ rs) = stepped-fields x (step (leading es x.block) n ws x.place s r) rs
-
   judged-append : (fs gs : List Field) (s : Option Reg) → judged_all es n ws s (fs ++ gs) ≡ judged_all es n ws (judged_all es n ws s fs) gs
   unfolding judged_all
   judged-append [] gs s = refl
@@ -95,14 +108,13 @@ module _ (es : List (List ℕ)) (n : ℕ) (ws : List Writer) where
 
   pub judged-next :
       (ops : List ℕ) (rs : List Record) (first count : ℕ) → first + count ≤ length rs → (b k : ℕ) (s : Option Reg) {t : Option Reg} → k < count
-      → t ≡ stepped (leading es b) n ws k s (reads_of ops (inst_of (get_or rs (first + k) blank)))
+      → t ≡ judged_all es n ws s (fields_at (placed_at b k (get_or rs (first + k) blank)) (reads_of ops (inst_of (get_or rs (first + k) blank))))
       → judged_all es n ws t (reads ops (placed_in b (k + 1) (drop (k + 1) (map code_of (part first count rs)))))
       ≡ judged_all es n ws s (reads ops (placed_in b k (drop k (map code_of (part first count rs)))))
   judged-next ops rs first count h b k s i e =
       let l = part first count rs in
       ap (λ (u : Option Reg). judged_all es n ws u (reads ops (placed_in b (k + 1) (drop (k + 1) (map code_of l)))))
-      (e ∙ stepped-fields (placed_at b k (get_or rs (first + k) blank)) s (reads_of ops (inst_of (get_or rs (first + k) blank)))
-      ∙ ap (λ (r : Record). judged_all es n ws s (fields_at (placed_at b k r) (reads_of ops (inst_of r)))) (sym (part_at rs first count h k i)))
+      (e ∙ ap (λ (r : Record). judged_all es n ws s (fields_at (placed_at b k r) (reads_of ops (inst_of r)))) (sym (part_at rs first count h k i)))
       ∙ judged-inst ops l b k s (rw (part_length rs first count h) i)
 
   pub judged-end :

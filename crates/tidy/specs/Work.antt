@@ -3,3 +3,4 @@ pub mod Parts
 pub mod Writers
 pub mod Marks
 pub mod Reads
+pub mod Reader

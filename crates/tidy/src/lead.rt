@@ -7,7 +7,8 @@ use inst::BlockId;
 use search::Search;
 use std::marker::Model;
 
-// A block, and the marks of the blocks that it leads to: they are made once, when first needed.
+// A block, and the marks of the blocks that it leads to: they are made once, when first needed, and are an array of 160 marks,
+// as Search gives them: document 01's form.
 #[derive(Drop)]
 pub struct Lead<'a> {
     targets: &'a [Targets; 160],

@@ -9,14 +9,14 @@ ghost use Rattle.tidy.specs.Told.{tidiness_of};
 ghost use Rattle.tidy.specs.Work.Reads.{lowest_of};
 
 use file::File;
-use inst::{BlockId, Reg};
+use inst::Reg;
 use read::Refusal;
 use reads::Reads;
-use targets::Targets;
 use writers::Writer;
 
 mod file;
 mod lead;
+mod reader;
 mod reads;
 mod targets;
 mod writers;
@@ -26,11 +26,7 @@ fn judge(f: File) -> Option<Reg>
 {
     let mut ws = [Writer::Nothing; 756];
     writers::note_blocks(f, &mut ws);
-    let none = BlockId(160);
-    let mut targets = [Targets {
-        one: none,
-        two: none,
-    }; 160];
+    let mut targets = [targets::NOWHERE; 160];
     targets::note_targets(f, &mut targets);
     let r = Reads {
         f,

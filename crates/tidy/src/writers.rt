@@ -15,9 +15,12 @@ use inst::{BlockId, Kind, Reg};
 struct At {
     block: BlockId,
     place: u32,
+    ghost low: { block.0 < 160 },
+    ghost near: { place ≤ 2048 },
 }
 
-// What writes a register: nothing, one register field of an instruction, or more.
+// What writes a register: nothing, one register field of an instruction, or more. It has six bytes: with a BlockId and a place
+// of u32 it has twelve, and a file's 756 writers take 4,536 bytes more of the 8,192 of stack that include/halivomue.h promises.
 #[derive(Clone, Copy)]
 pub enum Writer {
     Nothing,
@@ -57,7 +60,6 @@ fn note_defs(ws: &mut [Writer], written: &[Reg], one: Writer)
 }
 
 fn note_inst(b: &[u8], k: usize, at: At, ws: &mut [Writer])
-    requires { (at.block.0 < 160) × (at.place ≤ 2048) }
     ensures { ws.new ≡ noted ws.old (written_at b.now k at.block.0 at.place) }
 {
     let i = ends::inst_at(b, k);
@@ -69,13 +71,16 @@ fn note_inst(b: &[u8], k: usize, at: At, ws: &mut [Writer])
     note_defs(ws, roles::roles_of(i).written(), one);
 }
 
-fn note_block(b: &[u8], p: Part, block: BlockId, ws: &mut [Writer])
-    requires { (p.first + p.count ≤ length (records_of b.now)) × (p.count ≤ 2048) × (block.0 < 160) }
-    ensures { ws.new ≡ noted ws.old (written (placed_in block.0 0 (map code_of (part p.first p.count (records_of b.now))))) }
+fn note_block(b: &[u8], p: Part, ws: &mut [Writer])
+    requires { p.first + p.count ≤ length (records_of b.now) }
+    ensures { ws.new ≡ noted ws.old (written (placed_in p.block.0 0 (map code_of (part p.first p.count (records_of b.now))))) }
 {
     for k in 0..p.count {
-        let place = k as u32;
-        note_inst(b, p.first + k, At { block, place }, ws);
+        let at = At {
+            block: p.block,
+            place: k as u32,
+        };
+        note_inst(b, p.first + k, at, ws);
     }
 }
 
@@ -84,6 +89,6 @@ pub fn note_blocks(f: File, ws: &mut [Writer])
     ensures { ws.new ≡ noted ws.old (written (placed_from 0 (blocks_in (records_of f.entry.b.now) f.entry.l))) }
 {
     for k in 0..f.blocks() {
-        note_block(f.b, f.part(k), BlockId(k as u32), ws);
+        note_block(f.b, f.part(k), ws);
     }
 }

@@ -2,7 +2,7 @@
 #![tactic(auto)]
 
 ghost use Rattle.std.specs.Prelude.{◌≡◌, ℕ};
-ghost use Rattle.roles.specs.Exchange.{over, bool_second, check_low, check_high, exchanged, through, written};
+ghost use Rattle.roles.specs.Exchange.{over, exchanged, through, written};
 ghost use Rattle.roles.specs.Work.{Maps};
 ghost use Rattle.visit_mut.specs.Pairs.{pairs_in};
 
@@ -20,6 +20,7 @@ fn read_as(r: Reg, pairs: &[(Reg, Reg)]) -> Reg
     r
 }
 
+// The new number of a written register. No plainer by `read_as`: a slice would be made of one pair.
 fn write_as(r: Reg, old: Reg, new: Reg) -> Reg
     ensures { result ≡ over (written old.0 new.0) r }
 {
@@ -27,32 +28,6 @@ fn write_as(r: Reg, old: Reg, new: Reg) -> Reg
         return new;
     }
     r
-}
-
-// The registers that only some ops and kinds read.
-
-fn bool_second<R: Fn(Reg) -> Reg>(op: BoolOp, read: &R, r: Reg) -> Reg
-    requires { R.IsAlwaysCallable read.now }
-    ensures { (σ : ℕ → ℕ) → Maps σ (R.post read.now) → result ≡ bool_second op σ r }
-{
-    if op == BoolOp::Not { r } else { read(r) }
-}
-
-fn check_low<R: Fn(Reg) -> Reg>(kind: CheckKind, read: &R, r: Reg) -> Reg
-    requires { R.IsAlwaysCallable read.now }
-    ensures { (σ : ℕ → ℕ) → Maps σ (R.post read.now) → result ≡ check_low kind σ r }
-{
-    if kind == CheckKind::Null { r } else { read(r) }
-}
-
-fn check_high<R: Fn(Reg) -> Reg>(kind: CheckKind, read: &R, r: Reg) -> Reg
-    requires { R.IsAlwaysCallable read.now }
-    ensures { (σ : ℕ → ℕ) → Maps σ (R.post read.now) → result ≡ check_high kind σ r }
-{
-    match kind {
-        CheckKind::Range | CheckKind::Index | CheckKind::IndexDown => read(r),
-        CheckKind::Length | CheckKind::Null => r,
-    }
 }
 
 // An instruction with `read` applied to the registers that it reads, and `write` to those that it writes.
@@ -90,7 +65,7 @@ fn visited<R: Fn(Reg) -> Reg, W: Fn(Reg) -> Reg>(i: Inst, read: R, write: W) -> 
             op,
             dst: write(dst),
             a: read(a),
-            b: bool_second(op, &read, b),
+            b: if op == BoolOp::Not { b } else { read(b) },
         },
         Inst::Bin { op, dst, a, b } => Inst::Bin {
             op,
@@ -134,8 +109,15 @@ fn visited<R: Fn(Reg) -> Reg, W: Fn(Reg) -> Reg>(i: Inst, read: R, write: W) -> 
         } => Inst::Check {
             kind,
             v: read(v),
-            lo: check_low(kind, &read, lo),
-            hi: check_high(kind, &read, hi),
+            lo: if kind == CheckKind::Null {
+                lo
+            } else {
+                read(lo)
+            },
+            hi: match kind {
+                CheckKind::Range | CheckKind::Index | CheckKind::IndexDown => read(hi),
+                CheckKind::Length | CheckKind::Null => hi,
+            },
             what,
         },
         Inst::MakeDope { at, parts } => Inst::MakeDope {

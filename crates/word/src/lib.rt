@@ -9,7 +9,8 @@ use inst::{BoolOp, CmpOp};
 // The bit of a word that says whether it is negative: 2^63.
 const SIGN: u64 = 0x8000_0000_0000_0000;
 
-// The signed order of words is the order of these. A cast to i64 is no plainer: Word.signed counts them up from 0.
+// The signed order of words is the order of these. A cast to i64 is no plainer: the definition counts words up from the
+// least, and has no negative numbers.
 fn signed(x: u64) -> u64
     ensures { result ≡ signed_of x }
 {
@@ -30,6 +31,7 @@ fn ordered(op: CmpOp, x: u64, y: u64) -> bool
 }
 
 // Cmp of two words: 1 or 0 by their signed order. Nothing depends yet on the kinds of their registers.
+// By number: a RegTy would take fewer values than callers may give now.
 #[tactic(auto, unfolding(crate::specs::Word::compares))]
 pub fn compares(kind: u32, other: u32, op: CmpOp, x: u64, y: u64) -> u64
     ensures { result ≡ comparesOf kind other op x y }

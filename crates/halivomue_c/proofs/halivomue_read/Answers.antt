@@ -10,4 +10,4 @@ returns-in-Ok c =
 pub returns-in-Err : goal.returns-in-Err
 returns-in-Err c =
     let e = c.in-Err.ensures in
-    record { number = c.number.ensures ∙ ap (λ (r : Reading). r.number) e; place = ap (λ (r : Reading). r.place) e }
+    record { number = c.from.ensures ∙ ap (λ (r : Reading). r.number) e; place = ap (λ (r : Reading). r.place) e }

@@ -1,35 +1,21 @@
-use Rattle.std.proofs.Common.{ℕ, ◌+◌, sym, ap, ◌∙◌, drop, set, length-set, arith}
-use Rattle.hop_br.specs.Storage.{kinds_put}
-use Rattle.hop_br.proofs.Joins.{kinds_for, kinds-past, kinds-step, kinds-end, kinds-count, kind_nth}
-use Rattle.hop_br.proofs.put_kinds.Invariants.{kind_in}
+use Rattle.std.proofs.Common.{sym, ◌∙◌, length-set, arith}
+use Rattle.hop_br.proofs.Joins.{kinds-end, kinds-step, kind_in}
+use Rattle.std.specs.Slice.Iter.{iter_rest}
 use Rattle.hop_br.proofs.put_kinds.Goals as goal
-
-pub returns-then-kinds-at : goal.returns-then-kinds-at
-returns-then-kinds-at c =
-    let a = c.args in
-    let l = c.loop-p in
-    let ks = kinds_for (kind_in a.facts.now) a.given.now in
-    sym (kinds-past l.kinds l.at (drop l.p-index ks) c.if-kinds-at.true) ∙ l.invariant.1
 
 pub loop-p-preserved : goal.loop-p-preserved
 loop-p-preserved c =
-    let a = c.args in
-    let l = c.loop-p in
-    let g = kind_in a.facts.now in
-    let ks = kinds_for g a.given.now in
-    let k = l.p-index in
-    let n = kinds-count g a.given.now in
-    let v = c.kind_at.ensures ∙ sym (kind_nth g a.given.now k) in (
-      length-set l.kinds l.at _ ∙ l.invariant.0,
-      ap (λ (x : ℕ). kinds_put (set l.kinds l.at x) (l.at + 1) (drop (k + 1) ks)) v
-          ∙ kinds-step l.kinds l.at ks k (g 0) (omega (arith, n, c.loop-p-test.true))
-          ∙ l.invariant.1,
+    let s = c.loop-p.p-iterator in
+    let t = c.next.new.self in
+    let d = c.in-Some.ensures.steps in
+    let k = c.loop-p.kinds in (
+      length-set k c.in-Some.at _ ∙ c.loop-p.invariant.0 ∙ sym d.1.0,
+      kinds-step (kind_in c.args.facts.now) k s.b.start c.in-Some.p.now (iter_rest t.a) d.0 d.1.1.1 d.1.1.2 c.kind_at.ensures
+          ∙ c.loop-p.invariant.1,
     )
 
 pub returns : goal.returns
 returns c =
-    let a = c.args in
-    let l = c.loop-p in
-    let g = kind_in a.facts.now in
-    let n = kinds-count g a.given.now in
-    sym (kinds-end l.kinds l.at (kinds_for g a.given.now) l.p-index (omega (arith, n, c.loop-p-test.false))) ∙ l.invariant.1
+    let s = c.loop-p.p-iterator in
+    let k = c.loop-p.kinds in
+    sym (kinds-end (kind_in c.args.facts.now) k s.b.start (iter_rest s.a) (grind (arith, c.in-None.ensures.steps, c.loop-p.invariant.0))) ∙ c.loop-p.invariant.1

@@ -1,3 +1,4 @@
+use Rattle.std.proofs.Common.{rules}
 use mathlib.Core.Path.{sym, ◌∙◌}
 use Rattle.records.specs.Record.{records_of}
 use Rattle.records.proofs.Laws.{length_records}
@@ -13,5 +14,6 @@ returns-then-end-b c =
 pub returns-else-end-b : goal.returns-else-end-b
 returns-else-end-b c =
     let b = c.args.b.now in
-    not_laid (records_of b) c.span-blocks.ensures.value c.span-bodies.ensures.value c.span-code.ensures.value c.span-operands.ensures.value c.span-arms.ensures.value c.span-end.ensures.value
-    (λ i. c.if-end-b.false (i ∙ length_records b))
+    let zeros = not_laid (records_of b) c.span-blocks.ensures.value c.span-bodies.ensures.value c.span-code.ensures.value c.span-operands.ensures.value c.span-arms.ensures.value c.span-end.ensures.value
+    (λ i. c.if-end-b.false (i ∙ length_records b)) in
+    search rules

@@ -1,5 +1,7 @@
-use Rattle.line.proofs.Laws.{then}
+use Rattle.std.proofs.Common.{rules}
+use Rattle.quote.proofs.Laws.{put_hex_digits}
 use Rattle.quote.proofs.put_digits.Goals as goal
 
 pub returns : goal.returns
-returns c = rw (c.glyph.ensures, c.glyph-2.ensures) at (then c.put_byte.ensures c.put_byte-2.ensures)
+returns c =
+    rw c.from.ensures at (put_hex_digits c.hex-k.new.out c.hex-k.result c.from.result c.put.ensures c.hex-k.ensures.digits c.hex-k.ensures.len (search rules))

@@ -1,10 +1,9 @@
-use Prim.Native.Nat.{◌-◌, ◌≤◌}
 use mathlib.Core.Path.{sym, ◌∙◌}
 use native.Mathlib.Omega.{arith}
 use Rattle.records.specs.Record.{records_of}
 use Rattle.records.proofs.Laws.{length_records}
 use Rattle.read.specs.Reading.{read_records}
-use Rattle.read.proofs.Laid.{sizes, laid_of, end_is, beyond-is, few-arms, refuse_at, pass_on}
+use Rattle.read.proofs.Laid.{sizes, laid_of, end_is, beyond-is, refuse_at, pass_on}
 use native.Mathlib.Nat.{zero-add}
 use Rattle.read.proofs.read_records.Goals as goal
 
@@ -32,15 +31,10 @@ returns-then-beyond c =
     let y = sym (beyond-is p) ∙ sym c.beyond.ensures ∙ c.if-beyond.true in
     pass_on 2 0 _ _ (rw p.sorted (omega arith)) (c.refused-then-beyond.ensures ∙ sym (rw y))
 
-pub read_blocks-requires : goal.read_blocks-requires
-read_blocks-requires c =
-    let p = (let b = c.args.b.now in
-    laid_of (records_of b) c.layout_of-l.ensures (rw (length_records b) c.if-l-b.false)) in
-    let z = sizes p in
-    let l = c.layout_of-l.result in
-    let few = few-arms l.blocks (l.bodies - l.blocks) (l.code - l.bodies) (l.operands - l.code) (l.arms - l.operands) (l.end - l.arms) in
-    let f : l.end - l.arms ≤ 128 = few (sym c.beyond.ensures ∙ c.if-beyond.false) in
-    (p, c.requires, omega arith)
+pub invariant_of-read_blocks : goal.invariant_of-read_blocks
+invariant_of-read_blocks c =
+    let b = c.args.b.now in
+    record { laid = laid_of (records_of b) c.layout_of-l.ensures (rw (length_records b) c.if-l-b.false); few = c.requires }
 
 pub returns : goal.returns
 unfolding read_records

@@ -1,4 +1,5 @@
 use Prim.Native.Nat.{◌+◌, ◌/◌}
+use native.Mathlib.Omega.{arith}
 use lib.ListN.{length}
 use Rattle.procedure.specs.Lists.{joined}
 use Rattle.steps.specs.Run.{arms_joined, threaded_form}
@@ -15,5 +16,4 @@ returns c p h g on =
     let w = c.emit-e.ensures.emitted (arms_joined p).procedure (work_of (store a.s.now.work.now a.s.now.table.now a.s.now.kinds.now a.r.at)) p.body
     (length (joined p.blocks) / 2 + 32) (ready p x h on (length a.stage.now.code.now) (length a.stage.now.heads.now) c.arms.ensures g) in
     c.finish.ensures (threaded_form p) (emitted-held p x h on w c.min-m.ensures)
-    (emitted-tells p x h on w c.min-m.ensures
-    c.min.ensures)
+    (emitted-tells p x h on w c.min-m.ensures (grind (arith, c.unwrap_or.ensures, c.try_from.ensures)))

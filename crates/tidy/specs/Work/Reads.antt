@@ -41,10 +41,6 @@ lowered s (r ∷ rs) = lowered (Some (record { 0 = lower s r })) rs
 unfoldable pub step : Leading → ℕ → List Writer → ℕ → Option Reg → ℕ → Option Reg
 step s n ws k low r = cond (offence s n ws r k) (Some (record { 0 = lower low r })) low
 
-unfoldable pub stepped : Leading → ℕ → List Writer → ℕ → Option Reg → List ℕ → Option Reg
-stepped s n ws k low [] = low
-stepped s n ws k low (r ∷ rs) = stepped s n ws k (step s n ws k low r) rs
-
 unfoldable pub judged_all : List (List ℕ) → ℕ → List Writer → Option Reg → List Field → Option Reg
 judged_all es n ws low [] = low
 judged_all es n ws low (f ∷ fs) = judged_all es n ws (step (leading es f.at.block) n ws f.at.place low f.reg) fs

@@ -23,7 +23,7 @@ loop-b-preserved c =
     let n = length-table l.blocks.code.now l.blocks.table.now in
     let e = length-blocks l.blocks.code.now l.blocks.table.now in (
       next c.loop-b.invariant.0 (empty_one m R c.loop-b.b (omega arith)) c.put_new.ensures,
-      λ i j. heading_one m R (omega arith) c.put_new.ensures c.min-end.ensures
+      λ i j. heading_one m R (omega arith) c.put_new.ensures (grind (arith, c.unwrap_or-end.ensures, c.try_from.ensures))
           (c.put_record.ensures ∙ ap (put_of c.loop-b.heads c.loop-b.b) c.record_of_block.ensures) (omega arith) (c.loop-b.invariant.1 i j),
     )
 

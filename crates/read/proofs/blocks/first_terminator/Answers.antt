@@ -12,18 +12,19 @@ use Rattle.layout.proofs.Walks.{run_range}
 use Rattle.read.specs.Structure.{terminator}
 use Rattle.read.proofs.blocks.first_terminator.Goals as goal
 
-pub overflow_add-first : goal.overflow_add-first
-overflow_add-first c = omega (arith, length_records c.args.b.now)
+pub overflow_add-end : goal.overflow_add-end
+overflow_add-end c = let s = c.args.code in omega (arith, s.within, s.few)
 
 pub returns : goal.returns
 returns c =
-    let b = c.args.b.now in
-    let first = c.args.first in
-    let n = c.args.count in
+    let s = c.args.code in
+    let b = s.b.now in
+    let first = s.first in
+    let n = s.count in
     let test = λ (k : ℕ). not (terminator (record_at b k)) in
     let ks : List ℕ = range_with_len first n in
     let run : c.count.result ≡ length (take (prefix_len test ks) ks) =
     count_from_yields_List _ _ c.count.ensures.ran
     (YieldsList-from_take_while _ test (YieldsList-from_range first (first + n) n c.take_while-run.ensures.source (omega arith))
     c.take_while-run.ensures.closure c.take_while-run.ensures.done (λ x t q h. search rules)) in
-    run ∙ length-prefix_len test ks ∙ run_range (λ r. not (terminator r)) b first n (omega (arith, c.requires, length_records b))
+    run ∙ length-prefix_len test ks ∙ run_range (λ r. not (terminator r)) b first n (omega (arith, s.within, length_records b))

@@ -8,4 +8,5 @@ use Rattle.read.proofs.names.named_records.Given as goal
 
 abbrev pub invariant-loop-k : goal.invariant-loop-k
 invariant-loop-k l =
-    l.k + lead (names_exist l.n) (drop l.k (records_of l.b)) ≡ l.first + lead (names_exist l.n) (drop l.first (records_of l.b))
+    let rs = records_of l.f.b.now in
+    l.k + lead (names_exist l.n) (drop l.k rs) ≡ l.f.l.bodies + lead (names_exist l.n) (drop l.f.l.bodies rs)

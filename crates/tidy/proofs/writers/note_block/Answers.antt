@@ -21,12 +21,12 @@ loop-k-preserved c =
     let rs = records_of a.b.now in
     let e = c.note_inst.ensures in
     let n = ap length e ∙ length-noted _ l.ws ∙ l.invariant.0 in
-    (n, noted-next l.ws rs a.p.first a.p.count (omega arith) a.block.0 l.k (omega arith) e ∙ l.invariant.1)
+    (n, noted-next l.ws rs a.p.first a.p.count (omega arith) a.p.block.0 l.k (omega arith) e ∙ l.invariant.1)
 
 pub returns : goal.returns
 returns c =
     let l = c.loop-k in
     let a = c.args in
     let rs = records_of a.b.now in
-    noted-none l.ws (part a.p.first a.p.count rs) a.block.0 l.k (rw (part_length rs a.p.first a.p.count (omega arith)) c.loop-k-test.false)
+    noted-none l.ws (part a.p.first a.p.count rs) a.p.block.0 l.k (rw (part_length rs a.p.first a.p.count (omega arith)) c.loop-k-test.false)
     ∙ l.invariant.1

@@ -12,4 +12,4 @@ abbrev pub invariant-loop-k : goal.invariant-loop-k
 invariant-loop-k l =
     let cs = map code_of (part l.p.first l.p.count (records_of l.b)) in
     (length l.ws ≡ length l.initial.ws)
-    × (noted l.ws (written (placed_in l.block.0 l.k (drop l.k cs))) ≡ noted l.initial.ws (written (placed_in l.block.0 0 cs)))
+    × (noted l.ws (written (placed_in l.p.block.0 l.k (drop l.k cs))) ≡ noted l.initial.ws (written (placed_in l.p.block.0 0 cs)))

@@ -1,4 +1,4 @@
-use Rattle.std.proofs.Common.{◌+◌, ◌-◌, ◌<◌, List, length, drop, refl, ap, ◌∙◌, arith}
+use Rattle.std.proofs.Common.{◌+◌, ◌-◌, ◌<◌, List, length, drop, refl, ap, ◌∙◌}
 use Rattle.records.specs.Record.{records_of}
 use Rattle.inst.specs.declared.Code.{Code}
 use Rattle.tidy.specs.declared.writers.Writer.{Writer}
@@ -14,15 +14,8 @@ loop-k-init c = (refl, refl)
 pub part-requires : goal.part-requires
 part-requires c = rw (← c.blocks-k-end.ensures) c.loop-k-test.true
 
-pub overflow_cast-k : goal.overflow_cast-k
-overflow_cast-k c = let f = c.args.f.fit in let e = c.blocks-k-end.ensures in omega arith
-
 pub note_block-requires : goal.note_block-requires
-note_block-requires c =
-    let f = c.args.f.fit in
-    let e = c.blocks-k-end.ensures in
-    let p = c.part.ensures in
-    (p.within, p.few, omega arith)
+note_block-requires c = c.part.ensures.part.within
 
 pub loop-k-preserved : goal.loop-k-preserved
 loop-k-preserved c =
@@ -30,7 +23,8 @@ loop-k-preserved c =
     let l = c.loop-k in
     let rs = records_of f.b.now in
     let i : l.k < f.l.bodies - f.l.blocks = rw (← c.blocks-k-end.ensures) c.loop-k-test.true in
-    let e = c.note_block.ensures ∙ ap (λ (cs : List Code). noted l.ws (written (placed_in l.k 0 cs))) c.part.ensures.code in
+    let p = c.part.ensures in
+    let e = rw (← p.number) c.note_block.ensures ∙ ap (λ (cs : List Code). noted l.ws (written (placed_in l.k 0 cs))) p.part.code in
     let more = ap (λ (u : List Writer). noted u (written (placed_from (l.k + 1) (drop (l.k + 1) (blocks_in rs f.l))))) e in
     let step = noted-block l.ws (block_code rs f.l) (block_records rs f.l) l.k (rw (blocks-length f.fit) i) in
     (ap length e ∙ length-noted _ l.ws ∙ l.invariant.0, more ∙ step ∙ l.invariant.1)

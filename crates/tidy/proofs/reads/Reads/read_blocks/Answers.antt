@@ -1,4 +1,4 @@
-use Rattle.std.proofs.Common.{◌+◌, ◌-◌, ◌<◌, List, drop, refl, ap, ◌∙◌, arith, Option}
+use Rattle.std.proofs.Common.{◌+◌, ◌-◌, ◌<◌, List, drop, refl, ap, ◌∙◌, Option}
 use Rattle.inst.specs.declared.Reg.{Reg}
 use Rattle.records.specs.Record.{records_of}
 use Rattle.inst.specs.declared.Code.{Code}
@@ -16,14 +16,8 @@ loop-k-init c = refl
 pub part-requires : goal.part-requires
 part-requires c = rw (← c.blocks-k-end.ensures) c.loop-k-test.true
 
-pub overflow_cast-k : goal.overflow_cast-k
-overflow_cast-k c = let f = c.args.self.f.fit in let e = c.blocks-k-end.ensures in omega arith
-
 pub read_block-t-requires : goal.read_block-t-requires
-read_block-t-requires c =
-    let f = c.args.self.f.fit in
-    let e = c.blocks-k-end.ensures in
-    (omega arith, c.part.ensures.within)
+read_block-t-requires c = c.part.ensures.part.within
 
 pub loop-k-preserved : goal.loop-k-preserved
 loop-k-preserved c =
@@ -32,7 +26,8 @@ loop-k-preserved c =
     let rs = records_of r.f.b.now in
     let i : l.k < r.f.l.bodies - r.f.l.blocks = rw (← c.blocks-k-end.ensures) c.loop-k-test.true in
     let all = judged_in r.targets.now r.ws.now r.f.l in
-    let e = c.read_block-t.ensures ∙ ap (λ (cs : List Code). all l.t (reads_in rs r.f.l (placed_in l.k 0 cs))) c.part.ensures.code in
+    let p = c.part.ensures in
+    let e = rw (← p.number) c.read_block-t.ensures ∙ ap (λ (cs : List Code). all l.t (reads_in rs r.f.l (placed_in l.k 0 cs))) p.part.code in
     let more = ap (λ (u : Option Reg). all u (reads_in rs r.f.l (placed_from (l.k + 1) (drop (l.k + 1) (blocks_in rs r.f.l))))) e in
     let step = judged-block (edges_in r.targets.now) r.f.l.blocks r.ws.now (operands_in rs r.f.l) (block_code rs r.f.l) in
     more ∙ step (block_records rs r.f.l) l.k l.t (rw (blocks-length r.f.fit) i) ∙ l.invariant

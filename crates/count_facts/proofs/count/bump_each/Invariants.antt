@@ -1,8 +1,0 @@
-use Rattle.std.proofs.Common.{◌≡◌, drop}
-use Rattle.roles.specs.Roles.{numbers_of}
-use Rattle.count_facts.specs.Filling.{over, counted}
-use Rattle.count_facts.proofs.count.bump_each.Given as goal
-
-abbrev pub invariant-loop-r : goal.invariant-loop-r
-invariant-loop-r l =
-    over (counted l.j l.most) l.table (drop l.r-index (numbers_of l.regs)) ≡ over (counted l.j l.most) l.fn.table (numbers_of l.regs)
