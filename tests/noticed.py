@@ -90,7 +90,7 @@ IMPORTS = [
      "`mathlib.Core.Nowhere.◌∙◌` leads nowhere"),
     ("crates/gate/src/lib.rt", "ghost use Rattle.std.specs.Prelude.{", "ghost use Rattle.std.specs.Prelude.{absent, ",
      "`Rattle.std.specs.Prelude.absent` leads nowhere"),
-    ("crates/record_rules/src/fit.rt", "TheConstants.{LISTED, ", "TheConstants.{ABSENT, ",
+    ("crates/record_rules/specs/Work.antt", "fit.TheConstants.{FIRST, ", "fit.TheConstants.{ABSENT, ",
      "`Rattle.record_rules.specs.declared.fit.TheConstants.ABSENT` leads nowhere"),
     ("crates/real/specs/Real.antt", "(Nan b) (Number", "(Unknown b) (Number",
      "the name `Unknown` leads nowhere"),

@@ -4,10 +4,11 @@
     tests/edits/facts.py [CRATE...]
 
 rt tells the first lines of each. If they name no fact, the edit is tried as tests/edits/try.py does, unless tried.txt has that of
-the crate as it is. Fails if rt said nothing of an edit, if the edit wasn't refused, or if nothing but a misfit of a proof file
-with the code is told.
+the crate as it is; RT_JOBS edits at a time (default 2). Fails if rt said nothing of an edit, if the edit wasn't refused, or if
+nothing but a misfit of a proof file with the code is told.
 """
 
+import concurrent.futures
 import glob
 import importlib
 import os
@@ -31,8 +32,12 @@ def told():
         return {}
 
 
-def judged(crate, edit, said, scratch):
-    """Why the edit was refused, and whether that is a fact."""
+def names(edit):
+    return edit.split("/")[1], os.path.basename(edit)[: -len(".edit")]
+
+
+def judged(crate, said):
+    """Why the edit was refused, and whether that is a fact; None if it has to be tried."""
     if not said.startswith(REFUSED):
         return said or "rt said nothing of it", False
     found = fact(said[len(REFUSED):].lstrip(": "))
@@ -40,24 +45,29 @@ def judged(crate, edit, said, scratch):
         return found
     if trial.tried().get(crate) == trial.digest(crate):
         return "at a fact, when tests/edits/try.py tried it", True
-    why = trial.prove(crate)
-    good, line = (False, why) if why else trial.attempt(edit, scratch)
-    return line.partition(": ")[2], good
+    return None
+
+
+def tried(edits):
+    """The same of those that have to be tried."""
+    for crate in dict.fromkeys(names(edit)[0] for edit in edits):
+        why = trial.prove(crate)
+        if why:
+            sys.exit(f"{why}\nedits: {crate} is not proved")
+    with tempfile.TemporaryDirectory() as scratch, concurrent.futures.ThreadPoolExecutor(int(os.environ.get("RT_JOBS", "2"))) as pool:
+        for edit, (good, line) in zip(edits, pool.map(lambda edit: trial.attempt(edit, scratch), edits)):
+            yield edit, (line.partition(": ")[2], good)
 
 
 def main():
-    faults = tried = 0
-    all_said = told()
-    with tempfile.TemporaryDirectory() as scratch:
-        for edit in sorted(glob.glob("crates/*/must-fail/*.edit")):
-            crate, label = edit.split("/")[1], os.path.basename(edit)[: -len(".edit")]
-            if sys.argv[1:] and crate not in sys.argv[1:]:
-                continue
-            said, good = judged(crate, edit, all_said.get((crate, label), ""), scratch)
-            tried += 1
-            faults += not good
-            print(f"{'' if good else 'FAULT '}{crate}/{label}: {said[:200]}", flush=True)
-    print(f"{tried} edits, {faults} without a fact")
+    said = told()
+    edits = [e for e in sorted(glob.glob("crates/*/must-fail/*.edit")) if names(e)[0] in (sys.argv[1:] or [names(e)[0]])]
+    known = {edit: judged(names(edit)[0], said.get(names(edit), "")) for edit in edits}
+    known.update(tried([edit for edit, why in known.items() if why is None]))
+    for edit, (why, good) in known.items():
+        print(f"{'' if good else 'FAULT '}{'/'.join(names(edit))}: {why[:200]}", flush=True)
+    faults = sum(not good for _, good in known.values())
+    print(f"{len(edits)} edits, {faults} without a fact")
     return 1 if faults else 0
 
 

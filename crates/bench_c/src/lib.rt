@@ -19,6 +19,7 @@ ghost use Rattle.bench_c.specs.Forms.{answer_of, sent as sentOf, form_of};
 use blocks::Blocks;
 use output::{Changes, Form};
 use read::Refusal;
+use run::Begin;
 use steps::Shortening;
 
 // How far `run` got before Emit.
@@ -50,9 +51,13 @@ pub extern "C" fn halivomue_run(
         ≡ ran_in (first_of (map (λ r. r.p1) (records_of body.now))) (length known.old) (length copy.old)
         operands.now registers.now n work.old table.old kinds.old facts.old }
 {
-    let pause = shortening::pause_of(body);
+    let begin = Begin {
+        pause: shortening::pause_of(body),
+        n,
+        is_open: false,
+    };
     let r = run::run(
-        work, table, kinds, known, copy, facts, operands, registers, pause, n,
+        work, table, kinds, known, copy, facts, operands, registers, begin,
     );
     let at = r.at;
     HalivomueRan {

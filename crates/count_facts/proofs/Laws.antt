@@ -1,34 +1,16 @@
--- Laws of counting up a table, one register more, and of walking a list to its end.
+-- Laws of walking a list to its end.
 use Prim.Native.Nat.{ℕ, suc, ◌+◌, ◌/◌, ◌≤◌, ◌<◌}
 use native.Mathlib.Numerals.{add-one}
 use native.Mathlib.Omega.{arith}
 use mathlib.Core.Path.{◌≡◌, refl, sym, ap, ◌∙◌}
-use mathlib.Core.Bool.{Bool, cond}
 use mathlib.Core.List.{List, [], ◌∷◌, ◌++◌}
-use borrow.Author.Tests.{lt-ltb, le-ltb}
-use lib.Dec.{ltb}
-use lib.ListN.{length, get_or, drop, set, take, length-take, length-drop, length-map, drop_of_length-le, get_or-eq_default, get_or-map}
+use lib.ListN.{length, get_or, drop, take, length-take, length-drop, length-map, drop_of_length-le, get_or-map}
 use lib.Seq.{drop-cons, get_or-take, get_or-drop}
 use Rattle.records.specs.declared.Record.{Record}
 use Rattle.records.specs.Record.{records_of, record_at, blank}
 use Rattle.records.proofs.Laws.{length_records}
 use Rattle.facts.specs.Storage.{operands_in, kinds_of}
-use Rattle.general.proofs.Lists.{get_d_any}
-use Rattle.count_facts.specs.Filling.{over, bumped}
-
-module _ (cap : ℕ) (l : List ℕ) (r : ℕ) where
-  by : {b : Bool} → ltb (get_or l r cap) cap ≡ b → cond b (set l r (get_or l r 0 + 1)) l ≡ bumped cap l r
-  unfolding bumped
-  by e = ap (λ (t : Bool). cond t (set l r (get_or l r 0 + 1)) l) (sym e)
-
-  pub bump_more : r < length l → get_or l r 0 < cap → set l r (get_or l r 0 + 1) ≡ bumped cap l r
-  bump_more h i = by (lt-ltb (get_or l r cap) cap (rw (get_d_any l r cap 0 h) i))
-
-  pub bump_full : r < length l → cap ≤ get_or l r 0 → l ≡ bumped cap l r
-  bump_full h i = by (le-ltb (get_or l r cap) cap (rw (get_d_any l r cap 0 h) i))
-
-  pub bump_past : length l ≤ r → l ≡ bumped cap l r
-  bump_past h = by (le-ltb (get_or l r cap) cap (let e = get_or-eq_default l cap h in omega arith))
+use Rattle.count_facts.specs.Filling.{over}
 
 -- what is left from place k on gives w in the end
 module _ {S A : Type 0} (f : S → A → S) (l : List A) (k : ℕ) {s w : S} where

@@ -1,5 +1,5 @@
 pub mod Laws
 pub mod Begun
-pub mod Classed
 pub mod Totals
+pub mod Classed
 pub mod Filled

@@ -1,4 +1,4 @@
--- Counting gives the totals of the definition in two columns, each up to its most, and leaves the others.
+-- Counting some registers in a column gives their totals, up to its most, and leaves the other columns.
 use Prim.Native.Nat.{ℕ, ◌+◌, ◌*◌, ◌≤◌, ◌<◌, min}
 use native.Mathlib.Omega.{arith}
 use mathlib.Core.Path.{◌≡◌, refl, ◌∙◌}
@@ -6,47 +6,28 @@ use mathlib.Core.Bool.{Bool, true, false, cond}
 use mathlib.Core.List.{List, [], ◌∷◌}
 use borrow.Author.Tests.{ltb-true, ltb-false, eqb-true, eqb-false}
 use lib.Dec.{ltb, eqb}
-use lib.ListN.{length, get_or, set, length-set}
+use lib.ListN.{length, get_or, length-set}
 use lib.Seq.{get_or-set_same, get_or-set_other}
-use Rattle.inst.specs.declared.Code.{Code}
-use Rattle.roles.specs.Roles.{defs_of, reads_of}
 use Rattle.procedure.specs.Lists.{times}
-use Rattle.procedure.specs.Counts.{writes_in, use_count}
-use Rattle.facts.specs.Storage.{cap}
-use Rattle.general.proofs.Lists.{get_d_any}
-use Rattle.count_facts.specs.Filling.{over, bumped, counted, count_code}
+use Rattle.count_facts.specs.Filling.{over, bumped, counted}
 
 -- one more at a place
 module _ (most : ℕ) (l : List ℕ) (at : ℕ) where
   bumped-length : length (bumped most l at) ≡ length l
   unfolding bumped
-  bumped-length = by (ltb (get_or l at most) most)
-    where
-      by : (b : Bool) → length (cond b (set l at (get_or l at 0 + 1)) l) ≡ length l
-      by true = length-set l at (get_or l at 0 + 1)
-      by false = refl
+  bumped-length = length-set l at (get_or l at 0 + cond (ltb (get_or l at 0) most) 1 0)
 
   bumped-other : (k : ℕ) → (k ≡ at → ⊥) → get_or (bumped most l at) k 0 ≡ get_or l k 0
   unfolding bumped
-  bumped-other k h = by (ltb (get_or l at most) most)
-    where
-      by : (b : Bool) → get_or (cond b (set l at (get_or l at 0 + 1)) l) k 0 ≡ get_or l k 0
-      by true = get_or-set_other l at k (get_or l at 0 + 1) 0 h
-      by false = refl
+  bumped-other k h = get_or-set_other l at k (get_or l at 0 + cond (ltb (get_or l at 0) most) 1 0) 0 h
 
   bumped-same : at < length l → get_or l at 0 ≤ most → get_or (bumped most l at) at 0 ≡ min most (get_or l at 0 + 1)
   unfolding bumped
-  bumped-same h i = by (ltb (get_or l at most) most) refl
+  bumped-same h i = get_or-set_same l at (get_or l at 0 + cond (ltb (get_or l at 0) most) 1 0) 0 h ∙ by (ltb (get_or l at 0) most) refl
     where
-      by : (b : Bool) → ltb (get_or l at most) most ≡ b → get_or (cond b (set l at (get_or l at 0 + 1)) l) at 0 ≡ min most (get_or l at 0 + 1)
-      by true t =
-          let less = ltb-true (get_or l at most) most t in
-          let e = get_d_any l at most 0 h in
-          get_or-set_same l at (get_or l at 0 + 1) 0 h ∙ omega arith
-      by false t =
-          let full = ltb-false (get_or l at most) most t in
-          let e = get_d_any l at most 0 h in
-          omega arith
+      by : (b : Bool) → ltb (get_or l at 0) most ≡ b → get_or l at 0 + cond b 1 0 ≡ min most (get_or l at 0 + 1)
+      by true t = let less = ltb-true (get_or l at 0) most t in omega arith
+      by false t = let full = ltb-false (get_or l at 0) most t in omega arith
 
 -- one column
 module _ (j most : ℕ) where
@@ -82,46 +63,3 @@ module _ (j most : ℕ) where
           let one = bumped-other most t (5 * x + j) (5 * r + j) (λ q. i (omega arith)) in
           let rest = ih (omega arith) in
           omega arith
-
--- the instructions in turn
-module _ (ops : List ℕ) where
-  step-length : (t : List ℕ) (x : Code) → length (count_code ops t x) ≡ length t
-  step-length t x =
-      over-length 2 cap (over (counted 1 255) t (defs_of x.inst)) (reads_of ops x.inst)
-      ∙ over-length 1 255 t (defs_of x.inst)
-
-  pub counts-length : (t : List ℕ) (c : List Code) → length (over (count_code ops) t c) ≡ length t
-  unfolding over
-  counts-length t [] = refl
-  counts-length t (x ∷ c) = counts-length (count_code ops t x) c ∙ step-length t x
-
-  pub counts-other : (t : List ℕ) (c : List Code) (r i : ℕ) → i < 5 → (i ≡ 1 → ⊥) → (i ≡ 2 → ⊥) →
-      get_or (over (count_code ops) t c) (5 * r + i) 0 ≡ get_or t (5 * r + i) 0
-  unfolding over
-  counts-other t [] r i h m n = refl
-  counts-other t (x ∷ c) r i h m n =
-      counts-other (count_code ops t x) c r i h m n
-      ∙ over-other 2 cap (over (counted 1 255) t (defs_of x.inst)) (reads_of ops x.inst) r i h (omega arith) n
-      ∙ over-other 1 255 t (defs_of x.inst) r i h (omega arith) m
-
-  pub counts-defs : (t : List ℕ) (c : List Code) (r : ℕ) → 5 * r + 4 < length t → get_or t (5 * r + 1) 0 ≤ 255 →
-      get_or (over (count_code ops) t c) (5 * r + 1) 0 ≡ min 255 (get_or t (5 * r + 1) 0 + writes_in c r)
-  unfolding over writes_in
-  counts-defs t [] r h m = omega arith
-  counts-defs t (x ∷ c) r h m =
-      let mine = over-same 1 255 t (defs_of x.inst) r (omega arith) m in
-      let kept = over-other 2 cap (over (counted 1 255) t (defs_of x.inst)) (reads_of ops x.inst) r 1 (omega arith) (omega arith) (λ q. omega arith) in
-      let rest = counts-defs (count_code ops t x) c r (rw (step-length t x) h) (omega arith) in
-      omega arith
-
-  pub counts-uses : (t : List ℕ) (c : List Code) (r : ℕ) → 5 * r + 4 < length t → get_or t (5 * r + 2) 0 ≤ cap →
-      get_or (over (count_code ops) t c) (5 * r + 2) 0 ≡ min cap (get_or t (5 * r + 2) 0 + use_count ops c r)
-  unfolding over use_count
-  counts-uses t [] r h m = omega arith
-  counts-uses t (x ∷ c) r h m =
-      let front = over (counted 1 255) t (defs_of x.inst) in
-      let kept = over-other 1 255 t (defs_of x.inst) r 2 (omega arith) (omega arith) (λ q. omega arith) in
-      let long = over-length 1 255 t (defs_of x.inst) in
-      let mine = over-same 2 cap front (reads_of ops x.inst) r (omega arith) (omega arith) in
-      let rest = counts-uses (count_code ops t x) c r (rw (step-length t x) h) (omega arith) in
-      omega arith

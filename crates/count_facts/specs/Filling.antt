@@ -1,5 +1,5 @@
 -- Storage, not the paper's: how the private functions fill the table, step by step.
-use Rattle.std.specs.Prelude.{ℕ, ◌+◌, ◌*◌, List, [], ◌∷◌, Bool, ◌&&◌, cond, not, eqb, ltb, length, get_or, set, Option, Some, None}
+use Rattle.std.specs.Prelude.{ℕ, ◌+◌, ◌*◌, List, [], ◌∷◌, ◌&&◌, cond, not, eqb, ltb, length, get_or, set}
 use Rattle.inst.specs.declared.Code.{Code}
 use Rattle.inst.specs.declared.Inst.{Inst}
 use Rattle.roles.specs.Roles.{defs_of, reads_of}
@@ -17,7 +17,7 @@ bare kinds r = get_or kinds r 0 ∷ 0 ∷ 0 ∷ 0 ∷ 0 ∷ []
 
 -- one more at a place, up to a limit; a place that the table doesn't have is skipped
 unfoldable pub bumped : ℕ → List ℕ → ℕ → List ℕ
-bumped most t at = cond (ltb (get_or t at most) most) (set t at (get_or t at 0 + 1)) t
+bumped most t at = set t at (get_or t at 0 + cond (ltb (get_or t at 0) most) 1 0)
 
 -- one more in column j of a register's row
 abbrev pub counted : ℕ → ℕ → List ℕ → ℕ → List ℕ
@@ -27,23 +27,12 @@ counted j most t r = bumped most t (5 * r + j)
 abbrev pub count_inst : List ℕ → List ℕ → Inst → List ℕ
 count_inst ops t x = over (counted 2 cap) (over (counted 1 255) t (defs_of x)) (reads_of ops x)
 
-abbrev pub count_code : List ℕ → List ℕ → Code → List ℕ
-count_code ops t x = count_inst ops t x.inst
-
--- a register with a whole row, counted once, whose class passes a test
-abbrev pub ready : List ℕ → ℕ → (ℕ → Bool) → Bool
-ready t d p = ltb (5 * d + 4) (length t) && (eqb (get_or t (5 * d + 1) 0) 1 && p (get_or t (5 * d + 3) 0))
-
--- a Const of a register, if it is the first; a ConstF or AddrOf
+-- a Const of a register, unless there was one before; a ConstF or AddrOf, unless the register has a class
 unfoldable pub with_word : List ℕ → ℕ → ℕ → List ℕ
-with_word t d v = cond (ready t d (λ k. not (eqb k 1))) (set (set t (5 * d + 3) 1) (5 * d + 4) v) t
+with_word t d v = cond (ltb (5 * d + 4) (length t) && not (eqb (get_or t (5 * d + 3) 0) 1)) (set (set t (5 * d + 3) 1) (5 * d + 4) v) t
 
 unfoldable pub with_konst : List ℕ → ℕ → List ℕ
-with_konst t d = cond (ready t d (λ k. eqb k 0)) (set t (5 * d + 3) 2) t
-
-abbrev pub with_constant : List ℕ → ℕ → Option ℕ → List ℕ
-with_constant t d (Some v) = with_word t d v
-with_constant t d None = with_konst t d
+with_konst t d = cond (eqb (get_or t (5 * d + 3) 0) 0) (set t (5 * d + 3) 2) t
 
 -- what one instruction says about the class of the register that it writes
 abbrev pub class_in : List ℕ → Form → List ℕ
@@ -59,5 +48,9 @@ class_in t other = t
 unfoldable pub class_step : List ℕ → Inst → List ℕ
 class_step t x = class_in t (form_of x)
 
-abbrev pub class_code : List ℕ → Code → List ℕ
-class_code t x = class_step t x.inst
+-- what one instruction adds to the counts and to the classes
+abbrev pub fact_step : List ℕ → List ℕ → Inst → List ℕ
+fact_step ops t x = class_step (count_inst ops t x) x
+
+abbrev pub fact_code : List ℕ → List ℕ → Code → List ℕ
+fact_code ops t x = fact_step ops t x.inst

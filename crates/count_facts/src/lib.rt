@@ -19,7 +19,6 @@ fn fill(code: &[u8], operands: &[u8], registers: &[u8], kinds: &[u8], table: &mu
 {
     start::start(registers, kinds, table);
     count::count(code, operands, table);
-    class::class(code, table);
 }
 
 // The facts of some code, with its operand and register records and the kinds of the new registers after these: five words for

@@ -3,7 +3,7 @@ use Prim.Native.Nat.{ℕ, zero, suc, ◌+◌, ◌<◌}
 use native.Mathlib.Omega.{arith}
 use native.Mathlib.Numerals.{add-one}
 use mathlib.Core.Path.{◌≡◌, refl, sym, ap, ◌∙◌}
-use mathlib.Core.Bool.{false}
+use mathlib.Core.Bool.{Bool, true, false, true≢false}
 use mathlib.Core.List.{List, []}
 use lib.Dec.{eqb}
 use lib.ListN.{length, get_or}
@@ -11,10 +11,12 @@ use Rattle.inst.specs.declared.BlockId.{BlockId}
 use Rattle.inst.specs.declared.Code.{Code}
 use Rattle.codec.specs.Codec.{block_of}
 use Rattle.ends.specs.declared.End.{End}
-use Rattle.ends.specs.Ends.{lone_of}
+use Rattle.ends.specs.declared.End.TheVariants as e
+use Rattle.ends.specs.Ends.{end_of, lone_of}
+use Rattle.blocks.specs.Blocks.{blocks_of}
 use Rattle.blocks.proofs.Ends.{not_lone}
 use Rattle.steps.specs.EqualArms as g
-use Rattle.equal_arms.specs.Joined.{Joined, join_arms, join_from}
+use Rattle.equal_arms.specs.Joined.{Joined, join_if, join_end, join_arms, join_from}
 
 pub follow_step : (P : List (List Code)) (n b : ℕ) → g.follow (suc n) P b ≡ g.follow n P (g.past b (lone_of (get_or P b [])))
 unfolding g.follow
@@ -52,3 +54,26 @@ pub from_all : (table : List ℕ) (s : Joined) (n : ℕ) → ((k : ℕ) → k < 
 unfolding join_from
 from_all table s n h zero k e = refl
 from_all table s n h (suc m) k e = from_pass table k s {n = m} refl (h k (omega arith)) ∙ from_all table s n h m (k + 1) (omega arith)
+
+-- where nothing was joined, all is as it was
+module _ (table : List ℕ) where
+  joined-if : (b : Bool) (k to : ℕ) (s : Joined) → (join_if table b k to s).edited ≡ false → join_if table b k to s ≡ s
+  joined-if true k to s h = absurd (true≢false h)
+  joined-if false k to s h = refl
+
+  joined-end : (x : End) (k : ℕ) (s : Joined) → (join_end table x k s).edited ≡ false → join_end table x k s ≡ s
+  joined-end (e.Br to) k s h = refl
+  joined-end (e.CondBr c t f) k s h = joined-if _ k _ s h
+  joined-end (e.Case n) k s h = refl
+  joined-end e.Other k s h = refl
+
+  joined-arms : (k : ℕ) (s : Joined) → (join_arms table k s).edited ≡ false → join_arms table k s ≡ s
+  unfolding join_arms
+  joined-arms k s h = joined-end (end_of (get_or (blocks_of s.code table) k [])) k s h
+
+  pub none-joined : (n k : ℕ) (s : Joined) → (join_from table n k s).edited ≡ false → join_from table n k s ≡ s
+  unfolding join_from
+  none-joined zero k s h = refl
+  none-joined (suc n) k s h =
+      let rest = none-joined n (suc k) (join_arms table k s) h in
+      rest ∙ joined-arms k s (ap (λ (z : Joined). z.edited) (sym rest) ∙ h)

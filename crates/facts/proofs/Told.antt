@@ -14,7 +14,7 @@ use Rattle.ends.specs.Forms.{Fixed, word, real, address, varying, fixed_of}
 use Rattle.procedure.specs.Lists.{any_of, or_else, value_or, present}
 use Rattle.procedure.specs.Counts.{writes_in, singly, use_count}
 use Rattle.steps.specs.Facts.{Facts, writes, word_of, bound, const_in, const_of, konst_of, facts_of}
-use Rattle.facts.specs.Storage.{rows, row_of, class_of, cap, table_of, cell, kinds_in, single_in, uses_in, const_at, konst_at, facts_in}
+use Rattle.facts.specs.Storage.{rows, row_of, konst_in, class_of, cap, table_of, cell, kinds_in, single_in, uses_in, const_at, konst_at, facts_in}
 use Rattle.facts.proofs.Rows.{rows-length, rows_at, cell_in, cell-past, kinds-length, tabled-at}
 
 -- facts are equal where each of them is
@@ -31,23 +31,12 @@ facts_eq f g registers single uses const konst body budget =
       budget = budget i;
     }
 
--- a class and a word say what they were made of
-class-const : (o : Option ℕ) (k : Bool) → cond (eqb (class_of o k) 1) (Some (value_or 0 o)) None ≡ o
-class-const (Some v) k = refl
-class-const None true = refl
-class-const None false = refl
-
-class-konst : (o : Option ℕ) (k : Bool) → not (eqb (class_of o k) 0) ≡ (present o || k)
-class-konst (Some v) k = refl
-class-konst None true = refl
-class-konst None false = refl
-
 -- who has a constant is a konst
 module _ (r : ℕ) where
   abbrev bounds : Code → Bool
   bounds x = writes r x.inst && bound (fixed_of x.inst)
 
-  const-bound : (c : List Code) → (present (const_in c r) || any_of bounds c) ≡ any_of bounds c
+  const-bound : (c : List Code) → (present (const_in c r) || konst_in c r) ≡ konst_in c r
   unfolding const_in any_of
   const-bound [] = refl
   const-bound (x ∷ c) = by (writes r x.inst) (fixed_of x.inst) (const-bound c)
@@ -61,25 +50,22 @@ module _ (r : ℕ) where
       by true (address false) e = or-true (present (const_in c r))
       by true varying e = e
 
-  const-konst : (c : List Code) → (present (const_of c r) || konst_of c r) ≡ konst_of c r
-  unfolding const_of konst_of
-  const-konst c = by (singly c r)
-    where
-      by : (s : Bool) → (present (cond s (const_in c r) None) || (s && any_of bounds c)) ≡ (s && any_of bounds c)
-      by true = const-bound c
-      by false = refl
+-- a class and a word say what they were made of, if the register is singly written (s)
+class-const : (s : Bool) (o : Option ℕ) (k : Bool) → cond (s && eqb (class_of o k) 1) (Some (value_or 0 o)) None ≡ cond s o None
+class-const false o k = refl
+class-const true (Some v) k = refl
+class-const true None true = refl
+class-const true None false = refl
 
-  -- a register that is never written is neither
-  never_single : (c : List Code) → writes_in c r ≡ 0 → singly c r ≡ false
-  never_single c e = rw e
+class-konst : (s : Bool) (o : Option ℕ) (k : Bool) → (present o || k) ≡ k → (s && not (eqb (class_of o k) 0)) ≡ (s && k)
+class-konst false o k e = refl
+class-konst true (Some v) k e = e
+class-konst true None true e = refl
+class-konst true None false e = refl
 
-  never_const : (c : List Code) → writes_in c r ≡ 0 → const_of c r ≡ None
-  unfolding const_of
-  never_const c e = rw (never_single c e)
-
-  never_konst : (c : List Code) → writes_in c r ≡ 0 → konst_of c r ≡ false
-  unfolding konst_of
-  never_konst c e = rw (never_single c e)
+-- a register that is never written is not singly written
+never_single : (r : ℕ) (c : List Code) → writes_in c r ≡ 0 → singly c r ≡ false
+never_single r c e = rw e
 
 -- five words for each register, kinds as in a file, no register past them named, and counts within the cap
 module _ (t kinds ops : List ℕ) (c : List Code) (long : length t ≡ 5 * length kinds)
@@ -130,7 +116,7 @@ module _ (t kinds ops : List ℕ) (c : List Code) (long : length t ≡ 5 * lengt
       tabled-at (λ k. min 5 (get_or table (5 * k + 0) 0)) (length table / 5) 0 r (rw count h') ∙ omega arith)
 
   pub told : (body : Option ℕ) → facts_in (table_of t kinds ops c) body (length c / 2 + 32) ≡ facts_of kinds ops body c
-  unfolding facts_of single_in uses_in const_at konst_at
+  unfolding facts_of single_in uses_in const_at konst_at const_of konst_of
   told body =
       let table = table_of t kinds ops c in
       facts_eq (facts_in table body (length c / 2 + 32)) (facts_of kinds ops body c)
@@ -142,10 +128,10 @@ module _ (t kinds ops : List ℕ) (c : List Code) (long : length t ≡ 5 * lengt
       (λ r h. here r 2 h (omega arith) ∙ (let m = capped r in omega arith))
       (λ r h. past r 2 h ∙ sym (unread r h)))
       (each (λ r. const_at table r ≡ const_of c r)
-      (λ r h. rw (here r 3 h (omega arith), here r 4 h (omega arith)) (class-const (const_of c r) (konst_of c r)))
-      (λ r h. ap (λ (n : ℕ). cond (eqb n 1) (Some (cell table r 4 0)) None) (past r 3 h) ∙ sym (never_const r c (unwritten r h))))
+      (λ r h. rw (here r 1 h (omega arith), here r 3 h (omega arith), here r 4 h (omega arith)) (class-const (singly c r) (const_in c r) (konst_in c r)))
+      (λ r h. rw (past r 1 h, never_single r c (unwritten r h))))
       (each (λ r. konst_at table r ≡ konst_of c r)
-      (λ r h. ap (λ (n : ℕ). not (eqb n 0)) (here r 3 h (omega arith)) ∙ class-konst (const_of c r) (konst_of c r) ∙ const-konst r c)
-      (λ r h. ap (λ (n : ℕ). not (eqb n 0)) (past r 3 h) ∙ sym (never_konst r c (unwritten r h))))
+      (λ r h. rw (here r 1 h (omega arith), here r 3 h (omega arith)) (class-konst (singly c r) (const_in c r) (konst_in c r) (const-bound r c)))
+      (λ r h. rw (past r 1 h, never_single r c (unwritten r h))))
       refl
       refl

@@ -22,9 +22,9 @@ pub const CLASS: usize = 3;
 
 pub const VALUE: usize = 4;
 
-// The classes of a register that one field of the code writes: by a Const, whose v is the row's value, or by a ConstF or a
-// non-Up AddrOf. Any other register has class 0. A class is a word of the table: an enum would have to be made from that word
-// at each test, and turned into it at each write.
+// The classes of a register, whatever else writes it: a Const does, and the first one's v is the row's value, or no Const, but a
+// ConstF or a non-Up AddrOf. Any other register has class 0. The class counts only if one field of the code writes the register.
+// It is a word of the table: an enum would have to be made from that word at each test, and turned into it at each write.
 pub const BY_CONST: u64 = 1;
 
 pub const BY_OTHER: u64 = 2;
@@ -70,12 +70,14 @@ pub fn kind_of(table: &[u64], r: Reg) -> Option<u8>
 }
 
 // Whether exactly one field of the code writes it.
+#[tactic(auto, unfolding(crate::specs::Storage::single_in))]
 pub fn is_single(table: &[u64], r: Reg) -> bool
     ensures { result ≡ single_in table.now r.0 }
 {
     cell_of(table, r, DEFINITIONS) == 1
 }
 
+#[tactic(auto, unfolding(crate::specs::Storage::uses_in))]
 pub fn uses_of(table: &[u64], r: Reg) -> u64
     ensures { result ≡ uses_in table.now r.0 }
 {
@@ -83,18 +85,20 @@ pub fn uses_of(table: &[u64], r: Reg) -> u64
 }
 
 // The Rust's kc: the v of a register that only a Const writes.
+#[tactic(auto, unfolding(crate::specs::Storage::const_at))]
 pub fn const_of(table: &[u64], r: Reg) -> Option<u64>
     ensures { result ≡ const_at table.now r.0 }
 {
-    if cell_of(table, r, CLASS) == BY_CONST {
+    if cell_of(table, r, CLASS) == BY_CONST && is_single(table, r) {
         return Some(cell_of(table, r, VALUE));
     }
     None
 }
 
 // The Rust's kdef: whether only one Const, ConstF or non-Up AddrOf writes the register.
+#[tactic(auto, unfolding(crate::specs::Storage::konst_at))]
 pub fn is_konst(table: &[u64], r: Reg) -> bool
     ensures { result ≡ konst_at table.now r.0 }
 {
-    cell_of(table, r, CLASS) != 0
+    cell_of(table, r, CLASS) != 0 && is_single(table, r)
 }

@@ -110,7 +110,7 @@ names-from n p (r ∷ rs) s = by (names-from n r.class rs (tail_in p r rs s)) (c
         rw (z, zero-add)
 
 -- blocks that tile lie within the code
-tiles-in : (n : ℕ) (s : State) (r : Record) → tiles n s r ≡ true → (r.p1 < r.p2) × (r.p2 ≤ n)
+pub tiles-in : (n : ℕ) (s : State) (r : Record) → tiles n s r ≡ true → (r.p1 < r.p2) × (r.p2 ≤ n)
 unfolding tiles
 tiles-in n s r e =
     let f = and_second (eqb r.p1 s.0) _ e in

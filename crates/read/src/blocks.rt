@@ -1,9 +1,9 @@
-ghost use Rattle.std.specs.Prelude.{◌≡◌, [], ◌∷◌, not, ◌≤◌, ◌<◌, eqb};
+ghost use Rattle.std.specs.Prelude.{◌≡◌, [], ◌∷◌, not, ◌≤◌, ◌<◌, eqb, count_by};
 ghost use Rattle.layout.specs.Walk.{lead};
 ghost use Rattle.read.specs.Structure.{tiles as tilesAfter, tiled, terminator as isTerminator, code_of, ended, ends_well};
 ghost use Rattle.read.specs.Reading.{answer, unless};
 ghost use Rattle.read.specs.Refusal.{reading_of};
-ghost use Rattle.read.specs.Work.{InCode};
+ghost use Rattle.read.specs.Work.{InCode, closes};
 ghost use Rattle.read.specs.Spans.{spanned};
 
 use crate::span::Span;
@@ -71,8 +71,8 @@ fn code_of<'a>(code: Span<'a>, block: Record) -> Span<'a>
     }
 }
 
-// Whether each of the blocks ends in its only terminator; else the first that doesn't is refused.
-pub fn ended_blocks(blocks: Span, code: Span) -> Result<(), Refusal>
+// The first block that doesn't end in its only terminator is refused.
+fn first_wrong_end(blocks: Span, code: Span) -> Result<(), Refusal>
     requires { InCode code.count (spanned blocks) }
     ensures { reading_of result ≡ unless 5 blocks.entry.first (ended (spanned code.entry) (spanned blocks.entry)) blocks.entry.count (answer 0 0) }
 {
@@ -82,4 +82,46 @@ pub fn ended_blocks(blocks: Span, code: Span) -> Result<(), Refusal>
         }
     }
     Ok(())
+}
+
+// How many of the instructions are terminators. The end is at most the file's, and the `min` says so to LLVM, which then asks of no
+// record whether it is there.
+fn terminators(code: Span) -> u32
+    ensures { result ≡ count_by isTerminator (spanned code.entry) }
+{
+    let end = (code.first + code.count).min(code.b.len() / 32);
+    let mut n = 0;
+    for k in code.first..end {
+        n += u32::from(terminator(records::record_at(code.b, k)));
+    }
+    n
+}
+
+// Whether the last instruction of each block is a terminator.
+fn each_ends(blocks: Span, code: Span) -> bool
+    requires { InCode code.count (spanned blocks) }
+    ensures { result ≡ eqb (lead (closes (spanned code.entry)) (spanned blocks.entry)) blocks.entry.count }
+{
+    for k in 0..blocks.count {
+        let last = blocks.at(k).p2 as usize - 1;
+        if !terminator(code.at(last)) {
+            return false;
+        }
+    }
+    true
+}
+
+// Whether each of the blocks ends in its only terminator; else the first that doesn't is refused.
+// Blocks that tile the code do if each ends in a terminator and the code has no more terminators than blocks. That is asked first: a
+// processor predicts those branches, but not where a walk to a block's first terminator ends. Not inlined: all of Read in one
+// function has too few registers, and drawn files of 240 instructions then take 3.2 % more instructions.
+#[inline(never)]
+pub fn ended_blocks(blocks: Span, code: Span) -> Result<(), Refusal>
+    requires { blocks.count ≤ tiled code.count (spanned blocks) }
+    ensures { reading_of result ≡ unless 5 blocks.entry.first (ended (spanned code.entry) (spanned blocks.entry)) blocks.entry.count (answer 0 0) }
+{
+    if terminators(code) as usize == blocks.count && each_ends(blocks, code) {
+        return Ok(());
+    }
+    first_wrong_end(blocks, code)
 }

@@ -1,23 +1,21 @@
 -- Laws of the tests of a record's places.
-use Prim.Native.Nat.{ℕ, zero, suc, ◌+◌, ◌≤◌, ◌<◌}
-use native.Mathlib.Nat.{zero-add, suc-add, eq-or-lt_of_le}
+use Prim.Native.Nat.{ℕ, zero, suc, ◌+◌, ◌*◌, ◌/◌, ◌%◌, ◌≤◌, ◌<◌}
+use native.Mathlib.Nat.{zero-add, suc-add}
 use mathlib.Core.Logic.{◌⊎◌, inl, inr, ⊎_elim}
 use native.Mathlib.Omega.{arith}
 use mathlib.Core.Path.{◌≡◌, refl, sym, ap, subst, ◌∙◌}
-use mathlib.Core.Bool.{Bool, true, false, ◌&&◌, cond, and-true}
+use mathlib.Core.Bool.{Bool, true, false, not, ◌&&◌, ◌||◌, cond, and-true}
 use mathlib.Core.List.{List, [], ◌∷◌}
 use lib.Dec.{leb, ltb, eqb, leb-suc-suc, leb-suc-zero, eqb-suc-zero}
 use borrow.Author.Tests.{lt-ltb, le-ltb, lt-leb, ne_eqb, eq-eqb, eqb-true, eqb-false}
-use lib.ListN.{get_or, get_or-eq_default, drop, drop_of_length-le}
+use lib.ListN.{get_or-eq_default, drop, drop_of_length-le}
 use Rattle.general.proofs.Numbers.{order}
-use Rattle.general.proofs.Lists.{at_rest}
 use Rattle.general.proofs.Booleans.{and_first, and_second}
 pub use Rattle.general.proofs.Booleans.{both, neither}
-pub use Rattle.general.proofs.Lists.{at_key}
 use Rattle.records.specs.declared.Record.{Record}
-use Rattle.records.specs.Kinds.{Place, space_number, instruction_ops, zeros, fields, all_fit, places, kind_count, op_count}
-use Rattle.records.specs.Kinds.{statement_fits, instruction_places, right}
-use Rattle.record_rules.specs.Work.{plain, below, listed_places}
+use Rattle.records.specs.Kinds.{space_number, instruction_ops, zeros, fields, all_fit, places, kind_count, op_count}
+use Rattle.records.specs.Kinds.{statement_fits, right}
+use Rattle.record_rules.specs.Work.{plain}
 use Rattle.record_rules.specs.declared.exist.Counts.{Counts}
 use Rattle.record_rules.specs.Exist.{exist, all_exist, names_exist}
 
@@ -34,12 +32,19 @@ agree f g (suc n) k h e = go (eqb k n) refl (λ i. agree f g n k i (and_second (
     go true q i = subst (λ (j : ℕ). f j ≡ g j) (sym (eqb-true k n q)) (eqb-true (f n) (g n) (and_first (eqb (f n) (g n)) (agrees f g n) e))
     go false q i = let ne = eqb-false k n q in i (omega arith)
 
+-- what holds of six places in each of n rows, by the number of a place
+pub each_place : (P : ℕ → ℕ → Type 0) (n : ℕ) → ((j : ℕ) → j < 6 * n → P (j / 6) (j % 6)) → (k i : ℕ) → k < n → i < 6 → P k i
+each_place P n f k i h s =
+    let row : (6 * k + i) / 6 ≡ k = omega arith in
+    let place : (6 * k + i) % 6 ≡ i = omega arith in
+    subst (λ (x : ℕ). P x i) row (subst (λ (y : ℕ). P ((6 * k + i) / 6) y) place (f (6 * k + i) (omega arith)))
+
 -- a sum is zero where each part is
 eqb_add : (a s : ℕ) → eqb (a + s) 0 ≡ (eqb a 0 && eqb s 0)
 eqb_add zero s = ap (λ (n : ℕ). eqb n 0) (zero-add s)
 eqb_add (suc a) s = ap (λ (n : ℕ). eqb n 0) (suc-add a s) ∙ eqb-suc-zero (a + s) ∙ ap (λ (t : Bool). t && eqb s 0) (sym (eqb-suc-zero a))
 
-together : (a b c d e f : Bool) → (((((a && b) && c) && d) && e) && f) ≡ (a && (b && (c && (d && (e && (f && true))))))
+pub together : (a b c d e f : Bool) → (((((a && b) && c) && d) && e) && f) ≡ (a && (b && (c && (d && (e && (f && true))))))
 together false b c d e f = refl
 together true false c d e f = refl
 together true true false d e f = refl
@@ -51,79 +56,14 @@ pub six_zeros : (a b c d e f : ℕ) → eqb (a + b + c + d + e + f) 0 ≡ zeros 
 six_zeros a b c d e f = rw (eqb_add (a + b + c + d + e) f, eqb_add (a + b + c + d) e, eqb_add (a + b + c) d, eqb_add (a + b) c, eqb_add a b)
     (together (eqb a 0) (eqb b 0) (eqb c 0) (eqb d 0) (eqb e 0) (eqb f 0))
 
--- the places of an instruction, at a kind that is written out
-pub row_at :
-    (r : Record) {k : ℕ} {x : Bool} → r.kind ≡ k → x ≡ all_fit (get_or (instruction_places r.op) k []) (fields r) →
-    x ≡ all_fit (get_or (instruction_places r.op) r.kind []) (fields r)
-row_at r e f = f ∙ ap (λ (l : List Place). all_fit l (fields r)) (at_key (instruction_places r.op) [] e)
-
-pub exist-at :
-    (n : Counts) (r : Record) {k : ℕ} {x : Bool} → r.kind ≡ k → x ≡ all_exist n (get_or (instruction_places r.op) k []) (fields r) →
-    x ≡ all_exist n (get_or (instruction_places r.op) r.kind []) (fields r)
-exist-at n r e f = f ∙ ap (λ (l : List Place). all_exist n l (fields r)) (at_key (instruction_places r.op) [] e)
-
 -- a space's number names nothing
-space_exists : (n : Counts) (op p q : ℕ) → exist n (space_number op) p q ≡ true
+pub space_exists : (n : Counts) (op p q : ℕ) → exist n (space_number op) p q ≡ true
 space_exists n zero p q = refl
 space_exists n (suc zero) p q = refl
 space_exists n (suc (suc zero)) p q = refl
 space_exists n (suc (suc (suc zero))) p q = refl
 space_exists n (suc (suc (suc (suc zero)))) p q = refl
 space_exists n (suc (suc (suc (suc (suc op))))) p q = refl
-
-pub address_exists :
-    (n : Counts) (r : Record) {x : Bool} → x ≡ below n.registers (r.p1 ∷ []) → x ≡ all_exist n (get_or (instruction_places r.op) 3 []) (fields r)
-address_exists n r f = f ∙ ap (λ (b : Bool). ltb r.p1 n.registers && (b && true)) (sym (space_exists n r.op r.p2 r.p3))
-
--- Stmt lists no place
-pub past_row : (k op : ℕ) → 23 ≤ k → [] ≡ get_or (instruction_places op) k []
-past_row k op h = ⊎_elim (λ (e : 23 ≡ k). at_key (instruction_places op) [] (sym e)) (λ (i : 23 < k). at_rest (instruction_places op) [] i) (eq-or-lt_of_le h)
-
--- Unreachable and Stmt name nothing
-pub late_nameless :
-    (n : Counts) (r : Record) → 16 ≤ r.kind → (r.kind ≡ 16 → ⊥) → (r.kind ≡ 17 → ⊥) → (r.kind ≡ 18 → ⊥) → (r.kind ≡ 19 → ⊥) → (r.kind ≡ 20 → ⊥) →
-    (r.kind ≡ 21 → ⊥) → true ≡ all_exist n (get_or (instruction_places r.op) r.kind []) (fields r)
-late_nameless n r h a b c d e f = ⊎_elim (λ (i : 22 ≡ r.kind). exist-at n r (sym i) refl) past (eq-or-lt_of_le (omega arith))
-  where
-    past : 22 < r.kind → true ≡ all_exist n (get_or (instruction_places r.op) r.kind []) (fields r)
-    past i = ap (λ (l : List Place). all_exist n l (fields r)) (past_row r.kind r.op (omega arith))
-
--- the kinds whose places take any number
-abbrev Plainly : Record → ℕ → ℕ → Type 0
-Plainly r k op = zeros (drop (get_or listed_places k 0) (fields r)) ≡ all_fit (get_or (instruction_places op) k []) (fields r)
-
-abbrev late : ℕ → ℕ
-late k = suc (suc (suc (suc (suc (suc (suc (suc (suc (suc (suc (suc k)))))))))))
-
-late_row : (r : Record) (k op : ℕ) → (late k ≡ 13 → ⊥) → (late k ≡ 17 → ⊥) → (late k ≡ 21 → ⊥) → Plainly r (late k) op
-late_row r zero op b c d = refl
-late_row r (suc zero) op b c d = absurd (b refl)
-late_row r (suc (suc zero)) op b c d = refl
-late_row r (suc (suc (suc zero))) op b c d = refl
-late_row r (suc (suc (suc (suc zero)))) op b c d = refl
-late_row r (suc (suc (suc (suc (suc zero))))) op b c d = absurd (c refl)
-late_row r (suc (suc (suc (suc (suc (suc zero)))))) op b c d = refl
-late_row r (suc (suc (suc (suc (suc (suc (suc zero))))))) op b c d = refl
-late_row r (suc (suc (suc (suc (suc (suc (suc (suc zero)))))))) op b c d = refl
-late_row r (suc (suc (suc (suc (suc (suc (suc (suc (suc zero))))))))) op b c d = absurd (d refl)
-late_row r (suc (suc (suc (suc (suc (suc (suc (suc (suc (suc zero)))))))))) op b c d = refl
-late_row r (suc (suc (suc (suc (suc (suc (suc (suc (suc (suc (suc zero))))))))))) op b c d = refl
-late_row r (suc (suc (suc (suc (suc (suc (suc (suc (suc (suc (suc (suc k)))))))))))) op b c d = refl
-
-pub plain_row : (r : Record) (k op : ℕ) → (k ≡ 3 → ⊥) → (k ≡ 13 → ⊥) → (k ≡ 17 → ⊥) → (k ≡ 21 → ⊥) → Plainly r k op
-plain_row r zero op a b c d = refl
-plain_row r (suc zero) op a b c d = refl
-plain_row r (suc (suc zero)) op a b c d = refl
-plain_row r (suc (suc (suc zero))) op a b c d = absurd (a refl)
-plain_row r (suc (suc (suc (suc zero)))) op a b c d = refl
-plain_row r (suc (suc (suc (suc (suc zero))))) op a b c d = refl
-plain_row r (suc (suc (suc (suc (suc (suc zero)))))) op a b c d = refl
-plain_row r (suc (suc (suc (suc (suc (suc (suc zero))))))) op a b c d = refl
-plain_row r (suc (suc (suc (suc (suc (suc (suc (suc zero)))))))) op a b c d = refl
-plain_row r (suc (suc (suc (suc (suc (suc (suc (suc (suc zero))))))))) op a b c d = refl
-plain_row r (suc (suc (suc (suc (suc (suc (suc (suc (suc (suc zero)))))))))) op a b c d = refl
-plain_row r (suc (suc (suc (suc (suc (suc (suc (suc (suc (suc (suc zero))))))))))) op a b c d = refl
-plain_row r (suc (suc (suc (suc (suc (suc (suc (suc (suc (suc (suc (suc k)))))))))))) op a b c d = late_row r k op b c d
 
 -- the fields past the first few, picked one by one
 abbrev pub pick : ℕ → Record → List ℕ
@@ -260,18 +200,30 @@ pub names_as_lem : (n : Counts) (r : Record) {c : ℕ} {x : Bool} → r.class �
 unfolding names_exist names_as
 names_as_lem n r e f = f ∙ sym (ap (λ (c : ℕ). names_as c n r) e)
 
--- the other classes name nothing
-nameless : (x : ℕ) (n : Counts) (r : Record) → (x ≡ 3 → ⊥) → (x ≡ 4 → ⊥) → (x ≡ 5 → ⊥) → (x ≡ 6 → ⊥) → true ≡ names_as x n r
+-- a body's block and an operand's register
+others :
+    (x : ℕ) (n : Counts) (r : Record) → (x ≡ 4 → ⊥) → (x ≡ 6 → ⊥) →
+    ((not (eqb x 3) || ltb r.p1 n.blocks) && (not (eqb x 5) || ltb r.p1 n.registers)) ≡ names_as x n r
 unfolding names_as
-nameless zero n r c d e f = refl
-nameless (suc zero) n r c d e f = refl
-nameless (suc (suc zero)) n r c d e f = refl
-nameless (suc (suc (suc zero))) n r c d e f = absurd (c refl)
-nameless (suc (suc (suc (suc zero)))) n r c d e f = absurd (d refl)
-nameless (suc (suc (suc (suc (suc zero))))) n r c d e f = absurd (e refl)
-nameless (suc (suc (suc (suc (suc (suc zero)))))) n r c d e f = absurd (f refl)
-nameless (suc (suc (suc (suc (suc (suc (suc x))))))) n r c d e f = refl
+others zero n r c d = refl
+others (suc zero) n r c d = refl
+others (suc (suc zero)) n r c d = refl
+others (suc (suc (suc zero))) n r c d = refl
+others (suc (suc (suc (suc zero)))) n r c d = absurd (c refl)
+others (suc (suc (suc (suc (suc zero))))) n r c d = sym (and-true _)
+others (suc (suc (suc (suc (suc (suc zero)))))) n r c d = absurd (d refl)
+others (suc (suc (suc (suc (suc (suc (suc x))))))) n r c d =
+    let k = suc (suc (suc (suc (suc (suc (suc x)))))) in
+    let body : k ≡ 3 → ⊥ = omega arith in
+    let operand : k ≡ 5 → ⊥ = omega arith in
+    rw (ne_eqb k 3 body, ne_eqb k 5 operand)
 
-pub no_names : (n : Counts) (r : Record) → (r.class ≡ 3 → ⊥) → (r.class ≡ 4 → ⊥) → (r.class ≡ 5 → ⊥) → (r.class ≡ 6 → ⊥) → true ≡ names_exist n r
+pub other_names :
+    (n : Counts) (r : Record) → (r.class ≡ 4 → ⊥) → (r.class ≡ 6 → ⊥) →
+    ((not (eqb r.class 3) || ltb r.p1 n.blocks) && (not (eqb r.class 5) || ltb r.p1 n.registers)) ≡ names_exist n r
 unfolding names_exist names_as
-no_names n r c d e f = nameless r.class n r c d e f
+other_names n r c d = others r.class n r c d
+
+-- the classes that name nothing
+pub no_names : (n : Counts) (r : Record) → (r.class ≡ 3 → ⊥) → (r.class ≡ 4 → ⊥) → (r.class ≡ 5 → ⊥) → (r.class ≡ 6 → ⊥) → true ≡ names_exist n r
+no_names n r c d e f = rw (ne_eqb r.class 3 c, ne_eqb r.class 5 e) at (other_names n r d f)

@@ -1,10 +1,7 @@
-ghost use Rattle.std.specs.Prelude.{◌≡◌, [], ◌∷◌, cond, ◌<◌, leb, ltb, drop, get_or};
-ghost use Rattle.records.specs.Kinds.{zeros, fields, all_fit, instruction_places, instruction_ops, arm_places, space_number, fit as fitsPlace, right as rightRecord};
-ghost use Rattle.record_rules.specs.Work.{plain as plainRecord, listed_places};
-ghost use Rattle.record_rules.specs.declared.fit.TheConstants.{LISTED, LISTED_LATE};
+ghost use Rattle.std.specs.Prelude.{◌≡◌, [], ◌∷◌, cond, ◌<◌, leb, drop, get_or};
+ghost use Rattle.records.specs.Kinds.{zeros, fields, all_fit, instruction_places, instruction_ops, arm_places, right as rightRecord};
+ghost use Rattle.record_rules.specs.Work.{plain as plainRecord, row_of};
 
-use inst::{AddrSpace, Kind};
-use ops::Paired;
 use records::{CASE_ARM, Class, DEFAULT_ARM, Record};
 
 // How many ops each kind has.
@@ -12,13 +9,53 @@ const OPS: [u8; 24] = [
     1, 1, 1, 6, 1, 6, 4, 7, 7, 4, 4, 5, 1, 1, 1, 1, 1, 2, 1, 1, 1, 2, 1, 1,
 ];
 
-// How many places each kind lists; 7 if not every number fits them, or the op decides. A hexadecimal
-// digit each, the lowest for kind 0; kinds from 16 on are in a second number. By an array of numbers
-// a drawn file takes a third longer: the compiler makes branches of what is asked of its entries. Drawn
-// files of 240 instructions, at 2.05 times the Rust's speed, would fall below the bar of 2.0.
-const LISTED: u64 = 0x2473422633347233;
+// Any number.
+const ALL: u32 = u32::MAX;
 
-const LISTED_LATE: u64 = 0x1723173;
+// The most that each place may hold, by kind, and by op for AddrOf, CallNative and Ret. By a table, as in `exist`, no branch
+// depends on the kind or the op.
+const MOST: [[u32; 6]; 31] = [
+    [ALL, ALL, ALL, 0, 0, 0], // Const
+    [ALL, ALL, ALL, 0, 0, 0], // ConstF
+    [ALL, ALL, 0, 0, 0, 0], // Move
+    [ALL, 0, ALL, 0, 0, 0], // AddrOf Frame
+    [ALL, 255, ALL, 0, 0, 0], // AddrOf Up
+    [ALL, 0, ALL, 0, 0, 0], // AddrOf Inst
+    [ALL, ALL, ALL, 0, 0, 0], // AddrOf Pkg
+    [ALL, ALL, ALL, 0, 0, 0], // AddrOf Const
+    [ALL, 0, ALL, 0, 0, 0], // AddrOf Shared
+    [ALL, ALL, ALL, ALL, 0, 0], // Select
+    [ALL, ALL, ALL, 0, 0, 0], // Cmp
+    [ALL, ALL, ALL, 0, 0, 0], // Bool
+    [ALL, ALL, ALL, 0, 0, 0], // Bin
+    [ALL, ALL, ALL, ALL, ALL, ALL], // BinRange
+    [ALL, ALL, 0, 0, 0, 0], // Load
+    [ALL, ALL, 0, 0, 0, 0], // Store
+    [ALL, ALL, ALL, ALL, 0, 0], // Check
+    [ALL, ALL, ALL, 0, 0, 0], // MakeDope
+    [ALL, ALL, 255, 0, 0, 0], // DopeLen
+    [ALL, ALL, ALL, ALL, 0, 0], // BoundsLen
+    [ALL, ALL, 0, 0, 0, 0], // Alloc
+    [ALL, ALL, ALL, 0, 0, 0], // TakeBounds
+    [ALL, ALL, ALL, 0, 0, 0], // CallNative without a register
+    [ALL, ALL, ALL, ALL, 0, 0], // CallNative
+    [ALL, 0, 0, 0, 0, 0], // Br
+    [ALL, ALL, ALL, 0, 0, 0], // CondBr
+    [ALL, ALL, 0, 0, 0, 0], // Case
+    [0, 0, 0, 0, 0, 0], // Ret without a register
+    [ALL, 0, 0, 0, 0, 0], // Ret
+    [ALL, 0, 0, 0, 0, 0], // Unreachable
+    [0, 0, 0, 0, 0, 0], // Stmt
+];
+
+// Each kind's first row there, and the last op that has a row of its own.
+const FIRST: [u8; 24] = [
+    0, 1, 2, 3, 9, 10, 11, 12, 13, 14, 15, 16, 17, 18, 19, 20, 21, 22, 24, 25, 26, 27, 29, 30,
+];
+
+const LAST: [u8; 24] = [
+    0, 0, 0, 5, 0, 0, 0, 0, 0, 0, 0, 0, 0, 0, 0, 0, 0, 1, 0, 0, 0, 1, 0, 0,
+];
 
 // None past the last kind.
 fn ops(kind: u32) -> u32
@@ -30,23 +67,17 @@ fn ops(kind: u32) -> u32
     }
 }
 
-// The word that has a kind's digit.
-fn word(kind: u32) -> u64
-    ensures { result ≡ cond (ltb kind 16) LISTED LISTED_LATE }
-{
-    if kind < 16 { LISTED } else { LISTED_LATE }
-}
-
-fn listed(kind: u32) -> u32
+// The row of a kind and an op.
+fn row(kind: u32, op: u32) -> usize
     requires { kind < 24 }
-    ensures { result ≡ get_or listed_places kind 0 }
+    ensures value { result ≡ row_of kind op }
+    ensures within { result < 31 }
 {
-    ((word(kind) >> (4 * (kind % 16))) % 16) as u32
+    let last = u32::from(LAST[kind as usize]);
+    usize::from(FIRST[kind as usize]) + op.min(last) as usize
 }
 
-// Six words: a record's fields are no array, and one made of them is no plainer. By `|`, the processor
-// has to guess branches: files take a sixth to a third longer, and drawn files of 240 instructions, at
-// 2.05 times the Rust's speed, would fall below the bar of 2.0.
+// Six words: a record's fields are no array, and one made of them is no plainer.
 fn all_zero(a: u32, b: u32, c: u32, d: u32, e: u32, f: u32) -> bool
     ensures { result ≡ zeros (a ∷ b ∷ c ∷ d ∷ e ∷ f ∷ []) }
 {
@@ -75,42 +106,18 @@ fn blank(used: u32, r: Record) -> bool
     )
 }
 
-// Whether the number of an AddrOf's space fits the space: Frame, Up, Inst, Pkg, Const, Shared.
-fn space_fits(op: u32, number: u32) -> bool
-    ensures { result ≡ fitsPlace (space_number op) number }
-{
-    match AddrSpace::of_two(op, number) {
-        AddrSpace::Up(_) => number < 256,
-        AddrSpace::Pkg(_) | AddrSpace::Const(_) => true,
-        AddrSpace::Frame | AddrSpace::Inst | AddrSpace::Shared => number == 0,
-    }
-}
-
-// AddrOf, DopeLen, CallNative and Ret; any other kind by its count. Op 0 means no register, as in `exist`.
-fn special_fits(used: u32, r: Record) -> bool
-    requires { used ≡ get_or listed_places r.kind 0 }
-    ensures { result ≡ all_fit (get_or (instruction_places r.op) r.kind []) (fields r) }
-{
-    match Kind::from(r.kind) {
-        Kind::AddrOf => space_fits(r.op, r.p2) && blank(3, r),
-        Kind::DopeLen => r.p3 < 256 && blank(3, r),
-        Kind::CallNative => blank(if r.op == 0 { 3 } else { 4 }, r),
-        Kind::Ret => blank(if r.op == 0 { 0 } else { 1 }, r),
-        _ => blank(used, r),
-    }
-}
-
 // Whether the fields of an instruction fit the places that its kind lists.
 fn instruction_fits(r: Record) -> bool
     requires { r.kind < 24 }
     ensures { result ≡ all_fit (get_or (instruction_places r.op) r.kind []) (fields r) }
 {
-    let used = listed(r.kind);
-    if used < 7 {
-        blank(used, r)
-    } else {
-        special_fits(used, r)
-    }
+    let most = &MOST[row(r.kind, r.op)];
+    (r.p1 <= most[0])
+        & (r.p2 <= most[1])
+        & (r.p3 <= most[2])
+        & (r.p4 <= most[3])
+        & (r.p5 <= most[4])
+        & (r.p6 <= most[5])
 }
 
 fn instruction(r: Record) -> bool

@@ -1,11 +1,13 @@
 -- What the gate and the test of six instructions come to, by what the calls of `gated` and `run` say.
-use Prim.Native.Nat.{ℕ, ◌≤◌, ◌<◌}
+use Prim.Native.Nat.{ℕ, ◌/◌, ◌≤◌, ◌<◌}
 use mathlib.Core.Path.{◌≡◌, sym, ap, ◌∙◌}
 use mathlib.Core.Bool.{Bool, true, false}
 use mathlib.Core.List.{List}
 use Rattle.std.proofs.Common.{Option}
 use borrow.Author.Tests.{lt-ltb, le-ltb}
+use lib.ListN.{length}
 use Rattle.equal_arms.specs.Joined.{Joined, joined, equal_arms_in}
+use Rattle.equal_arms.proofs.Laws.{none-joined}
 use Rattle.thread.specs.declared.Threaded.{Threaded}
 use Rattle.thread.specs.Storage.{Store, store, thread_in}
 use Rattle.run.specs.declared.Ran.{Ran}
@@ -48,3 +50,10 @@ module _ (body : Option ℕ) (known copy : ℕ) (operands registers : List ℕ) 
       g
       ∙ ap (λ (z : Joined). arms_in body known copy operands registers n z table kinds facts (counted_in n operands registers facts z.code)) e
       ∙ ap (λ (b : Bool). run_if body known copy operands registers n b work table kinds facts) (sym (le-ltb n 6 h))
+
+-- where no arms were joined, the gate is what it was
+pub not-joined : (body : Option ℕ) (work table : List ℕ) {work' : List ℕ} {arms : Bool} → joined work' arms ≡ equal_arms_in table work → arms ≡ false
+    → opens_in body work table ≡ true → opens_in body work' table ≡ true
+not-joined body work table {work'} {arms} e f g =
+    let same = none-joined table (length table / 32) 0 (joined work false) (ap (λ (z : Joined). z.edited) (sym e) ∙ f) in
+    ap (λ (c : List ℕ). opens_in body c table) (ap (λ (z : Joined). z.code) (e ∙ same)) ∙ g

@@ -1,7 +1,7 @@
 // `run` before Emit: equal arms, gate, counts, Thread.
 #![tactic(auto)]
 
-ghost use Rattle.std.specs.Prelude.{◌≡◌, true, length};
+ghost use Rattle.std.specs.Prelude.{◌≡◌, true, false, length, IfSome, IfNone};
 ghost use Rattle.pause.specs.Storage.{body_in};
 ghost use Rattle.thread.specs.Storage.{store, thread_in};
 ghost use Rattle.run.specs.Ran as r;
@@ -40,6 +40,14 @@ fn budget(n: usize) -> u32
     u32::try_from(n / 2 + 32).unwrap_or(u32::MAX)
 }
 
+// How `run` begins: the body, how many instructions there are, and whether the gate is known to be open until arms are joined.
+#[derive(Clone, Copy)]
+pub struct Begin {
+    pub pause: Pause,
+    pub n: usize,
+    pub is_open: bool,
+}
+
 // The facts of the first n instructions.
 fn counted(work: &[u8], facts: &mut [u64], operands: &[u8], registers: &[u8], n: usize)
     ensures { facts.new ≡ r.counted_in n operands.now registers.now facts.old work.now }
@@ -53,6 +61,15 @@ fn opens(blocks: Blocks, pause: Pause) -> bool
     ensures { result ≡ r.opens_in (body_in pause) blocks.entry.code.now blocks.entry.table.now }
 {
     gate::has_back_edge(blocks) && gate::may_thread(blocks, pause::has_pause(pause))
+}
+
+// The same of code whose equal arms are joined. It is asked anew only if some were.
+fn still_opens(blocks: Blocks, begin: Begin, joined: bool) -> bool
+    ensures { (begin.is_open ≡ true → joined ≡ false
+        → r.opens_in (body_in begin.pause) blocks.entry.code.now blocks.entry.table.now ≡ true)
+        → result ≡ r.opens_in (body_in begin.pause) blocks.entry.code.now blocks.entry.table.now }
+{
+    begin.is_open && !joined || opens(blocks, begin.pause)
 }
 
 // Threads the code: n instructions are in use. Each slice stands by itself, as in `run`; within `run`
@@ -99,13 +116,14 @@ pub fn run(
     facts: &mut [u64],
     operands: &[u8],
     registers: &[u8],
-    pause: Pause,
-    n: usize,
+    begin: Begin,
 ) -> Ran
-    ensures { r.left work.new table.new kinds.new facts.new result
-        ≡ r.ran_in (body_in pause) (length known.old) (length copy.old) operands.now registers.now n
+    ensures { (begin.is_open ≡ true → r.opens_in (body_in begin.pause) work.old table.old ≡ true)
+        → r.left work.new table.new kinds.new facts.new result
+        ≡ r.ran_in (body_in begin.pause) (length known.old) (length copy.old) operands.now registers.now begin.n
         work.old table.old kinds.old facts.old }
 {
+    let n = begin.n;
     if n < 6 {
         return Ran {
             joined: false,
@@ -114,7 +132,7 @@ pub fn run(
     }
     let joined = equal_arms::equal_arms(work, table);
     let blocks = Blocks { code: work, table };
-    if !opens(blocks, pause) {
+    if !still_opens(blocks, begin, joined) {
         return Ran {
             joined,
             at: still(n),
@@ -123,23 +141,27 @@ pub fn run(
     counted(work, facts, operands, registers, n);
     let facts = Facts {
         table: facts,
-        pause,
+        pause: begin.pause,
         budget: budget(n),
     };
     let at = threaded(work, table, kinds, known, copy, &facts, n);
     Ran { joined, at }
 }
 
-// True implies that no step would change the code.
-pub fn no_step(code: &[u8], table: &[u8], pause: Pause) -> bool
-    ensures { result ≡ true → r.NoStep (body_in pause) code.now table.now }
+// A glance at code before its steps: None if no step would change it, else whether the gate is open.
+pub fn glance(code: &[u8], table: &[u8], pause: Pause) -> Option<bool>
+    ensures none { IfNone result (r.NoStep (body_in pause) code.now table.now) }
+    ensures some { IfSome result (λ b. b ≡ r.opens_in (body_in pause) code.now table.now) }
 {
     if code.len() / 32 < 6 {
-        return true;
+        return None;
     }
     let blocks = Blocks { code, table };
     if opens(blocks, pause) {
-        return false;
+        return Some(true);
     }
-    equal_arms::none_meet(blocks)
+    if equal_arms::none_meet(blocks) {
+        return None;
+    }
+    Some(false)
 }

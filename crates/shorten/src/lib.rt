@@ -13,6 +13,7 @@ ghost use Rattle.machine.specs.Demand.{Demand3};
 ghost use Rattle.promise.specs.Promise.{held};
 ghost use Rattle.parts.specs.Parts.{parts_in};
 ghost use Rattle.output.specs.Filed.{outcome};
+ghost use Rattle.shortening.specs.Storage.{opens_for};
 ghost use Rattle.shorten.specs.Storage.{Room, Fits, Done};
 
 use inst::Reg;
@@ -22,6 +23,8 @@ use shortening::{Stage, Storage};
 use steps::Shortening;
 
 // How many registers and instructions there is storage for, by the size of a file.
+const TINY: usize = 12;
+
 const SMALL: usize = 24;
 
 const MEDIUM: usize = 120;
@@ -45,9 +48,10 @@ fn shorten_over<
     const WORDS: usize,
     const FACTS: usize,
     const STAGED: usize,
->(file: &File, out: &mut [u8]) -> Result<Shortening, Refusal>
+>(file: &File, out: &mut [u8], is_open: bool) -> Result<Shortening, Refusal>
     requires { Room MOST BLOCKS WORK TABLE KINDS WORDS FACTS STAGED }
-    ensures { Fits MOST BLOCKS (parts_in file.now) → Done (parts_in file.now) result out.old out.new }
+    ensures { Fits MOST BLOCKS (parts_in file.now) → is_open ≡ opens_for (parts_in file.now)
+        → Done (parts_in file.now) result out.old out.new }
 {
     let mut work = [0u8; WORK];
     let mut table = [0u8; TABLE];
@@ -71,7 +75,7 @@ fn shorten_over<
         code: &mut staged,
         heads: &mut heads[..32 * nb],
     };
-    shortening::shorten_in(file, out, &mut storage, &mut stage)
+    shortening::shorten_in(file, out, &mut storage, &mut stage, is_open)
 }
 
 // True implies at most n registers, n blocks and n instructions.
@@ -81,21 +85,31 @@ fn fits(file: &File, n: usize) -> bool
     file.registers().len() / 32 <= n && file.heads().len() / 32 <= n && file.code().len() / 32 <= n
 }
 
-// Shortens an accepted file within the limits. One that no step changes needs no storage, a small
-// one little.
+// Shortens a file over storage of its size; it is known whether its gate is open.
+fn shorten_sized(file: &File, out: &mut [u8], is_open: bool) -> Result<Shortening, Refusal>
+    requires { is_open ≡ opens_for (parts_in file.now) }
+    ensures { Done (parts_in file.now) result out.old out.new }
+{
+    if fits(file, TINY) {
+        shorten_over::<TINY, TINY, 1760, 384, 46, 54, 60, 1728>(file, out, is_open)
+    } else if fits(file, SMALL) {
+        shorten_over::<SMALL, SMALL, 2688, 768, 52, 78, 120, 2304>(file, out, is_open)
+    } else if fits(file, MEDIUM) {
+        shorten_over::<MEDIUM, MEDIUM, 9984, 3840, 100, 270, 600, 6912>(file, out, is_open)
+    } else if fits(file, HALF) {
+        shorten_over::<HALF, BLOCKS, 19104, 5120, 160, 510, 1200, 12672>(file, out, is_open)
+    } else {
+        shorten_over::<LARGE, BLOCKS, 37344, 5120, 280, 990, 2400, 24192>(file, out, is_open)
+    }
+}
+
+// Shortens an accepted file within the limits. One that no step changes needs no storage.
 fn shorten_read(file: &File, out: &mut [u8]) -> Result<Shortening, Refusal>
     ensures { Done (parts_in file.now) result out.old out.new }
 {
-    if shortening::no_step(file) {
-        shortening::put_sent(out, file)
-    } else if fits(file, SMALL) {
-        shorten_over::<SMALL, SMALL, 2688, 768, 52, 78, 120, 2304>(file, out)
-    } else if fits(file, MEDIUM) {
-        shorten_over::<MEDIUM, MEDIUM, 9984, 3840, 100, 270, 600, 6912>(file, out)
-    } else if fits(file, HALF) {
-        shorten_over::<HALF, BLOCKS, 19104, 5120, 160, 510, 1200, 12672>(file, out)
-    } else {
-        shorten_over::<LARGE, BLOCKS, 37344, 5120, 280, 990, 2400, 24192>(file, out)
+    match shortening::glance(file) {
+        None => shortening::put_sent(out, file),
+        Some(is_open) => shorten_sized(file, out, is_open),
     }
 }
 

@@ -1,12 +1,12 @@
 -- Storage, not the paper's: what is lent to Shorten, and what it holds before the result is written.
-use Rattle.std.specs.Prelude.{ℕ, ◌+◌, ◌*◌, ◌/◌, ◌≤◌, min, ◌≡◌, List, map, length}
+use Rattle.std.specs.Prelude.{ℕ, ◌+◌, ◌*◌, ◌/◌, ◌≤◌, min, ◌≡◌, Bool, List, map, length}
 use Rattle.std.proofs.Math.Seq.{paste}
 use Rattle.records.specs.Record.{records_of}
 use Rattle.put_record.specs.Store.{Bytes}
 use Rattle.procedure.specs.Procedure.{Procedure, first_of}
 use Rattle.steps.specs.Run.{Shortened}
 use Rattle.procedure_parts.specs.Opened.{Parts, Opened}
-use Rattle.run.specs.Ran.{Left, ran_in, NoStep}
+use Rattle.run.specs.Ran.{Left, opens_in, ran_in, NoStep}
 use Rattle.output.specs.declared.Changes.{Changes}
 
 -- some bytes written over the start of others, as far as there is room
@@ -32,6 +32,10 @@ size_of x = length x.code / 32
 -- no step changes the file
 abbrev pub NoStepIn : Parts → Type 0
 NoStepIn x = NoStep (first_of (map (λ r. r.p1) (records_of x.body))) x.code x.heads
+
+-- the gate is open, before arms are joined
+abbrev pub opens_for : Parts → Bool
+opens_for x = opens_in (first_of (map (λ r. r.p1) (records_of x.body))) x.code x.heads
 
 -- what `run` leaves before emit
 abbrev pub left_in : Parts → Lent → Left

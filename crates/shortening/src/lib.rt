@@ -1,7 +1,7 @@
 // Shorten over lent storage, for an accepted file within the limits.
 #![tactic(auto)]
 
-ghost use Rattle.std.specs.Prelude.{◌≡◌, true, false, map, length};
+ghost use Rattle.std.specs.Prelude.{◌≡◌, true, false, map, length, IfSome, IfNone};
 ghost use Rattle.records.specs.Record.{records_of};
 ghost use Rattle.put_record.specs.Store.{Bytes};
 ghost use Rattle.procedure.specs.Procedure.{Procedure, first_of};
@@ -13,7 +13,7 @@ ghost use Rattle.parts.specs.Parts.{parts_in};
 ghost use Rattle.procedure_parts.specs.Opened.{recoded, Holds, Parted, Opened};
 ghost use Rattle.run.specs.Ran.{left};
 ghost use Rattle.output.specs.Filed.{outcome};
-ghost use Rattle.shortening.specs.Storage.{fronted, lent, NoStepIn, Tells, LeftOf, Enough, Staging};
+ghost use Rattle.shortening.specs.Storage.{fronted, lent, opens_for, NoStepIn, Tells, LeftOf, Enough, Staging};
 
 use blocks::Blocks;
 use inst::BlockId;
@@ -21,7 +21,7 @@ use output::{Changes, Form};
 use parts::File;
 use pause::Pause;
 use read::Refusal;
-use run::Ran;
+use run::{Begin, Ran};
 use steps::Shortening;
 
 // Storage that is lent for a file: code, block table, kinds of new registers, known values, copies and facts.
@@ -62,11 +62,12 @@ pub fn pause_of(body: &[u8]) -> Pause
     Some(BlockId(r.p1))
 }
 
-// True implies that no step would change the file.
-pub fn no_step(file: &File) -> bool
-    ensures { result ≡ true → NoStepIn (parts_in file.now) }
+// A glance at a file: None if no step would change it, else whether its gate is open.
+pub fn glance(file: &File) -> Option<bool>
+    ensures none { IfNone result (NoStepIn (parts_in file.now)) }
+    ensures some { IfSome result (λ b. b ≡ opens_for (parts_in file.now)) }
 {
-    run::no_step(file.code(), file.heads(), pause_of(file.body()))
+    run::glance(file.code(), file.heads(), pause_of(file.body()))
 }
 
 // Writes the result in code, block table and new registers, with the other parts of the file, if it
@@ -214,14 +215,16 @@ fn write(
     }
 }
 
-// Carries out the steps on the parts of a file and writes the result, if it fits.
+// Carries out the steps on the parts of a file and writes the result, if it fits. The flag is what `glance` told of the gate.
 pub fn shorten_in(
     file: &File,
     out: &mut [u8],
     s: &mut Storage,
     stage: &mut Stage,
+    is_open: bool,
 ) -> Result<Shortening, Refusal>
     ensures { (p : Procedure) → Opened p (parts_in file.now)
+        → (is_open ≡ true → opens_for (parts_in file.now) ≡ true)
         → Enough (parts_in file.now)
         (lent s.old.work.now s.old.table.now s.old.kinds.now s.old.facts.now (length s.old.known.now) (length s.old.copy.now))
         → Staging (parts_in file.now) (length stage.old.code.now) (length stage.old.heads.now)
@@ -230,8 +233,11 @@ pub fn shorten_in(
     let code = file.code();
     put_front(s.work, code);
     put_front(s.table, file.heads());
-    let pause = pause_of(file.body());
-    let n = code.len() / 32;
+    let begin = Begin {
+        pause: pause_of(file.body()),
+        n: code.len() / 32,
+        is_open,
+    };
     let r = run::run(
         s.work,
         s.table,
@@ -241,8 +247,7 @@ pub fn shorten_in(
         s.facts,
         file.operands(),
         file.registers(),
-        pause,
-        n,
+        begin,
     );
     write(out, file, s, stage, r)
 }

@@ -6,7 +6,7 @@ use Rattle.read.specs.Structure.{tiled, ended}
 use Rattle.read.specs.Reading.{read_blocks}
 use Rattle.std.proofs.lemmas.Result.{err_from_is_err_and}
 use Rattle.read.proofs.Reasons.{no_zero}
-use Rattle.read.proofs.Laid.{of-class, tiled-in, stands, all_fine, pass_on}
+use Rattle.read.proofs.Laid.{of-class, stands, all_fine, pass_on}
 use Rattle.read.proofs.read_blocks.Goals as goal
 
 pub overflow_cast-code : goal.overflow_cast-code
@@ -21,7 +21,7 @@ returns-in_err-tiled_blocks c =
     (stands 4 _ _ _ _ _ (no_zero _) (of-class c.heads-heads.ensures 4 (tiled n) (rw (← c.code-code.ensures.count) c.in_err-tiled_blocks.ensures)))
 
 pub ended_blocks-requires : goal.ended_blocks-requires
-ended_blocks-requires c = tiled-in c.heads-heads.result _ (all_fine 4 _ _ _ (omega arith) c.in_ok-tiled_blocks.ensures)
+ended_blocks-requires c = all_fine 4 _ _ _ (omega arith) c.in_ok-tiled_blocks.ensures
 
 pub returns-in_err-ended_blocks : goal.returns-in_err-ended_blocks
 unfolding read_blocks

@@ -1,31 +1,38 @@
-use Rattle.std.proofs.Common.{length}
+use mathlib.Core.Path.{◌≡◌, sym, ap, ◌∙◌}
+use Rattle.std.proofs.Common.{List, Bool, true, length, ◌/◌}
 use Rattle.pause.specs.Storage.{body_in}
-use Rattle.run.proofs.Steps.{shut, opened, few, enough}
+use Rattle.equal_arms.specs.Joined.{Joined}
+use Rattle.run.specs.Ran.{opens_in}
+use Rattle.run.proofs.Steps.{shut, opened, few, enough, not-joined}
 use Rattle.run.proofs.run.Goals as goal
 
 pub returns-then-n-lt6 : goal.returns-then-n-lt6
-returns-then-n-lt6 c =
+returns-then-n-lt6 c h =
     let a = c.args in
-    few (body_in a.pause) (length a.known.now) (length a.copy.now) a.operands.now a.registers.now a.n
+    few (body_in a.begin.pause) (length a.known.now) (length a.copy.now) a.operands.now a.registers.now a.begin.n
     a.work.now a.table.now a.kinds.now a.facts.now
     c.if-n-lt6.true c.still.ensures
 
-pub returns-then-not-opens : goal.returns-then-not-opens
-returns-then-not-opens c =
+pub returns-then-not-still_opens : goal.returns-then-not-still_opens
+returns-then-not-still_opens c h =
     let a = c.args in
-    enough (body_in a.pause) (length a.known.now) (length a.copy.now) a.operands.now a.registers.now a.n
+    enough (body_in a.begin.pause) (length a.known.now) (length a.copy.now) a.operands.now a.registers.now a.begin.n
     a.work.now a.table.now a.kinds.now a.facts.now
     c.if-n-lt6.false c.equal_arms-joined.ensures
-    (shut (body_in a.pause) (length a.known.now) (length a.copy.now) a.operands.now a.registers.now a.n
+    (shut (body_in a.begin.pause) (length a.known.now) (length a.copy.now) a.operands.now a.registers.now a.begin.n
     c.equal_arms-joined.new.code a.table.now a.kinds.now a.facts.now
-    c.equal_arms-joined.result c.opens.ensures c.if-not-opens.true c.still-then-not-opens.ensures)
+    c.equal_arms-joined.result
+    (c.still_opens.ensures (λ o e. not-joined (body_in a.begin.pause) a.work.now a.table.now c.equal_arms-joined.ensures e (h o)))
+    c.if-not-still_opens.true c.still-then-not-still_opens.ensures)
 
 pub returns : goal.returns
-returns c =
+returns c h =
     let a = c.args in
-    enough (body_in a.pause) (length a.known.now) (length a.copy.now) a.operands.now a.registers.now a.n
+    enough (body_in a.begin.pause) (length a.known.now) (length a.copy.now) a.operands.now a.registers.now a.begin.n
     a.work.now a.table.now a.kinds.now a.facts.now
     c.if-n-lt6.false c.equal_arms-joined.ensures
-    (opened (body_in a.pause) (length a.known.now) (length a.copy.now) a.operands.now a.registers.now a.n
+    (opened (body_in a.begin.pause) (length a.known.now) (length a.copy.now) a.operands.now a.registers.now a.begin.n
     c.equal_arms-joined.new.code a.table.now a.kinds.now a.facts.now
-    c.equal_arms-joined.result c.opens.ensures c.if-not-opens.false c.counted.ensures c.budget.ensures c.threaded-at.ensures)
+    c.equal_arms-joined.result
+    (c.still_opens.ensures (λ o e. not-joined (body_in a.begin.pause) a.work.now a.table.now c.equal_arms-joined.ensures e (h o)))
+    c.if-not-still_opens.false c.counted.ensures c.budget.ensures c.threaded-at.ensures)

@@ -5,8 +5,8 @@ use Rattle.parts.specs.Parts.{parts_in}
 use Rattle.shortening.proofs.Shortened.{sent-run}
 use Rattle.shorten.proofs.shorten_read.Goals as goal
 
-pub returns-then-no_step : goal.returns-then-no_step
-returns-then-no_step c p o =
+pub returns-in-None : goal.returns-in-None
+returns-in-None c p o =
     let a = c.args in
     c.put_sent.ensures p o.parted
-    ∙ sym (ap (λ (z : Shortened). shortened z a.out.now) (sent-run p (parts_in a.file.now) o (c.no_step.ensures c.if-no_step.true)))
+    ∙ sym (ap (λ (z : Shortened). shortened z a.out.now) (sent-run p (parts_in a.file.now) o c.in-None.ensures.none))

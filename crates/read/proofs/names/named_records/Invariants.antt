@@ -9,4 +9,4 @@ use Rattle.read.proofs.names.named_records.Given as goal
 abbrev pub invariant-loop-k : goal.invariant-loop-k
 invariant-loop-k l =
     let rs = records_of l.f.b.now in
-    l.k + lead (names_exist l.n) (drop l.k rs) ≡ l.f.l.bodies + lead (names_exist l.n) (drop l.f.l.bodies rs)
+    l.k + lead (names_exist l.fn.n) (drop l.k rs) ≡ l.f.l.bodies + lead (names_exist l.fn.n) (drop l.f.l.bodies rs)
