@@ -14,4 +14,4 @@ returns c =
     (λ (b : Option ℕ).
     ran_in b (length a.known.now) (length a.copy.now) a.operands.now a.registers.now a.n a.work.now a.table.now
     a.kinds.now a.facts.now)
-    c.pause_of-pause.ensures
+    c.pause_of.ensures
