@@ -63,8 +63,13 @@ class Script(Case):
             return int(file.read())
 
     def start(self, *words):
+        def not_ignored():
+            # as they are where the tests run in the background or under nohup; the script can't trap a signal that is ignored
+            for number in (signal.SIGINT, signal.SIGHUP):
+                signal.signal(number, signal.SIG_DFL)
+
         return subprocess.Popen([self.at("start"), *words], stdout=subprocess.PIPE, stderr=subprocess.PIPE, stdin=subprocess.DEVNULL,
-                                preexec_fn=lambda: signal.signal(signal.SIGINT, signal.SIG_DFL))
+                                preexec_fn=not_ignored)
 
     def building(self, *marks):
         for name in ("rt", "child"):
