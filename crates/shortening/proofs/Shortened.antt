@@ -66,5 +66,6 @@ module _ (b : List ℕ) (l : Layout) where
       let heads-first = fronted_first s.table x.heads (omega arith) in
       let heads-long = fronted-length s.table x.heads (omega arith) in
       let heads-at : table ≡ x.heads = t ∙ ap (fronted s.table) h ∙ sym (take_all (length x.heads) (fronted s.table x.heads) (omega arith)) ∙ heads-first in
-      let gate : (P : List (List Code)) → Bool = λ (P : List (List Code)). has_back_edge P && may_thread (present (first_of (map (λ r. r.p1) (records_of x.body)))) P in
+      let gate : (P : List (List Code)) → Bool =
+      λ (P : List (List Code)). has_back_edge P && may_thread (present (first_of (map (λ r. r.p1) (records_of x.body)))) P in
       rw (heads-at, q, y) (ap gate (work-blocks held ∙ sym o.parted.blocks) ∙ f)
