@@ -1,6 +1,7 @@
 """The toolchain's check of a scratch crate, alone or over proved crates of the repository."""
 
 import functools
+import hashlib
 import os
 import re
 import subprocess
@@ -48,8 +49,57 @@ def below(names, root=ROOT):
     return list(found)
 
 
+LEFT = "build/libraries.txt"  # what the last `rt ci` left: each crate, a digest of its sources, and one of its library
+
+
+def sources_of(name, root=ROOT):
+    """A digest of all that a crate's proof depends on, apart from the crates below it."""
+    whole = hashlib.sha256(f"{kit()} {crates(root)[name]}".encode())
+    for part in ("src", "specs", "proofs"):
+        for at, folders, files in os.walk(os.path.join(root, "crates", name, part)):
+            folders.sort()
+            for path in (os.path.join(at, file) for file in sorted(files)):
+                with open(path, "rb") as file:
+                    whole.update(f"{os.path.relpath(path, root)} {hashlib.sha256(file.read()).hexdigest()}\n".encode())
+    return whole.hexdigest()
+
+
+def library_of(name, root=ROOT):
+    """A digest of the library that `rt ci` left; `-` if there is none, or if rt keeps one of its own there, which has a stamp."""
+    folder = os.path.join(root, "crates", name, "out", "rlib")
+    if os.path.exists(os.path.join(folder, "stamp")):
+        return "-"
+    try:
+        with open(os.path.join(folder, f"{name}.rlib", "format"), "rb") as file:  # it has the sums of the library's files
+            return hashlib.sha256(file.read()).hexdigest()
+    except OSError:
+        return "-"
+
+
+@functools.lru_cache(maxsize=None)
+def _left(root):
+    try:
+        with open(os.path.join(root, LEFT)) as text:
+            return frozenset(text.read().splitlines())
+    except OSError:
+        return frozenset()
+
+
+@functools.lru_cache(maxsize=None)
+def is_left(name, root=ROOT):
+    """Whether the crate's library is the one that the last `rt ci` left, and the sources are as they were then."""
+    return f"{name} {sources_of(name, root)} {library_of(name, root)}" in _left(root)
+
+
+def are_left(names, root=ROOT):
+    """The same of the crates, and of all below them."""
+    return all(is_left(name, root) for name in below(names, root))
+
+
 def proved(*names, root=ROOT):
-    """Has libraries of the repository proved, and what they need; quick where nothing changed. What rt says if they aren't."""
+    """Has libraries of the repository proved, and what they need, unless the last `rt ci` has. What rt says if they aren't."""
+    if are_left(names, root):
+        return None
     for name in names:
         told = subprocess.run(["rt", "lib"], cwd=os.path.join(root, "crates", name), capture_output=True, text=True)
         if told.returncode:
@@ -58,7 +108,7 @@ def proved(*names, root=ROOT):
 
 
 def command(name, uses=(), sources=(), root=ROOT, file="src/lib.rt"):
-    """The words that check a crate. uses: crates of the repository, taken as `rt lib` has proved them, and libraries of the
+    """The words that check a crate. uses: crates of the repository, taken as `rt lib` or `rt ci` has proved them, and libraries of the
     toolchain. sources: crates of the repository that are checked along with it."""
     listed = crates(root)
     own = [n for n in below([*uses, *sources], root) if n not in sources]

@@ -1,5 +1,6 @@
 #!/usr/bin/env python3
-"""Tries tests/believed.py and tests/theorem.py: each trick is played in a scratch copy, and they must report it.
+"""Tries tests/believed.py and tests/theorem.py: each trick is played in a scratch copy, and they must report it. Also tries whether
+tests/checker.py notices that a library isn't the one that `rt ci` left.
 
     tests/noticed.py
 """
@@ -13,7 +14,7 @@ import time
 
 import believed
 from antt import Citing, Declaration, read_file
-from checker import crates
+from checker import LEFT, crates, is_left, library_of, sources_of
 from sliced import Slice, check
 from theorem import proved
 from tree import Tree
@@ -223,6 +224,9 @@ def scratch_copy(folder, proofs=False):
     shutil.copy(os.path.join(ROOT, "docs", "MAP.md"), os.path.join(folder, "docs"))
     shutil.copytree(os.path.join(ROOT, "tests"), os.path.join(folder, "tests"), ignore=lambda at, names: [
         name for name in names if at != os.path.join(ROOT, "tests") or not name.endswith(".py")])
+    if proofs and os.path.exists(os.path.join(ROOT, LEFT)):
+        os.makedirs(os.path.dirname(os.path.join(folder, LEFT)))
+        shutil.copy(os.path.join(ROOT, LEFT), os.path.join(folder, LEFT))
     for crate in crates():
         sources(crate, folder)
         built = os.path.join("crates", crate, "out", "rlib")
@@ -290,10 +294,43 @@ def dropped(name):
     return len(less) < len(found) and any(f"`{name}`" in line for line in said)
 
 
+def put(path, text):
+    """Writes a file anew. It may have been another name of one of the repository's."""
+    os.makedirs(os.path.dirname(path), exist_ok=True)
+    if os.path.exists(path):
+        os.remove(path)
+    with open(path, "w") as out:
+        out.write(text)
+
+
+# What makes a library that `rt ci` left another one: a file, and its new text.
+OTHER = [
+    ("crates/paths/specs/Paths.antt", "-- other sources\n"),
+    ("crates/paths/proofs/More.antt", "-- more sources\n"),
+    ("crates.txt", "general:\npaths: general records\n"),
+    ("crates/paths/out/rlib/paths.rlib/format", "another library\n"),
+    ("crates/paths/out/rlib/stamp", "a library of rt's own\n"),
+]
+
+
+def taken():
+    """The changes after which a crate's library is still taken as that which `rt ci` left."""
+    for path, text in [(None, None), *OTHER]:
+        with tempfile.TemporaryDirectory() as folder:
+            put(os.path.join(folder, "crates.txt"), "general:\npaths: general\n")
+            sources("paths", folder)
+            put(os.path.join(folder, "crates/paths/out/rlib/paths.rlib/format"), "a library\n")
+            put(os.path.join(folder, LEFT), f"paths {sources_of('paths', folder)} {library_of('paths', folder)}\n")
+            if path:
+                put(os.path.join(folder, path), text)
+            if is_left("paths", folder) != (path is None):
+                yield f"not noticed: {path} changed since `rt ci`" if path else "a library that `rt ci` left isn't taken"
+
+
 def main():
-    began, tried = time.time(), len(SHAPES) + len(CITED) + 1
+    began, tried = time.time(), len(SHAPES) + len(CITED) + 1 + len(OTHER)
     proved("promise")
-    missed = list(misread())
+    missed = list(misread()) + list(taken())
     missed += [f"not told: a contract through an unlisted definition, by {shape}" for shape in shapes()]
     if not dropped("terminator_kind"):
         missed.append("the checker didn't notice that a definition is missing")

@@ -8,7 +8,6 @@ the crate as it is; RT_JOBS edits at a time (default 2). Fails if rt said nothin
 nothing but a misfit of a proof file with the code is told.
 """
 
-import concurrent.futures
 import glob
 import importlib
 import os
@@ -50,12 +49,8 @@ def judged(crate, said):
 
 def tried(edits):
     """The same of those that have to be tried."""
-    for crate in dict.fromkeys(names(edit)[0] for edit in edits):
-        why = trial.prove(crate)
-        if why:
-            sys.exit(f"{why}\nedits: {crate} is not proved")
-    with tempfile.TemporaryDirectory() as scratch, concurrent.futures.ThreadPoolExecutor(int(os.environ.get("RT_JOBS", "2"))) as pool:
-        for edit, (good, line) in zip(edits, pool.map(lambda edit: trial.attempt(edit, scratch), edits)):
+    with tempfile.TemporaryDirectory() as scratch:
+        for edit, (good, line) in zip(edits, trial.attempts(edits, scratch)):
             yield edit, (line.partition(": ")[2], good)
 
 

@@ -6,11 +6,11 @@
     tests/edits/try.py NAME | NAME/LABEL..  the edits of some crates, or some edits, in both folders
     tests/edits/try.py --write ..           if all are refused, also rewrites tried.txt for the crates tried
 
-The edits have the same form as those in must-fail/, and are read as `rt must-fail` reads those. The crates are proved first, by
-`rt lib` or `rt check`. Each edit is checked in a copy of its crate, and every module that it doesn't touch is taken from what
-that proof kept in out/, which makes this quick. An edit that isn't refused that way is checked once more in full. RT_JOBS edits
-are tried at a time (default 2). Goals are named after the code: if only their names are gone, the proofs in the copy follow
-them, and it is checked again (verdict.py).
+The edits have the same form as those in must-fail/, and are read as `rt must-fail` reads those. Each crate is proved first, and
+each of its edits is checked in a copy of it. Every module that the edit doesn't touch is taken from what that proof kept, which
+makes this quick. An edit that isn't refused that way is checked once more in full. RT_JOBS edits are tried at a time (default
+2). Goals are named after the code: if only their names are gone, the proofs in the copy follow them, and it is checked again
+(verdict.py).
 """
 
 import concurrent.futures
@@ -29,7 +29,7 @@ from verdict import fact, refitted
 ROOT = os.path.dirname(os.path.dirname(os.path.dirname(os.path.abspath(__file__))))
 os.chdir(ROOT)
 sys.path.insert(0, os.path.join(ROOT, "tests"))
-from checker import command, crates, said, statics  # noqa: E402
+from checker import are_left, command, crates, said, statics  # noqa: E402
 
 TRIED = "tests/edits/tried.txt"
 PARTS = ("src", "specs", "proofs")
@@ -37,12 +37,12 @@ FOLLOWED = 4  # how often the proofs follow the names of an edit's goals
 
 
 def digest(name):
-    """A digest of everything that the trial of a crate's edits depends on: its sources and the edits."""
+    """A digest of everything that the trial of a crate's edits depends on: its sources and the edits, in whichever folder these are."""
     whole = hashlib.sha256()
-    for path in sorted(glob.glob(f"crates/{name}/**/*.*", recursive=True)):
-        if os.path.isfile(path) and not path.startswith(f"crates/{name}/out/"):
-            with open(path, "rb") as file:
-                whole.update(f"{path}\n".encode() + hashlib.sha256(file.read()).digest())
+    paths = [path for path in glob.glob(f"crates/{name}/**/*.*", recursive=True) if os.path.isfile(path) and not path.startswith(f"crates/{name}/out/")]
+    for said, path in sorted((path.replace("/must-fail/", "/edits/"), path) for path in paths):
+        with open(path, "rb") as file:
+            whole.update(f"{said}\n".encode() + hashlib.sha256(file.read()).digest())
     return whole.hexdigest()[:16]
 
 
@@ -111,10 +111,38 @@ def words_for(name):
     return words + ["--crate-type", "staticlib"] * (name in statics()) + ["--jobs", "1"]
 
 
-def prove(name):
-    """What rt says if a crate isn't proved; it keeps what it proves in out/."""
-    told = subprocess.run(["rt", "check" if is_program(name) else "lib"], cwd=f"crates/{name}", capture_output=True, text=True)
-    return (told.stdout + told.stderr)[-2000:] if told.returncode else None
+def copy_of(name, scratch):
+    """A new folder with a crate's sources."""
+    folder = tempfile.mkdtemp(dir=scratch)
+    for part in PARTS:
+        if os.path.isdir(f"crates/{name}/{part}"):
+            shutil.copytree(f"crates/{name}/{part}", os.path.join(folder, part))
+    return folder
+
+
+def prove(name, scratch):
+    """Proves a crate. Returns the folder in which it kept its modules, as --incremental takes it, or ends the script."""
+    if are_left(crates()[name]):
+        modules = os.path.join(scratch, f"{name}.modules")
+        good, told = checked(copy_of(name, scratch), words_for(name) + ["--incremental", modules])
+    else:
+        modules, verb = f"crates/{name}/out/incremental", "check" if is_program(name) else "lib"
+        done = subprocess.run(["rt", verb], cwd=f"crates/{name}", capture_output=True, text=True)
+        good, told = not done.returncode, done.stdout + done.stderr
+    if not good:
+        sys.exit(f"{told[-2000:]}\nedits: {name} is not proved")
+    return modules
+
+
+def prove_all(names, scratch):
+    """Proves crates, and returns each one's folder of modules."""
+    at_once = jobs() if all(are_left(crates()[name]) for name in names) else 1  # two rt in the same folders wait for each other
+    with concurrent.futures.ThreadPoolExecutor(at_once) as pool:
+        return dict(zip(names, pool.map(lambda name: prove(name, scratch), names)))
+
+
+def jobs():
+    return int(os.environ.get("RT_JOBS", "2"))
 
 
 def kept(one, other):
@@ -127,11 +155,11 @@ def kept(one, other):
     return shutil.copy2(one, other)
 
 
-def proved_modules(name, folder):
-    """A copy of what the proved crate's modules are kept in, as the folder that --incremental takes."""
-    if not os.path.isdir(f"crates/{name}/out/incremental"):
+def copied_modules(modules, folder):
+    """A copy of a proved crate's modules."""
+    if not os.path.isdir(modules):
         return []
-    shutil.copytree(f"crates/{name}/out/incremental", folder, copy_function=kept)
+    shutil.copytree(modules, folder, copy_function=kept)
     return ["--incremental", folder]
 
 
@@ -141,19 +169,16 @@ def checked(folder, words):
     return status == 0, "\n".join(lines)
 
 
-def attempt(path, scratch):
+def attempt(path, scratch, modules):
     """Whether an edit is refused because of a fact, and the message."""
     name, label = path.split("/")[1], os.path.basename(path)[: -len(".edit")]
-    folder = tempfile.mkdtemp(dir=scratch)
-    for part in PARTS:
-        if os.path.isdir(f"crates/{name}/{part}"):
-            shutil.copytree(f"crates/{name}/{part}", os.path.join(folder, part))
+    folder = copy_of(name, scratch)
     with open(path) as text:
         wrong = changed(text.read(), folder)
     if wrong:
         return False, f"{name}/{label}: BAD EDIT: {wrong}"
     began, words, follows = time.time(), words_for(name), 0
-    modules = proved_modules(name, folder + ".modules")
+    modules = copied_modules(modules, folder + ".modules")
     while True:
         proved, log = checked(folder, words + modules)
         if proved or not log.endswith("logic=not-proved"):
@@ -169,6 +194,13 @@ def attempt(path, scratch):
     return good, f"{name}/{label}: {'' if good else 'UNFIT: '}{what[:160]} ({time.time() - began:.0f} s)"
 
 
+def attempts(paths, scratch):
+    """Proves the crates of some edits and tries these; for each whether it is refused because of a fact, and the message."""
+    modules = prove_all(list(dict.fromkeys(path.split("/")[1] for path in paths)), scratch)
+    with concurrent.futures.ThreadPoolExecutor(jobs()) as pool:
+        yield from pool.map(lambda path: attempt(path, scratch, modules[path.split("/")[1]]), paths)
+
+
 def write_tried(names):
     rows = {**tried(), **{name: digest(name) for name in names}}
     with open(TRIED, "w") as out:
@@ -182,17 +214,12 @@ def main():
         print(__doc__.strip())
         return 0
     paths, whole = chosen(words)
-    for name in dict.fromkeys(path.split("/")[1] for path in paths):
-        why = prove(name)
-        if why:
-            sys.exit(f"{why}\nedits: {name} is not proved")
     began, good = time.time(), 0
     with tempfile.TemporaryDirectory() as scratch:
-        with concurrent.futures.ThreadPoolExecutor(int(os.environ.get("RT_JOBS", "2"))) as pool:
-            for refused, line in pool.map(lambda path: attempt(path, scratch), paths):
-                good += refused
-                if not refused or "--quiet" not in words:
-                    print(line, flush=True)
+        for refused, line in attempts(paths, scratch):
+            good += refused
+            if not refused or "--quiet" not in words:
+                print(line, flush=True)
     print(f"edits: {len(paths)} tried, {good} refused at a fact, in {time.time() - began:.0f} s")
     if good == len(paths) and "--write" in words:
         write_tried(whole)
