@@ -65,15 +65,22 @@ def sources_of(name, root=ROOT):
 
 
 def library_of(name, root=ROOT):
-    """A digest of the library that `rt ci` left; `-` if there is none, or if rt keeps one of its own there, which has a stamp."""
+    """A digest of the library that `rt ci` left; None if there is none, or if it is one that rt keeps for itself, which has a stamp."""
     folder = os.path.join(root, "crates", name, "out", "rlib")
     if os.path.exists(os.path.join(folder, "stamp")):
-        return "-"
+        return None
     try:
         with open(os.path.join(folder, f"{name}.rlib", "format"), "rb") as file:  # it has the sums of the library's files
             return hashlib.sha256(file.read()).hexdigest()
     except OSError:
-        return "-"
+        return None
+
+
+def note_left(root=ROOT):
+    """Notes the libraries that `rt ci` left, and of which sources they are."""
+    found = {name: library_of(name, root) for name in crates(root)}
+    with open(os.path.join(root, LEFT), "w") as out:
+        out.writelines(f"{name} {sources_of(name, root)} {library}\n" for name, library in found.items() if library)
 
 
 @functools.lru_cache(maxsize=None)

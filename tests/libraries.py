@@ -14,7 +14,7 @@ import subprocess
 import sys
 from concurrent.futures import ThreadPoolExecutor
 
-from checker import LEFT, ROOT, are_left, command, crates, kit, library_of, sources_of, statics
+from checker import LEFT, ROOT, are_left, command, crates, kit, note_left, sources_of, statics
 
 BEFORE = "build/sources.txt"
 
@@ -50,8 +50,7 @@ def note():
         rows = text.read().splitlines()
     if rows != sources():
         return False
-    with open(LEFT, "w") as out:
-        out.writelines(f"{row} {library_of(row.split()[0])}\n" for row in rows[:-1])
+    note_left()
     script(f"seal '{rows[-1]}' >\"$stamp\"")
     return True
 
@@ -68,7 +67,8 @@ def main(words):
         print("the sources were changed while rt ci ran")
         return 1
     names = sorted(statics())
-    with ThreadPoolExecutor(2 if are_left(names) else 1) as pool:
+    at_once = 2 if all(are_left(crates()[name]) for name in names) else 1  # two rt in the same folders wait for each other
+    with ThreadPoolExecutor(at_once) as pool:
         wrong = [why for why in pool.map(build, names) if why]
     print(*wrong or [f"the archives of {' and '.join(names)} are built"], sep="\n")
     return 1 if wrong else 0

@@ -14,7 +14,7 @@ import time
 
 import believed
 from antt import Citing, Declaration, read_file
-from checker import LEFT, crates, is_left, library_of, sources_of
+from checker import LEFT, crates, is_left, note_left
 from sliced import Slice, check
 from theorem import proved
 from tree import Tree
@@ -303,28 +303,40 @@ def put(path, text):
         out.write(text)
 
 
-# What makes a library that `rt ci` left another one: a file, and its new text.
+LIBRARY = "crates/paths/out/rlib"
+# What makes a library another one than that which `rt ci` left: a file and its new text, and whether it was there when that was noted.
 OTHER = [
-    ("crates/paths/specs/Paths.antt", "-- other sources\n"),
-    ("crates/paths/proofs/More.antt", "-- more sources\n"),
-    ("crates.txt", "general:\npaths: general records\n"),
-    ("crates/paths/out/rlib/paths.rlib/format", "another library\n"),
-    ("crates/paths/out/rlib/stamp", "a library of rt's own\n"),
+    ("crates/paths/specs/Paths.antt", "-- other sources\n", False),
+    ("crates/paths/proofs/More.antt", "-- more sources\n", False),
+    ("crates.txt", "general:\npaths: general records\n", False),
+    (f"{LIBRARY}/paths.rlib/format", "another library\n", False),
+    (f"{LIBRARY}/stamp", "a library of rt's own\n", False),
+    (f"{LIBRARY}/stamp", "a library of rt's own\n", True),
 ]
 
 
+def is_taken(path, text, before):
+    """Whether a crate's library is taken as that which `rt ci` left, with one change made before or after it was noted."""
+    with tempfile.TemporaryDirectory() as folder:
+        put(os.path.join(folder, "crates.txt"), "paths: general\n")
+        sources("paths", folder)
+        put(os.path.join(folder, LIBRARY, "paths.rlib/format"), "a library\n")
+        os.makedirs(os.path.dirname(os.path.join(folder, LEFT)))
+        if before:
+            put(os.path.join(folder, path), text)
+        note_left(folder)
+        if not before and path:
+            put(os.path.join(folder, path), text)
+        return is_left("paths", folder)
+
+
 def taken():
-    """The changes after which a crate's library is still taken as that which `rt ci` left."""
-    for path, text in [(None, None), *OTHER]:
-        with tempfile.TemporaryDirectory() as folder:
-            put(os.path.join(folder, "crates.txt"), "general:\npaths: general\n")
-            sources("paths", folder)
-            put(os.path.join(folder, "crates/paths/out/rlib/paths.rlib/format"), "a library\n")
-            put(os.path.join(folder, LEFT), f"paths {sources_of('paths', folder)} {library_of('paths', folder)}\n")
-            if path:
-                put(os.path.join(folder, path), text)
-            if is_left("paths", folder) != (path is None):
-                yield f"not noticed: {path} changed since `rt ci`" if path else "a library that `rt ci` left isn't taken"
+    """The libraries that are wrongly taken, or not taken."""
+    if not is_taken(None, None, False):
+        yield "a library that `rt ci` left isn't taken"
+    for path, text, before in OTHER:
+        if is_taken(path, text, before):
+            yield f"a library is taken in spite of {path}{' before' if before else ''}"
 
 
 def main():
