@@ -34,9 +34,9 @@ extern "C" {
 #endif
 
 /* The version of this header; halivomue_version() returns the library's. */
-#define HALIVOMUE_VERSION "0.4"
+#define HALIVOMUE_VERSION "0.5"
 #define HALIVOMUE_VERSION_MAJOR 0
-#define HALIVOMUE_VERSION_MINOR 4
+#define HALIVOMUE_VERSION_MINOR 5
 
 /* Bytes of stack that are enough for a call. tests/stack/run measures them. */
 #define HALIVOMUE_READ_STACK 1024
@@ -167,8 +167,8 @@ struct halivomue_tidiness halivomue_tidy(const uint8_t *bytes, size_t length);
  * number, record  as from halivomue_read, or one of the last two refusals; if
  *                 number is not 0, everything else is 0
  * length          the length in bytes of the shortened form, which is at `out`
- * moved           1 if a branch was changed; if it is 0, the shortened form is
- *                 the file, byte for byte
+ * moved           1 if a branch or a test of a length was changed; if it is 0,
+ *                 the shortened form is the file, byte for byte
  * grown           instructions that were appended by copying
  * fresh           new registers
  * rescued         constants that were moved to the front of block 0
@@ -203,6 +203,13 @@ struct halivomue_shortening {
  * if the original does, and in the same way. Both runs start with the original's
  * single constants loaded (the registers that only one Const, ConstF or AddrOf
  * writes) and meet the same outside; docs/FORMAT.md describes the machine.
+ * If a Cmp was rewritten that tested a length against 0, this is promised under two
+ * conditions; other files need neither. Each time the shortened form's run stands
+ * before such a Cmp, the register that it used to test holds the exact length of
+ * the bounds that it now compares, in their direction, 0 if the range is null, and
+ * this length is below 2^63. And both runs start with the registers loaded that
+ * this step goes by: exactly one field of the code writes such a register once the
+ * branches are shortened, and it is a Const's (docs/FORMAT.md).
  */
 struct halivomue_shortening halivomue_shorten(const uint8_t *bytes, size_t length,
                                               uint8_t *out, size_t room);

@@ -19,7 +19,7 @@ from .answers import LONGEST, ROOM, Reading, Refused, Shortening, Tidiness, is_b
 Data = Union[bytes, bytearray, memoryview, mmap.mmap]
 
 #: The version of the package, and of the library that it needs.
-VERSION = "0.4"
+VERSION = "0.5"
 
 _NAME = "libhalivomue.so"
 

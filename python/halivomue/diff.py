@@ -6,12 +6,14 @@ from difflib import SequenceMatcher
 from itertools import zip_longest
 from typing import Dict, Iterator, List, NamedTuple, Optional, Sequence, Tuple
 
-from . import listing, roles, show, steps
+from . import listing, roles, show, steps, traced
+from .lengths import Sliced
 from .procedure import Instruction, Procedure
 from .styled import Line, wrapped
 
 SIGNS = {"": " ", "changed": "~", "copied": "+", "rescued": "^", "emptied": "~", "gone": "-"}
 KEY = "+ copied  ~ changed  - gone  ^ rescued"
+_EXACT = "a test of a length became a comparison of its bounds: the runs are alike if that length is exact and below 2^63 there"
 _UNTOLD = "how it came about can't be told: the steps as this package knows them don't give this form"
 
 
@@ -48,18 +50,21 @@ class Comparison(NamedTuple):
 # What was done, in words
 
 
-def _line(line: steps.Line, at: int) -> str:
-    """An instruction with its statement, and its block if it comes from another."""
+_NO_LISTS = Procedure()
+
+
+def _line(line: traced.Line, at: int, p: Procedure = _NO_LISTS) -> str:
+    """An instruction with its statement, and its block if it comes from another; the procedure has its list, if it has one."""
     elsewhere = f" of block {line.block}" if line.block != at else ""
-    return f"{listing.brief(Procedure(), line.i)}, statement {line.i.statement}{elsewhere}"
+    return f"{listing.brief(p, line.i)}, statement {line.i.statement}{elsewhere}"
 
 
-def _by(lines: Sequence[steps.Line], at: int) -> str:
+def _by(lines: Sequence[traced.Line], at: int, p: Procedure = _NO_LISTS) -> str:
     more = f"{len(lines)} instructions, the last " if len(lines) > 2 else ""
-    return "(" + more + "; ".join(_line(line, at) for line in (lines[-1:] if more else lines)) + ")"
+    return "(" + more + "; ".join(_line(line, at, p) for line in (lines[-1:] if more else lines)) + ")"
 
 
-def _copy(at: int, line: steps.Line, copy: steps.Block, source: int) -> str:
+def _copy(at: int, line: traced.Line, copy: traced.Block, source: int) -> str:
     return f"r{roles.number(line.i, 'c')} is a copy of r{source} {_by(copy, at)}" if copy else ""
 
 
@@ -93,23 +98,32 @@ def _emptied(e: steps.Emptied) -> str:
     return f"no way from block 0 leads here{more}: it becomes a Br" + (f"; rescued to the front of block 0: {told}" if told else "")
 
 
-def words(event: steps.Event) -> str:
-    """What an event did, in words."""
+def _sliced(e: Sliced, p: Procedure) -> str:
+    a, (x, y) = roles.number(e.line.i, "a"), roles.read(e.to.i)
+    down = "down " if e.bounds.down else ""
+    told = f"r{a} is the length from r{e.bounds.left} {down}to r{e.bounds.right} {_by(e.bounds.by, e.block, p)}"
+    return f"{told}: the Cmp compares r{x} with r{y} instead of r{a} with 0"
+
+
+def words(event: steps.Event, sent: Procedure) -> str:
+    """What an event did to the file as sent, in words."""
     if isinstance(event, steps.Joined):
         return _joined(event)
     if isinstance(event, steps.Decided):
         return _decided(event)
     if isinstance(event, steps.Turned):
         return _turned(event)
+    if isinstance(event, Sliced):
+        return _sliced(event, sent)
     return _copied(event) if isinstance(event, steps.Copied) else _emptied(event)
 
 
 # The comparison
 
 
-def _rows(at: int, sent: Sequence[Instruction], short: steps.Block, rescued: Sequence[steps.Line]) -> Iterator[Row]:
+def _rows(at: int, sent: Sequence[Instruction], short: traced.Block, rescued: Sequence[traced.Line]) -> Iterator[Row]:
     """A block's rows by the origin of its lines."""
-    kept: Dict[int, steps.Line] = {line.place: line for line in short if line.how in ("", "changed")}
+    kept: Dict[int, traced.Line] = {line.place: line for line in short if line.how in ("", "changed")}
     saved = {line.place for line in rescued}
     yield from (Row(None, line.i, line.how, line.block) for line in short if line.how == "rescued")
     for place, i in enumerate(sent):
@@ -128,7 +142,7 @@ def _rows(at: int, sent: Sequence[Instruction], short: steps.Block, rescued: Seq
 def _traced(sent: Procedure, trace: steps.Trace) -> Iterator[Block]:
     emptied = {event.block: event.rescued for event in trace.events if isinstance(event, steps.Emptied)}
     for at, (before, after) in enumerate(zip(sent.blocks, trace.blocks)):
-        notes = tuple(words(event) for event in trace.events if event.block == at)
+        notes = tuple(words(event, sent) for event in trace.events if event.block == at)
         yield Block(tuple(_rows(at, before, after, emptied.get(at, ()))), notes, at in emptied)
 
 
@@ -151,6 +165,8 @@ def compare(sent: Procedure, short: Procedure, counts: Optional[Tuple[int, int, 
     trace = steps.trace(sent) if within else None
     if trace is not None and bytes(trace.procedure) == bytes(short) and counts in (None, trace.counts):
         note = f"nothing was done: {trace.stopped}" if not trace.events else ""
+        if any(isinstance(event, Sliced) for event in trace.events):
+            note = _EXACT
         return Comparison(sent, short, tuple(_traced(sent, trace)), note, True)
     blocks = tuple(_untraced(a, b) for a, b in zip_longest(sent.blocks, short.blocks, fillvalue=()))
     return Comparison(sent, short, blocks, _UNTOLD, False)

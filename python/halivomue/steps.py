@@ -9,24 +9,14 @@ from __future__ import annotations
 from collections import Counter
 from typing import Dict, List, NamedTuple, Optional, Sequence, Set, Tuple, Union
 
-from . import roles
+from . import lengths, roles
+from .lengths import Sliced
+from .traced import Block, Line, changed
 from .procedure import Instruction, Procedure
 from .roles import number
 
 _COPIED = ("Const", "ConstF", "Move", "Select", "Cmp", "Bool")
 _HOPS, _LONE_BRS, _LARGEST = 6, 4, 4
-
-
-class Line(NamedTuple):
-    """An instruction, where it was in the file as sent, and how it got where it is now."""
-
-    i: Instruction
-    block: int
-    place: int
-    how: str = ""  # changed, copied, rescued, emptied; empty if it is as sent
-
-
-Block = Tuple[Line, ...]
 
 
 class Known(NamedTuple):
@@ -85,7 +75,7 @@ class Emptied(NamedTuple):
     reached_before: bool
 
 
-Event = Union[Joined, Decided, Turned, Copied, Emptied]
+Event = Union[Joined, Decided, Turned, Copied, Emptied, Sliced]
 
 
 class Trace(NamedTuple):
@@ -97,12 +87,6 @@ class Trace(NamedTuple):
     events: Tuple[Event, ...]
     counts: Tuple[int, int, int, int]
     stopped: str
-
-
-def _with(line: Line, kind: str, *values: int) -> Line:
-    """The line with another instruction and the same statement."""
-    how = line.how if line.how == "copied" else "changed"
-    return line._replace(i=Instruction(kind, "", line.i.statement, values), how=how)
 
 
 def lone(block: Block, kind: str) -> bool:
@@ -126,7 +110,7 @@ def equal_arms(blocks: List[Block]) -> List[Event]:
             continue
         (t, over_t), (f, over_f) = (_follow(blocks, to) for to in end.i.targets)
         if t == f:
-            blocks[at] = (*block[:-1], _with(end, "Br", t))
+            blocks[at] = (*block[:-1], changed(end, "Br", "", t))
             events.append(Joined(at, end, (over_t, over_f), t))
     return events
 
@@ -282,12 +266,12 @@ class Threading:
         t, f = end.i.targets
         if known is not None:
             to = t if known.value else f
-            self.put(at, (_with(end, "Br", to),), Decided(at, end, copy, source, known, to))
+            self.put(at, (changed(end, "Br", "", to),), Decided(at, end, copy, source, known, to))
             return True
         new_t, new_f = self.led_on(at, source, "t", t), self.led_on(at, source, "f", f)
         if (source, new_t, new_f) != (end.i.c, t, f):
             arms = tuple((arm, old, new) for arm, old, new in (("t", t, new_t), ("f", f, new_f)) if old != new)
-            self.put(at, (_with(end, "CondBr", source, new_t, new_f),), Turned(at, end, copy, source, arms))
+            self.put(at, (changed(end, "CondBr", "", source, new_t, new_f),), Turned(at, end, copy, source, arms))
         return False
 
     def led_on(self, at: int, c: int, arm: str, to: int) -> int:
@@ -377,10 +361,11 @@ def trace(p: Procedure) -> Trace:
         tuple(Line(i, at, place) for place, i in enumerate(block)) for at, block in enumerate(p.blocks)
     ]
     events: List[Event] = []
-    types, grown, rescued = list(p.registers), 0, 0
+    types, grown, rescued, looped = list(p.registers), 0, 0, False
     stopped = "it has fewer than 6 instructions" if len(p.code) < 6 else ""
     if not stopped:
         events = equal_arms(blocks)
+        looped = _back_edge(blocks)
         stopped = _shut(blocks, p.body is not None)
     if not stopped:
         facts = Facts(p, blocks)
@@ -390,6 +375,9 @@ def trace(p: Procedure) -> Trace:
         rescued = sum(len(event.rescued) for event in emitted if isinstance(event, Emptied))
         events += threading.events + emitted
         stopped = "" if threading.events else "no Br or CondBr could be followed"
+    if looped and lengths.has_lengths(blocks):
+        constants = {reg: known.value for reg, known in Facts(p, blocks).constants.items()}
+        events += lengths.slice_tests(p, constants, blocks)
     made = Procedure(types, [[line.i for line in block] for block in blocks], p.body, p.operands, p.tables)
     counts = int(bool(events)), grown, len(types) - len(p.registers), rescued
     return Trace(made, tuple(blocks), tuple(events), counts, stopped)

@@ -10,8 +10,8 @@ from common import Case, PROGRAM, REFERENCE, halivomue, unittest
 import fleet
 from halivomue import Refused
 
-FAMILIES = {"small": 2000, "chains": 1000, "process": 1000, "kinds": 1000, "known": 700, "tidy": 1200, "damaged": 2000, "large": 150,
-            "tidy-large": 150}
+FAMILIES = {"small": 1700, "chains": 1000, "process": 1000, "kinds": 1000, "known": 700, "tidy": 1200, "damaged": 1700, "large": 150,
+            "tidy-large": 150, "lengths": 200, "lengths-split": 200, "tidy-lengths": 200}
 MADE_HERE = 800
 
 

@@ -128,10 +128,46 @@ class Replayed:
         self.front += rescued
         self.blocks[e.block] = [Instruction("Br", "", block[0].statement, (e.block + 1,))]
 
+    def put_front(self):
+        self.blocks[0][:0] = self.front
+        self.front = []
+
+    def sliced(self, e):
+        self.put_front()
+        block, cmp = self.blocks[e.block], e.line.i
+        x, y = (e.bounds.left, e.bounds.right) if e.bounds.down else (e.bounds.right, e.bounds.left)
+        op = {"Eq": "Lt", "Le": "Lt", "Ne": "Ge", "Gt": "Ge"}[cmp.op]
+        self.test.assertEqual(e.to.i, Instruction("Cmp", op, cmp.statement, (cmp.dst, x, y)))
+        at = [k for k, i in enumerate(block) if i == cmp and self.tests_length(block[:k], e)]
+        self.test.assertTrue(at)
+        block[at[0]] = e.to.i
+
+    def tests_length(self, before, e):
+        """Does the Cmp test what the code before it says is the length of the bounds, by the instructions that are told?"""
+        code = [i for block in self.blocks for i in block]
+        times = Counter(reg for i in code for reg in roles.written(i))
+        constants = {i.dst: i.v for i in code if i.kind == "Const" and times[i.dst] == 1}
+        first, last = e.bounds.by[0].i, e.bounds.by[-1].i
+        bounds = (e.bounds.left, e.bounds.right)
+        if first.kind == "BoundsLen":
+            parts, since = roles.read(first), {first: (first.dst, *bounds)}
+        else:
+            parts, since = roles.listed(self.p, first), {first: (first.at, *bounds), last: (last.dst, last.dope)}
+            if (last.kind, last.dope, last.dim) != ("DopeLen", first.at, 0):
+                return False
+        for i, regs in since.items():
+            if i not in before:
+                return False
+            after = before[len(before) - before[::-1].index(i) :]
+            if any(reg in regs for j in after for reg in roles.written(j)):
+                return False
+        said = (tuple(parts[:2]), constants.get(parts[2]), last.dst, constants.get(e.line.i.b))
+        return said == (bounds, int(e.bounds.down), e.line.i.a, 0)
+
     def all(self, events):
         for event in events:
             getattr(self, type(event).__name__.lower())(event)
-        self.blocks[0][:0] = self.front
+        self.put_front()
         return self.blocks
 
 
@@ -152,7 +188,7 @@ class Steps(unittest.TestCase):
                     self.assertNotIn(event.block, there)
             self.assertEqual(bool(trace.events), bool(short.moved))
             tally[trace.stopped] += 1
-        self.assertTrue(all(tally[name] > 20 for name in ("Joined", "Decided", "Turned", "Copied", "Emptied")), tally)
+        self.assertTrue(all(tally[name] > 20 for name in ("Joined", "Decided", "Turned", "Copied", "Emptied", "Sliced")), tally)
         self.assertTrue(all(tally[why] > 3 for why in ("it has fewer than 6 instructions", "")), tally)
 
     def test_origins(self):

@@ -13,6 +13,8 @@ from answers import answers  # noqa: E402  (tests/reference)
 KIND = {kind.name: number for number, kind in enumerate(KINDS)}
 COPIED = ("Const", "ConstF", "Move", "Select", "Cmp", "Bool")
 I64, PTR, UP, NOT = 0, 2, 1, 3
+# Cmp's ops: Eq and Le become Lt, Ne and Gt become Ge.
+TURNED = {0: 2, 3: 2, 1: 5, 4: 5}
 
 
 def record(cls, kind, statement, *places):
@@ -65,12 +67,13 @@ def latch(blocks, at, body):
     return step[-1].name == "Br" and back and any(r.name in adding and r.op < 2 for r in step)
 
 
-def gate(blocks, body):
-    targets = [block[-1].targets() for block in blocks]
-    if not any(to <= at for at, row in enumerate(targets) for to in row):
-        return False
+def loops(blocks):
+    return any(to <= at for at, block in enumerate(blocks) for to in block[-1].targets())
+
+
+def leads_on(blocks, body):
     for at, block in enumerate(blocks):
-        to = targets[at]
+        to = block[-1].targets()
         if block[-1].name == "Br" and to[0] != at and small(blocks[to[0]]) and not latch(blocks, to[0], body):
             return True
         if block[-1].name == "CondBr" and any(lone(blocks[t], "CondBr") for t in to):
@@ -216,6 +219,63 @@ def emit(file, thread):
     return len(rescued)
 
 
+class Slices:
+    """The Cmps of a length with 0, rewritten to compare the bounds. A direction is True if it is downward."""
+
+    def __init__(self, file, blocks):
+        code = [r for block in blocks for r in block]
+        defs = Counter(d for r in code for d in r.fields(True))
+        self.const = {r.p[0]: word(r) for r in code if r.name == "Const" and defs[r.p[0]] == 1}
+        self.operands = [r.p[0] for r in file.of[OPERAND]]
+        self.edited = False
+        for block in blocks:
+            self.bounds, self.dopes, self.spans = {}, {}, {}
+            for at, r in enumerate(block):
+                block[at] = self.looked_at(r)
+                for d in r.fields(True):
+                    self.forget(d)
+                self.note(r)
+
+    def looked_at(self, r):
+        """The instruction, or what takes its place."""
+        found = self.spans.get(r.p[1]) or self.bounds.get(self.dopes.get(r.p[1]))
+        if r.name != "Cmp" or r.op not in TURNED or not found or self.const.get(r.p[2]) != 0:
+            return r
+        left, right, down = found
+        r = copy.deepcopy(r)
+        r.op = TURNED[r.op]
+        r.p[1:3] = (left, right) if down else (right, left)
+        self.edited = True
+        return r
+
+    def forget(self, d):
+        self.bounds = {at: by for at, by in self.bounds.items() if d not in (at, *by[:2])}
+        self.dopes = {n: at for n, at in self.dopes.items() if d not in (n, at)}
+        self.spans = {n: by for n, by in self.spans.items() if d not in (n, *by[:2])}
+
+    def range(self, to, left, right, direction):
+        """Left, right and direction, if the direction is a constant that says one and `to` is no bound."""
+        down = {0: False, 1: True}.get(self.const.get(direction))
+        return None if to in (left, right) or down is None else (left, right, down)
+
+    def note(self, r):
+        if r.name == "BoundsLen":
+            by = self.range(*r.p[:4])
+            if by:
+                self.spans[r.p[0]] = by
+        if r.name == "MakeDope" and r.p[2] == 3:
+            by = self.range(r.p[0], *self.operands[r.p[1]:r.p[1] + 3])
+            if by:
+                self.bounds[r.p[0]] = by
+        if r.name == "DopeLen" and r.p[2] == 0 and r.p[1] in self.bounds and r.p[0] != r.p[1]:
+            self.dopes[r.p[0]] = r.p[1]
+
+
+def has_lengths(blocks):
+    names = {r.name for block in blocks for r in block}
+    return bool(names & {"MakeDope", "BoundsLen"} and names & {"DopeLen", "BoundsLen"})
+
+
 def written(file, types, blocks):
     ends = [0]
     for block in blocks:
@@ -239,12 +299,15 @@ def shorten(data, room):
     moved = grown = fresh = rescued = 0
     if len(file.of[INSTRUCTION]) >= 6:
         moved = int(equal_arms(blocks))
-        if gate(blocks, bool(file.of[BODY])):
+        looped = loops(blocks)
+        if looped and leads_on(blocks, bool(file.of[BODY])):
             thread = Thread(file, [list(block) for block in blocks])
             if thread.edited:
                 moved, grown, fresh = 1, thread.grown, len(thread.types) - len(types)
                 rescued = emit(file, thread)
                 types, blocks = thread.types, thread.blocks
+        if looped and has_lengths(blocks):
+            moved |= Slices(file, blocks).edited
     out = written(file, types, blocks)
     if len(out) > room:
         return 9, 0, 0, 0, 0, 0, 0, b""

@@ -8,7 +8,7 @@ import re
 from dataclasses import dataclass
 
 STEPS = ["counts", "dupable", "small", "latch", "reads_konst", "code", "edit", "thread",
-         "emit", "note", "equal_arms", "may_thread", "has_back_edge", "run"]
+         "emit", "note", "equal_arms", "may_thread", "has_back_edge", "slice_tests", "run"]
 KINDS = ["Const", "ConstF", "Move", "AddrOf", "Select", "Cmp", "Bool", "Bin", "BinRange", "Load",
          "Store", "Check", "MakeDope", "DopeLen", "BoundsLen", "Alloc", "TakeBounds", "CallNative",
          "Br", "CondBr", "Case", "Ret", "Unreachable", "Stmt"]
@@ -34,13 +34,14 @@ def function(text, name):
     """Start and end of a function; of `run`, what comes before the first call that is turned off."""
     m = re.search(rf"^( *)(pub(\([a-z]+\))? )?fn {name}\b", text, re.M)
     end = text.index(f"\n{m[1]}}}\n", m.start())
-    stop = text.find("\n    if looped && crate::level::", m.start(), end)
+    stop = text.find("\n    if moved && crate::level::", m.start(), end)
     return m.start(), end if stop < 0 else stop
 
 
 def uncommented(text):
-    """The text with comments and the tally's probes blanked, places kept."""
-    return re.sub(r"//[^\n]*|crate::probe::(hop|br|decided|kept|turned)\([^\n]*", lambda m: " " * len(m[0]), text)
+    """The text with comments, the tally's probes and the switch of slice_tests blanked, places kept."""
+    probes = "hop|br|decided|kept|turned|sent|gate|bounded|sliced|overwritten|before_noting|direction|made"
+    return re.sub(rf"//[^\n]*|(&& )?crate::probe::({probes})\([^\n]*|&& crate::level::slice_tests\(\)", lambda m: " " * len(m[0]), text)
 
 
 def spots(text, start, end, pattern):
@@ -50,13 +51,14 @@ def spots(text, start, end, pattern):
 RELATIONS = {"==": ["!="], "!=": ["=="], "<=": ["<", ">"], "<": ["<=", ">="], ">=": [">", "<"], ">": [">=", "<="]}
 TWINS = [("t", "e"), ("t2", "f2"), ("nt", "ne"), ("dst", "src"), ("n0", "nb"), ("known", "copy"),
          ("a", "l"), ("a", "b"), ("defs", "uses"), ("code", "loc"), ("c", "l"), ("dst", "a"), ("old", "nr"),
-         ("x", "y"), ("kc", "known"), ("lc", "ll")]
+         ("x", "y"), ("kc", "known"), ("lc", "ll"), ("l", "r"), ("left", "right"), ("mk", "bounds"),
+         ("len_of", "bounds"), ("a", "z"), ("at", "dope"), ("dst", "dope"), ("a2", "b2")]
 WORDS = {"true": ["false"], "false": ["true"], "break": ["continue"], "continue": ["break"],
          "any": ["all"], "all": ["any"], "is_some": ["is_none"], "is_empty": ["is_some"],
          "last": ["first"], "saturating_add": ["wrapping_add"], "Def": ["Use"], "Use": ["Def"],
          "And": ["Or", "Xor"], "Or": ["And", "Xor"], "Xor": ["Or"], "Not": ["And"],
          "Some": ["None"], "I64": ["F64"], "Ptr": ["Handle"], "Add": ["Mul"], "Sub": ["Mul"],
-         "Up": ["Pkg"]}
+         "Up": ["Pkg"], "Eq": ["Ne"], "Ne": ["Eq"], "Lt": ["Le"], "Le": ["Lt"], "Gt": ["Ge"], "Ge": ["Gt"]}
 
 
 def by_rules(file, where, text, start, end):
@@ -103,7 +105,7 @@ def by_rules(file, where, text, start, end):
         yield fault(m, "", "alternative")
     for m in spots(text, start, end, r"Inst::\w+(?: \{[^{}]*\})?\s*\|(?!\|)\s*"):
         yield fault(m, "", "alternative")
-    for m in spots(text, start, end, r"(IntOp|RegTy)::\w+ \| |\s\| (IntOp|RegTy)::\w+"):
+    for m in spots(text, start, end, r"(IntOp|RegTy|CmpOp)::\w+ \| |\s\| (IntOp|RegTy|CmpOp)::\w+"):
         yield fault(m, "", "alternative")
     for m in spots(text, start, end, r"(?m)^ +[^\n]*;$"):
         if balanced(m[0]) and not re.match(r" *(let|\}|return)\b", m[0]):
@@ -209,9 +211,16 @@ def by_hand(cfg):
         ("run", "moved |= thread", "moved = thread", "equal arms forgotten in moved"),
         ("run", "moved |= thread", "moved |= true | thread", "moved wherever the gate opens"),
         ("has_back_edge", "t.0 as usize <= b", "t.0 as usize == b", "only loops of one block"),
+        ("slice_tests", "mk.insert(at.0, (l, r, dv == 1));", "mk.entry(at.0).or_insert((l, r, dv == 1));", "the first of two MakeDopes stays"),
+        ("slice_tests", "match i {\n                Inst::BoundsLen", "if let Inst::MakeDope { at, .. } = i { mk.remove(&at.0); }\n            match i {\n                Inst::BoundsLen", "a MakeDope that isn't noted forgets"),
+        ("slice_tests", "let i = f.code[pc];\n            if let Inst::Cmp", "let i = f.code[pc];\n            for_defs(&i, |d| { mk.remove(&d.0); len_of.remove(&d.0); bounds.remove(&d.0); });\n            if let Inst::Cmp", "a Cmp is looked at after its write"),
+        ("slice_tests", "kc[z.0 as usize] == Some(0)", "kc[z.0 as usize].is_none_or(|v| v == 0)", "any register may be zero"),
+        ("run", "if looped   ", "if has_back_edge(f)   ", "looped asked after threading"),
+        ("run", "let looped = has_back_edge(f);", "let looped = has_back_edge(f); let early = counts(f).0;", "counts before threading (see below)"),
     ]
     again = {
         "earlier edits unseen (see below)": ("(target(f, t), target(f, e))", "(target(&first, t), target(&first, e))"),
+        "counts before threading (see below)": ("moved |= slice_tests(f, &c.0)", "moved |= slice_tests(f, &{ let mut d = early; d.resize(f.reg_ty.len(), 1); d })"),
         "counts before equal arms (see below)": ("let c = counts(f);\n        moved |= thread", "let c = early;\n        moved |= thread"),
     }
     for where, old, new, what in listed:

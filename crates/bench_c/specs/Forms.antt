@@ -1,10 +1,11 @@
 -- The forms of a file by number, for tests that look at `run` stage by stage.
-use Rattle.std.specs.Prelude.{ℕ, List, Bool, true, false, cond, eqb}
+use Rattle.std.specs.Prelude.{ℕ, ◌/◌, List, length, Bool, true, false, ◌||◌, cond, eqb, ltb}
 use Rattle.records.specs.Record.{records_of}
 use Rattle.read.specs.Reading.{reading}
 use Rattle.procedure.specs.Procedure.{procedure_of}
 use Rattle.steps.specs.Run.{unchanged, threaded_form}
-use Rattle.steps.specs.Shorten.{Answer, Outcome, refusal, shortened, above}
+use Rattle.steps.specs.Shorten.{Answer, Outcome, refusal, shortened, above, shorten}
+use Rattle.procedure_parts.specs.Opened.{Parts}
 use Rattle.bench_c.specs.declared.HalivomueForm.{HalivomueForm}
 
 abbrev pub answer_of : HalivomueForm → Answer
@@ -35,6 +36,14 @@ abbrev pub threaded : List ℕ → List ℕ → Outcome
 threaded b out =
     where_read b out (cond (above 480 480 (records_of b)) (refusal 8 0 out) (shortened (threaded_form (procedure_of (records_of b))) out))
 
+-- the limits, asked of the parts
+abbrev pub above_in : Parts → Bool
+above_in x = ltb 480 (length x.registers / 32) || ltb 480 (length x.code / 32)
+
+-- 2: the sliced form, which is Shorten's own
+abbrev pub sliced : List ℕ → List ℕ → Outcome
+sliced b out = shorten b out
+
 -- 10: no such form
 abbrev pub form_of : ℕ → List ℕ → List ℕ → Outcome
-form_of which b out = cond (eqb which 0) (sent b out) (cond (eqb which 1) (threaded b out) (refusal 10 0 out))
+form_of which b out = cond (eqb which 0) (sent b out) (cond (eqb which 1) (threaded b out) (cond (eqb which 2) (sliced b out) (refusal 10 0 out)))

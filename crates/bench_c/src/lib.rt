@@ -7,19 +7,25 @@ ghost use Rattle.records.specs.Record.{records_of};
 ghost use Rattle.procedure.specs.Procedure.{Procedure, first_of};
 ghost use Rattle.steps.specs.Thread.{Work};
 ghost use Rattle.steps.specs.Run as run;
-ghost use Rattle.steps.specs.Shorten.{refused as refused_by};
+ghost use Rattle.steps.specs.Shorten.{refused as refused_by, shortened};
 ghost use Rattle.facts.specs.Storage.{facts_in};
+ghost use Rattle.procedure_parts.specs.Opened.{Parts, recoded, Holds, Opened};
+ghost use Rattle.parts.specs.Parts.{parts_in};
+ghost use Rattle.slice.specs.Staged.{Staged};
+ghost use Rattle.shorten.specs.Storage.{Room, Fits};
 ghost use Rattle.run.specs.Ran.{left, ran_in};
 ghost use Rattle.emit.specs.Stage.{Ready, Emitted};
 ghost use Rattle.steps.specs.Told.{told};
 ghost use Rattle.output.specs.Filed.{outcome, counts, filed, short, form_records};
 ghost use Rattle.bench_c.specs.Steps.{ran_of, staged_of, Put};
-ghost use Rattle.bench_c.specs.Forms.{answer_of, sent as sentOf, form_of};
+ghost use Rattle.bench_c.specs.Forms.{answer_of, sent as sentOf, above_in, threaded as threadedOf, form_of};
 
 use blocks::Blocks;
 use output::{Changes, Form};
-use read::Refusal;
+use parts::File;
+use read::{Reason, Refusal};
 use run::Begin;
+use shortening::{Stage, Storage};
 use steps::Shortening;
 
 // How far `run` got before Emit.
@@ -98,6 +104,20 @@ pub extern "C" fn halivomue_emit(
         n: e.n,
         rescued: e.rescued,
     }
+}
+
+// `slice_tests` over code and block table in place, given how many registers there are; true if a Cmp was rewritten.
+#[unsafe(no_mangle)]
+pub extern "C" fn halivomue_slice(
+    code: &mut [u8],
+    heads: &[u8],
+    operands: &[u8],
+    registers: usize,
+) -> bool
+    ensures { (p : Procedure) (x : Parts) (kinds : List ℕ) → Holds p (recoded x code.old heads.now) kinds
+        → operands.now ≡ x.operands → registers ≡ length p.registers → Staged p x kinds code.new heads.now result }
+{
+    slice::slice(code, heads, operands, registers)
 }
 
 // Writes a result with new registers into the output buffer; returns how many bytes were written, 0
@@ -196,18 +216,82 @@ fn sent(bytes: &[u8], out: &mut [u8]) -> Result<Shortening, Refusal>
     ensures { outcome (told result) out.new ≡ sentOf bytes.now out.old }
 {
     read::read(bytes)?;
-    shortening::put_sent(out, &parts::File::open(bytes))
+    shortening::put_sent(out, &File::open(bytes))
 }
 
-// Writes a form of a file into the output buffer: 0 is the file as sent, 1 the threaded form. A request that adds a step after
-// Emit adds the form after that step as 2, and 1 then stops before it. Any other number is refused with 10.
+// The threaded form over storage for MOST registers and instructions and some blocks, of the lengths that Room gives. Eight numbers:
+// an array's length can't be computed from a const parameter.
+fn thread_over<
+    const MOST: usize,
+    const BLOCKS: usize,
+    const WORK: usize,
+    const TABLE: usize,
+    const KINDS: usize,
+    const WORDS: usize,
+    const FACTS: usize,
+    const STAGED: usize,
+>(file: &File, out: &mut [u8]) -> Result<Shortening, Refusal>
+    requires { Room MOST BLOCKS WORK TABLE KINDS WORDS FACTS STAGED }
+    ensures { (p : Procedure) → Opened p (parts_in file.now) → Fits MOST BLOCKS (parts_in file.now)
+        → outcome (told result) out.new ≡ shortened (run.threaded_form p) out.old }
+{
+    let mut work = [0u8; WORK];
+    let mut table = [0u8; TABLE];
+    let mut kinds = [0u8; KINDS];
+    let mut known = [0u64; WORDS];
+    let mut copy = [0u32; WORDS];
+    let mut facts = [0u64; FACTS];
+    let mut staged = [0u8; STAGED];
+    let mut heads = [0u8; TABLE];
+    let nb = (file.heads().len() / 32).min(BLOCKS);
+    let nr = (file.registers().len() / 32).min(MOST);
+    let mut storage = Storage {
+        work: &mut work,
+        table: &mut table[..32 * nb],
+        kinds: &mut kinds,
+        known: &mut known,
+        copy: &mut copy,
+        facts: &mut facts[..5 * nr],
+    };
+    let mut stage = Stage {
+        code: &mut staged,
+        heads: &mut heads[..32 * nb],
+    };
+    shortening::thread_in(file, out, &mut storage, &mut stage)
+}
+
+// Whether a file is above the shortening limits.
+fn above(file: &File) -> bool
+    ensures { result ≡ above_in (parts_in file.now) }
+{
+    file.registers().len() / 32 > 480 || file.code().len() / 32 > 480
+}
+
+// The threaded form of a file within the shortening limits.
+fn threaded(bytes: &[u8], out: &mut [u8]) -> Result<Shortening, Refusal>
+    ensures { outcome (told result) out.new ≡ threadedOf bytes.now out.old }
+{
+    read::read(bytes)?;
+    let file = File::open(bytes);
+    if above(&file) {
+        return Err(Refusal {
+            reason: Reason::ShorteningLimit,
+            place: 0,
+        });
+    }
+    thread_over::<480, 160, 37344, 5120, 280, 990, 2400, 24192>(&file, out)
+}
+
+// Writes a form of a file into the output buffer: 0 is the file as sent, 1 the threaded form, 2 the sliced form. Any other number is
+// refused with 10.
 #[unsafe(no_mangle)]
 pub extern "C" fn halivomue_form(bytes: &[u8], which: u32, out: &mut [u8]) -> HalivomueForm
     ensures { outcome (answer_of result) out.new ≡ form_of which bytes.now out.old }
 {
     match which {
         0 => sent(bytes, out).into(),
-        1 => shorten::shorten(bytes, out).into(),
+        1 => threaded(bytes, out).into(),
+        2 => shorten::shorten(bytes, out).into(),
         _ => refused(10, 0),
     }
 }

@@ -168,31 +168,31 @@ module _ (address : Address) where
       by true e = let t = fixed_constant x e in let w : t.0 ≡ v = cc t.1 in subst (Fixes x) w t.2
       by false e = clash_some c (varies x e)
 
+-- where an instruction goes on, a fact holds that holds whatever is stored
+pub passes_any : (Q : Regs → Type 0) (e : Effect) (rs : List ℕ) (g : Regs) → ((vs : List ℕ) → Q (stores rs vs g)) → Passes e rs Q g
+passes_any Q (writes vs) rs g f = f vs
+passes_any Q (goes b) rs g f = tt
+passes_any Q (ends e) rs g f = tt
+passes_any Q (asks a) rs g f = f
+
+pub passes-map : (Q Q' : Regs → Type 0) (e : Effect) (rs : List ℕ) (g : Regs) → ((g : Regs) → Q g → Q' g) → Passes e rs Q g → Passes e rs Q' g
+passes-map Q Q' (writes vs) rs g f q = f _ q
+passes-map Q Q' (goes b) rs g f q = tt
+passes-map Q Q' (ends e) rs g f q = tt
+passes-map Q Q' (asks a) rs g f q = λ vs. f _ (q vs)
+
+pub passes_both : (Q Q' : Regs → Type 0) (e : Effect) (rs : List ℕ) (g : Regs) → Passes e rs Q g → Passes e rs Q' g → Passes e rs (λ g. Q g × Q' g) g
+passes_both Q Q' (writes vs) rs g q q' = (q, q')
+passes_both Q Q' (goes b) rs g q q' = tt
+passes_both Q Q' (ends e) rs g q q' = tt
+passes_both Q Q' (asks a) rs g q q' = λ vs. (q vs, q' vs)
+
 module _ (E : Setting) where
   pub effect_is : (rs : List ℕ) (P : List (List Code)) (x : Code) (g : Regs) → effect_of E.outside E.address (code E rs P) x g ≡ does E x g
   effect_is rs P x g = no_kinds E.address x.inst _ _ _ _ _
 
   pub constant_does : (x : Code) (v : ℕ) (g : Regs) → constant_of E.address x.inst ≡ Some v → does E x g ≡ writes (v ∷ [])
   constant_does x v g c = (constant_fixes E.address x.inst v c).always _ _ _ _
-
-  -- where an instruction goes on, a fact holds that holds whatever is stored
-  pub passes_any : (Q : Regs → Type 0) (e : Effect) (rs : List ℕ) (g : Regs) → ((vs : List ℕ) → Q (stores rs vs g)) → Passes e rs Q g
-  passes_any Q (writes vs) rs g f = f vs
-  passes_any Q (goes b) rs g f = tt
-  passes_any Q (ends e) rs g f = tt
-  passes_any Q (asks a) rs g f = f
-
-  pub passes-map : (Q Q' : Regs → Type 0) (e : Effect) (rs : List ℕ) (g : Regs) → ((g : Regs) → Q g → Q' g) → Passes e rs Q g → Passes e rs Q' g
-  passes-map Q Q' (writes vs) rs g f q = f _ q
-  passes-map Q Q' (goes b) rs g f q = tt
-  passes-map Q Q' (ends e) rs g f q = tt
-  passes-map Q Q' (asks a) rs g f q = λ vs. f _ (q vs)
-
-  pub passes_both : (Q Q' : Regs → Type 0) (e : Effect) (rs : List ℕ) (g : Regs) → Passes e rs Q g → Passes e rs Q' g → Passes e rs (λ g. Q g × Q' g) g
-  passes_both Q Q' (writes vs) rs g q q' = (q, q')
-  passes_both Q Q' (goes b) rs g q q' = tt
-  passes_both Q Q' (ends e) rs g q q' = tt
-  passes_both Q Q' (asks a) rs g q q' = λ vs. (q vs, q' vs)
 
   -- single constants stay loaded
   pub keeps : (x : Code) (g : Regs) → Fine E x → Loaded E g → Passes (does E x g) (defs_at x) (Loaded E) g

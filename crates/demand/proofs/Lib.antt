@@ -24,3 +24,5 @@ pub mod Original
 pub mod Started
 pub mod Theorem
 pub mod Places
+pub mod Spans
+pub mod Sliced

@@ -241,7 +241,7 @@ module _ (E : Setting) (f : Facts) (known : (r v : ℕ) → f.const r ≡ Some v
       k' = forget_all (defs_at x) k
 
       plain : Passes (does E x g) (defs_at x) (Holds k') g
-      plain = passes_any E (Holds k') (does E x g) (defs_at x) g (λ vs. forgets (defs_at x) vs k g h)
+      plain = passes_any (Holds k') (does E x g) (defs_at x) g (λ vs. forgets (defs_at x) vs k g h)
 
       by : (y : Form) → Says E.address x.inst y → Passes (does E x g) (defs_at x) (Holds (learnt f k' y)) g
       by (const d v) q = rw (q.1, q.0) (with_value_lem d.0 (Some v) _ _ (forget-holds d.0 v k g h) (λ w e. upd_same d.0 v g d.0 refl ∙ cc))
@@ -260,9 +260,9 @@ module _ (E : Setting) (f : Facts) (known : (r v : ℕ) → f.const r ≡ Some v
   unfolding notes
   notes_hold [] fine k g l h = h
   notes_hold (x ∷ c) fine k g l h =
-      passes-map E (λ g. Loaded E g × Holds (note f k x.inst) g) _ (does E x g) (defs_at x) g
+      passes-map (λ g. Loaded E g × Holds (note f k x.inst) g) _ (does E x g) (defs_at x) g
       (λ g p. notes_hold c fine.1 (note f k x.inst) g p.0 p.1)
-      (passes_both E (Loaded E) (Holds (note f k x.inst)) (does E x g) (defs_at x) g (keeps E x g fine.0 l) (noted x k g l h))
+      (passes_both (Loaded E) (Holds (note f k x.inst)) (does E x g) (defs_at x) g (keeps E x g fine.0 l) (noted x k g l h))
 
 -- the sources of copies were read
 module _ (address : Address) (ops : List ℕ) (f : Facts) where

@@ -58,7 +58,7 @@ unwritten_each F (x ∷ c) r q = (λ k. let z = times_some r (defs_at x) k in ab
 
 module _ (address : Address) where
   -- the one instruction that writes r
-  first_is : (cs : List Code) (r : ℕ) → writes_in cs r ≤ 1 → Each (λ x. In r (defs_at x) → constant_in address cs r ≡ constant_of address x.inst) cs
+  pub first_is : (cs : List Code) (r : ℕ) → writes_in cs r ≤ 1 → Each (λ x. In r (defs_at x) → constant_in address cs r ≡ constant_of address x.inst) cs
   unfolding constant_in writes_in
   first_is [] r l = tt
   first_is (x ∷ cs) r l = by (names r x.inst) refl (first_is cs r (omega arith))

@@ -9,18 +9,20 @@ use Rattle.procedure.specs.Procedure.{Procedure}
 use Rattle.machine.specs.Act.{Act}
 use Rattle.machine.specs.Machine.{Regs, Address, Outside, Effect, writes, goes, ends, asks, State, at, done, effect_of, answered, step, run, start}
 use Rattle.machine.specs.Machine.{after as afterEffect}
-use Rattle.demand.specs.Place.{Place, onward, after, next_place, place_at, StandsAt}
+use Rattle.demand.specs.Place.{Place, onward, after, next_place, place_at}
 
 -- one instruction more
-rest : (k : ℕ) (b : List Code) (x : Code) (c : List Code) → x ∷ c ≡ drop k b → c ≡ drop (suc k) b
+pub rest : {A : Type 0} (k : ℕ) (b : List A) (x : A) (c : List A) → x ∷ c ≡ drop k b → c ≡ drop (suc k) b
 rest zero [] x c q = cc
 rest zero (y ∷ b) x c q = cc
 rest (suc k) [] x c q = cc
 rest (suc k) (y ∷ b) x c q = rest k b x c q
 
 module _ (outside : Outside) (address : Address) (p : Procedure) where
-  abbrev Stands : State → Place → Type 0
-  Stands s w = StandsAt outside address p s w
+  -- the code that a state has left is that of its block, from its place on
+  abbrev pub Stands : State → Place → Type 0
+  Stands (at c g h) w = c ≡ drop w.place (get_or p.blocks w.block [])
+  Stands (done h e) w = Unit {0}
 
   answer_stands : (o : Option (List ℕ)) (a : Act) (rs : List ℕ) (c : List Code) (g : Regs) (h : List Act) (w : Place) → Stands (at c g h) w
       → Stands (answered outside address p o a rs c g h) w

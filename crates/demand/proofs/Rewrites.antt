@@ -54,7 +54,7 @@ module _ (E : Setting) where
 
   pub always : (c : List Code) (g : Regs) → Behind E (λ g. Unit {0}) c g
   always [] g = tt
-  always (x ∷ c) g = passes_any E (Behind E (λ g. Unit {0}) c) (does E x g) (defs_at x) g (λ vs. always c _)
+  always (x ∷ c) g = passes_any (Behind E (λ g. Unit {0}) c) (does E x g) (defs_at x) g (λ vs. always c _)
 
   -- local registers may hold anything
   pub settle : (m : ℕ) (P : List (List Code)) → Good E m P → (κ : ℕ) (rs rs' : List ℕ) (b : ℕ) (g g' : Regs) (h : List Act) → Loaded E g → Meet E g g'

@@ -1,4 +1,5 @@
 pub mod Setting
 pub mod Whole
-pub mod Claim
 pub mod Place
+pub mod Lengths
+pub mod Claim

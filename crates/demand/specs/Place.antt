@@ -1,5 +1,5 @@
 -- Where a run is: the block of its next instruction, and the place in the block.
-use Rattle.std.specs.Prelude.{ℕ, zero, suc, ◌≡◌, [], ◌∷◌, get_or, drop}
+use Rattle.std.specs.Prelude.{ℕ, zero, suc, [], ◌∷◌}
 use Rattle.procedure.specs.Procedure.{Procedure}
 use Rattle.machine.specs.Machine.{Address, Outside, Effect, writes, goes, ends, asks, State, at, done, effect_of, step}
 
@@ -26,8 +26,3 @@ module _ (outside : Outside) (address : Address) (p : Procedure) where
   abbrev pub place_at : ℕ → State → Place → Place
   place_at zero s w = w
   place_at (suc n) s w = place_at n (step outside address p s) (next_place s w)
-
-  -- the code that a state has left is that of its block, from its place on
-  abbrev pub StandsAt : State → Place → Type 0
-  StandsAt (at c g h) w = c ≡ drop w.place (get_or p.blocks w.block [])
-  StandsAt (done h e) w = Unit {0}

@@ -1,15 +1,19 @@
-// The gate of threading: `has_back_edge`, `may_thread`.
+// The gate of threading, `has_back_edge` and `may_thread`, and that of `slice_tests`.
 #![tactic(auto)]
 
 ghost use Rattle.std.specs.Prelude.{◌≡◌, [], Bool, false, ℕ, ◌≤◌, leb, get_or, drop};
+ghost use Rattle.codec.specs.Codec.{inst_of};
+ghost use Rattle.procedure.specs.Procedure.{codes_of};
 ghost use Rattle.procedure.specs.Lists.{any_of};
 ghost use Rattle.ends.specs.Ends.{end_of, lone_of, targets};
 ghost use Rattle.steps.specs.Gate as steps;
+ghost use Rattle.steps.specs.Slice.{measure_of, is_made, is_measured, has_lengths};
 ghost use Rattle.blocks.specs.Blocks.{blocks_in};
 
 use blocks::Blocks;
 use ends::End;
-use inst::BlockId;
+use inst::{BlockId, Kind};
+use records::Record;
 
 // The end of block k, if the block holds nothing else.
 #[tactic(auto, using(blocks::proofs::Ends::codes_in))]
@@ -97,4 +101,40 @@ pub fn may_thread(blocks: Blocks, wide: bool) -> bool
     ensures { result ≡ steps.may_thread wide (blocks_in blocks.entry) }
 {
     (0..blocks.len()).any(|a| hops(blocks, a, wide))
+}
+
+// Whether a record is a MakeDope or a BoundsLen, which tell the bounds of a length.
+#[tactic(auto, using(codec::proofs::Table::inst_by_kind), unfolding(steps::specs::Slice::measure_of))]
+fn is_made(r: Record) -> bool
+    ensures { result ≡ is_made (measure_of (inst_of r)) }
+{
+    matches!(Kind::from(r.kind), Kind::MakeDope | Kind::BoundsLen)
+}
+
+// Whether a record is a DopeLen or a BoundsLen, which write a length.
+#[tactic(auto, using(codec::proofs::Table::inst_by_kind), unfolding(steps::specs::Slice::measure_of))]
+fn is_measured(r: Record) -> bool
+    ensures { result ≡ is_measured (measure_of (inst_of r)) }
+{
+    matches!(Kind::from(r.kind), Kind::DopeLen | Kind::BoundsLen)
+}
+
+fn any_made(code: &[u8]) -> bool
+    ensures { result ≡ any_of (λ x. is_made (measure_of x.inst)) (codes_of code.now) }
+{
+    (0..code.len() / 32).any(|k| is_made(records::record_at(code, k)))
+}
+
+fn any_measured(code: &[u8]) -> bool
+    ensures { result ≡ any_of (λ x. is_measured (measure_of x.inst)) (codes_of code.now) }
+{
+    (0..code.len() / 32).any(|k| is_measured(records::record_at(code, k)))
+}
+
+// Whether some instruction tells bounds and some writes a length. Most code tells no bounds, and is searched once.
+#[tactic(auto, unfolding(steps::specs::Slice::has_lengths))]
+pub fn has_lengths(code: &[u8]) -> bool
+    ensures { result ≡ has_lengths (codes_of code.now) }
+{
+    any_made(code) && any_measured(code)
 }

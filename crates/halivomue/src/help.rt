@@ -20,7 +20,7 @@ pub fn usage() -> Status {
 }
 
 pub fn version(rt: &impl Print) -> Status {
-    Status::from(files::say(rt, b"halivomue 0.4\n").map(|()| true))
+    Status::from(files::say(rt, b"halivomue 0.5\n").map(|()| true))
 }
 
 pub fn help(rt: &impl Print) -> Result<bool, Unsaid> {

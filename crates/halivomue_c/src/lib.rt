@@ -4,27 +4,30 @@
 // into them at each use.
 #![tactic(auto)]
 
-ghost use Rattle.std.specs.Prelude.{◌≡◌, ◌++◌, ◌+◌, ◌/◌, ◌≤◌, length, take, drop};
+ghost use Rattle.std.specs.Prelude.{◌≡◌, ◌++◌, ◌+◌, ◌/◌, ◌≤◌, false, length, take, drop};
 ghost use Rattle.read.specs.Reading.{reading, answer};
 ghost use Rattle.tidy.specs.Tidy.{tidiness, Tidy};
 ghost use Rattle.tidy.specs.Told.{tidiness_of};
 ghost use Rattle.steps.specs.Shorten.{shorten, instructions};
 ghost use Rattle.steps.specs.Told.{told};
+ghost use Rattle.steps.specs.Slice.{some_test};
+ghost use Rattle.steps.specs.Run.{sliced_form};
 ghost use Rattle.machine.specs.Demand.{Demand3};
+ghost use Rattle.demand.specs.Lengths.{Demand3Where};
 ghost use Rattle.promise.specs.Promise.{held};
 
 use inst::Reg;
 use read::Refusal;
 use steps::Shortening;
 
-// The version is 0.4.
+// The version is 0.5.
 const MAJOR: u32 = 0;
 
-const MINOR: u32 = 4;
+const MINOR: u32 = 5;
 
 #[unsafe(no_mangle)]
 pub extern "C" fn halivomue_version() -> u32
-    ensures { result ≡ 4 }
+    ensures { result ≡ 5 }
 {
     MAJOR * 65536 + MINOR
 }
@@ -162,6 +165,8 @@ pub extern "C" fn halivomue_shorten(bytes: &[u8], out: &mut [u8]) -> HalivomueSh
     ensures bound { result.number ≡ 0 → instructions (take result.length out.new)
         ≤ instructions bytes.now + instructions bytes.now / 2 + 36 }
     ensures demand3 { result.number ≡ 0 → Tidy (held bytes.now)
+        → Demand3Where (held bytes.now) (sliced_form (held bytes.now)) (held (take result.length out.new)) result.rescued }
+    ensures unsliced { result.number ≡ 0 → Tidy (held bytes.now) → some_test (sliced_form (held bytes.now)).tests ≡ false
         → Demand3 (held bytes.now) (held (take result.length out.new)) result.rescued }
 {
     answer_of(shorten::shorten(bytes, out))
@@ -201,9 +206,11 @@ pub extern "C" fn halivomue_provision(bytes: &[u8], out: &mut [u8]) -> Halivomue
     ensures bound { result.number ≡ 0 → instructions (take result.length out.new)
         ≤ instructions bytes.now + instructions bytes.now / 2 + 36 }
     ensures demand3 { result.number ≡ 0 → Tidy (held bytes.now)
+        → Demand3Where (held bytes.now) (sliced_form (held bytes.now)) (held (take result.length out.new)) result.rescued }
+    ensures unsliced { result.number ≡ 0 → Tidy (held bytes.now) → some_test (sliced_form (held bytes.now)).tests ≡ false
         → Demand3 (held bytes.now) (held (take result.length out.new)) result.rescued }
     ensures promised { result.number ≡ 0 → result.tidy ≡ 1
-        → Demand3 (held bytes.now) (held (take result.length out.new)) result.rescued }
+        → Demand3Where (held bytes.now) (sliced_form (held bytes.now)) (held (take result.length out.new)) result.rescued }
 {
     let p = shorten::tidy_and_shorten(bytes, out);
     let t = members(p.tidiness);

@@ -7,8 +7,8 @@ use mathlib.Core.Path.{◌≡◌, refl, sym, ap, ◌∙◌}
 use mathlib.Core.Bool.{Bool, true, false, cond}
 use mathlib.Core.List.{List, [], ◌∷◌}
 use mathlib.Core.Logic.{⊎_elim}
-use lib.ListN.{length, get_or, take, drop, length-drop, drop_of_length-le}
-use lib.Seq.{drop-cons, take_all}
+use lib.ListN.{length, get_or, take, drop, drop_of_length-le}
+use lib.Seq.{drop-cons}
 use Rattle.std.specs.List.{prefix_len, range_with_len}
 pub use Rattle.general.proofs.Booleans.{cases, told}
 use Rattle.records.specs.declared.Record.{Record}
@@ -84,11 +84,3 @@ module _ (p : Record → Bool) (b : List ℕ) where
       (one-add _
       ∙ ap suc (run_range (first + 1) n (omega arith) ∙ ap (λ (k : ℕ). lead p (take n (drop k (records_of b)))) (add-one first)))
       ∙ sym (ap (λ (rs : List Record). lead p (take (suc n) rs)) (drop-cons (records_of b) first blank i))
-
-  -- the same to the end of the file
-  pub run_rest :
-      (first n : ℕ) → n ≡ length b / 32 - first →
-      prefix_len (λ k. p (record_at b k)) (range_with_len first n) ≡ lead p (drop first (records_of b))
-  run_rest first n e =
-      run_range first n (omega arith)
-      ∙ ap (lead p) (take_all n (drop first (records_of b)) (omega (arith, length-drop first (records_of b), length_records b)))

@@ -1,7 +1,8 @@
 // Where the classes of a file start, found in one walk that stops at the first wrong record.
 #![tactic(auto)]
 
-ghost use Rattle.std.specs.Prelude.{◌≡◌, ◌&&◌, ◌+◌, ◌≤◌, eqb, length, drop};
+ghost use Rattle.std.specs.Prelude.{◌≡◌, ◌&&◌, ◌+◌, ◌≤◌, Bool, eqb, length, drop};
+ghost use Rattle.records.specs.declared.Record.{Record};
 ghost use Rattle.records.specs.Record.{records_of};
 ghost use Rattle.records.specs.Class.{class_number};
 ghost use Rattle.layout.specs.Walk.{lead};
@@ -22,6 +23,22 @@ pub struct Layout {
     pub end: usize,
 }
 
+// The end of the run of records, from `first` on, that pass a test. The loop counts up to the number of records: as a chain of
+// iterators it asked once more at each record whether it is there, 3 of its 9 machine instructions.
+pub fn run_end<F: Fn(Record) -> bool>(b: &[u8], first: usize, passes: F) -> usize
+    requires { F.IsAlwaysCallable passes }
+    ensures { (p : Record → Bool) → ((r : Record) (t : Bool) → F.post passes r t → t ≡ p r)
+        → result ≡ first + lead p (drop first (records_of b.now)) }
+{
+    let n = b.len() / 32;
+    for k in first..n {
+        if !passes(records::record_at(b, k)) {
+            return k;
+        }
+    }
+    usize::max(first, n)
+}
+
 // Whether the record is of the class and valid by itself.
 fn right_of(class: Class, r: Record) -> bool
     ensures { result ≡ right_of (class_number class) r }
@@ -35,8 +52,7 @@ fn span(b: &[u8], first: usize, class: Class) -> usize
     ensures value { result ≡ first + lead (right_of (class_number class)) (drop first (records_of b.now)) }
     ensures within { result ≤ length (records_of b.now) }
 {
-    let run = (first..b.len() / 32).take_while(|k| right_of(class, records::record_at(b, *k)));
-    first + run.count()
+    run_end(b, first, |r| right_of(class, r))
 }
 
 pub fn layout_of(b: &[u8]) -> Layout

@@ -16,7 +16,8 @@ use Rattle.steps.specs.Copy.{how_of, own_uses, copy_from, kinds_given}
 use Rattle.steps.specs.Thread.{arm_of, hop_cond_br, stops, hop_br, hop, hops, thread_from}
 use Rattle.paths.specs.Paths.{total, walk, reached_from}
 use Rattle.steps.specs.Emit.{reached, stays, empty_from, rescued_of, rescues}
-use Rattle.steps.specs.Run.{emit, threaded_form, run}
+use Rattle.steps.specs.Slice.{measure_of, has_lengths}
+use Rattle.steps.specs.Run.{emit, threaded_form, sliced_form, run}
 use Rattle.machine.specs.Demand.{Demand3}
 use Rattle.machine.proofs.Printed.{printed, printed'}
 use Rattle.machine.proofs.Refuted.{looping, looping'}
@@ -30,14 +31,14 @@ printed_given : run printed ≡ record { procedure = printed'; moved = true; gro
 unfolding any_of times found form_of view_of end_of front with_end copyable small step_by step_block latch reads_konst writes_in use_count fixed_of
     const_in const_of konst_of facts_of values_without copies_without forget_all learn notes follow join_arms join_from back_edge_from copied
     may_thread_from exchanged how_of own_uses copy_from kinds_given arm_of hop_cond_br stops hop_br hop hops thread_from total walk reached_from reached
-    stays empty_from rescued_of rescues emit threaded_form
+    stays empty_from rescued_of rescues emit threaded_form measure_of has_lengths sliced_form
 printed_given = refl
 
 pub looping_given : run looping ≡ record { procedure = looping'; moved = true; grown = 1; fresh = 0; rescued = 1 }
 unfolding any_of times found form_of view_of end_of front with_end copyable small step_by step_block latch reads_konst writes_in use_count fixed_of
     const_in const_of konst_of facts_of values_without copies_without forget_all learn notes follow join_arms join_from back_edge_from copied
     may_thread_from exchanged how_of own_uses copy_from kinds_given arm_of hop_cond_br stops hop_br hop hops thread_from total walk reached_from reached
-    stays empty_from rescued_of rescues emit threaded_form
+    stays empty_from rescued_of rescues emit threaded_form measure_of has_lengths sliced_form
 looping_given = refl
 
 pub printed_kept : Kept printed

@@ -14,8 +14,7 @@ fn start_of(b: &[u8], first: usize, class: Class) -> usize
     ensures { result ≡ start_at (class_number class) first (records_of b.now) }
 {
     let number = u32::from(class);
-    let run = (first..b.len() / 32).take_while(|k| records::record_at(b, *k).class < number);
-    first + run.count()
+    layout::run_end(b, first, |r| r.class < number)
 }
 
 // Where the classes of a file start, by the classes of its records alone.

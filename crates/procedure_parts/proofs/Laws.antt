@@ -1,9 +1,9 @@
 -- A file is opened into its parts, which hold its procedure; code and block table exchanged, the parts hold another.
-use Prim.Native.Nat.{ℕ, ◌*◌, ◌-◌, ◌/◌}
+use Prim.Native.Nat.{ℕ, ◌*◌, ◌-◌, ◌/◌, ◌≤◌}
 use native.Mathlib.Omega.{arith}
 use mathlib.Core.Path.{◌≡◌, sym, ap, subst, ◌∙◌}
 use mathlib.Core.Bool.{true}
-use mathlib.Core.List.{List, [], ◌++◌, map, map-map, append-nil}
+use mathlib.Core.List.{List, [], ◌∷◌, ◌++◌, map, map-map, append-nil}
 use Rattle.std.proofs.Common.{Option}
 use lib.ListN.{length, drop, length-map, drop_of_length-le}
 use Rattle.records.specs.declared.Record.{Record}
@@ -21,7 +21,7 @@ use Rattle.read.proofs.Laid.{sizes, class-part}
 use Rattle.ops.specs.Ops.{reg_ty_of}
 use Rattle.codec.specs.Codec.{code_of, record_of, reg_of}
 use Rattle.items.specs.Items.{register_record, operand_record}
-use Rattle.procedure.specs.Procedure.{Procedure, Table, procedure_of, first_of, tables_from}
+use Rattle.procedure.specs.Procedure.{Procedure, Table, codes_of, procedure_of, first_of, tables_from}
 use Rattle.procedure.specs.Lists.{joined}
 use Rattle.blocks.specs.Blocks.{blocks_of, Canonical}
 use Rattle.blocks.specs.Rewrite.{Tiled}
@@ -31,7 +31,7 @@ use Rattle.facts.specs.Storage.{kinds_of, operands_in}
 use Rattle.round_trips.specs.WellFormed.{All, arm_count, WellFormed}
 use Rattle.round_trips.proofs.Lists.{all-at, all_both}
 use Rattle.round_trips.proofs.Accepted.{Accepted, read_accepted}
-use Rattle.round_trips.proofs.Blocks.{length-blocks}
+use Rattle.round_trips.proofs.Blocks.{Tiled as TiledFrom, code-back, joined-map, length-blocks}
 use Rattle.round_trips.proofs.Bytes.{records_fit, bytes-length, records_back}
 use Rattle.round_trips.proofs.Sections.{all_right, all_of, all-class}
 use Rattle.round_trips.proofs.Tables.{length-arms}
@@ -118,6 +118,24 @@ exchanged {x = x} h q {code} {heads} w r b o t c =
       operand_records = h.operand_records ∙ ap (map (λ r. operand_record (reg_of r))) o;
       arm_records = h.arm_records ∙ ap (table_records 0) t;
     }
+
+-- what tiles some records is all of them
+pub tiles-all : (code bs : List Record) → TiledFrom (length code) 0 bs → 1 ≤ length bs → joined (map (recordsOfBlock code) bs) ≡ code
+tiles-all code [] t h = absurd (omega arith)
+tiles-all code (b ∷ bs) t h = code-back code 0 b bs t
+
+-- the instructions of code and block table are those of the blocks
+pub codes-held : {p : Procedure} {x : Parts} {kinds : List ℕ} → Holds p x kinds → codes_of x.code ≡ joined p.blocks
+codes-held {x = x} h =
+    let rs = records_of x.code in
+    let n = length_records x.code in
+    let m = length_records x.heads in
+    let e = h.coded.heads-length in
+    let s = h.well_formed.some_block in
+    let t = subst (λ (n : ℕ). TiledFrom n 0 (records_of x.heads)) (sym n) h.tiled in
+    ap (map code_of) (sym (tiles-all rs (records_of x.heads) t (omega arith)))
+    ∙ sym (joined-map code_of (map (recordsOfBlock rs) (records_of x.heads)))
+    ∙ ap joined h.blocks
 
 -- of a file as sent: its registers are the procedure's
 module _ {p : Procedure} {x : Parts} (h : Parted p x) where

@@ -3,3 +3,4 @@ pub mod Formed
 pub mod Promised
 pub mod Needed
 pub mod Wrong
+pub mod NeededLengths

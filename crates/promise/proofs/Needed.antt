@@ -27,7 +27,8 @@ use Rattle.roles.specs.Exchange.{exchanged}
 use Rattle.steps.specs.Copy.{how_of, own_uses, copy_from, kinds_given}
 use Rattle.steps.specs.Thread.{arm_of, hop_cond_br, stops, hop_br, hop, hops, thread_from}
 use Rattle.steps.specs.Emit.{reached, stays, empty_from, rescued_of, rescues}
-use Rattle.steps.specs.Run.{emit, threaded_form, run}
+use Rattle.steps.specs.Slice.{measure_of, has_lengths}
+use Rattle.steps.specs.Run.{emit, threaded_form, sliced_form, run}
 use Rattle.machine.specs.Act.{op_of}
 use Rattle.machine.specs.Machine.{Regs, Address, Outside, effect}
 use Rattle.machine.specs.Single.{single_in, constant_in, constant_of}
@@ -77,7 +78,7 @@ elsewhere_given : run elsewhere ≡ record { procedure = elsewhere'; moved = tru
 unfolding any_of times found form_of view_of end_of front with_end copyable small step_by step_block latch reads_konst writes_in use_count fixed_of const_in
     const_of konst_of facts_of values_without copies_without forget_all learn notes follow join_arms join_from back_edge_from copied may_thread_from exchanged
     how_of own_uses copy_from kinds_given arm_of hop_cond_br stops hop_br hop hops thread_from total walk reached_from reached stays empty_from rescued_of rescues
-    emit threaded_form
+    emit threaded_form measure_of has_lengths sliced_form
 elsewhere_given = refl
 
 elsewhere_fails : Demand3 elsewhere elsewhere' 0 → ⊥
@@ -112,7 +113,7 @@ earlier_given : run earlier ≡ record { procedure = earlier'; moved = true; gro
 unfolding any_of times found form_of view_of end_of front with_end copyable small step_by step_block latch reads_konst writes_in use_count fixed_of const_in
     const_of konst_of facts_of values_without copies_without forget_all learn notes follow join_arms join_from back_edge_from copied may_thread_from exchanged
     how_of own_uses copy_from kinds_given arm_of hop_cond_br stops hop_br hop hops thread_from total walk reached_from reached stays empty_from rescued_of rescues
-    emit threaded_form
+    emit threaded_form measure_of has_lengths sliced_form
 earlier_given = refl
 
 earlier_fails : Demand3 earlier earlier' 0 → ⊥
@@ -147,7 +148,7 @@ itself_given : run itself ≡ record { procedure = itself'; moved = true; grown 
 unfolding any_of times found form_of view_of end_of front with_end copyable small step_by step_block latch reads_konst writes_in use_count fixed_of const_in
     const_of konst_of facts_of values_without copies_without forget_all learn notes follow join_arms join_from back_edge_from copied may_thread_from exchanged
     how_of own_uses copy_from kinds_given arm_of hop_cond_br stops hop_br hop hops thread_from total walk reached_from reached stays empty_from rescued_of rescues
-    emit threaded_form
+    emit threaded_form measure_of has_lengths sliced_form
 itself_given = refl
 
 itself_fails : Demand3 itself itself' 0 → ⊥
@@ -182,7 +183,7 @@ constant_given : run constant ≡ record { procedure = constant'; moved = true; 
 unfolding any_of times found form_of view_of end_of front with_end copyable small step_by step_block latch reads_konst writes_in use_count fixed_of const_in
     const_of konst_of facts_of values_without copies_without forget_all learn notes follow join_arms join_from back_edge_from copied may_thread_from exchanged
     how_of own_uses copy_from kinds_given arm_of hop_cond_br stops hop_br hop hops thread_from total walk reached_from reached stays empty_from rescued_of rescues
-    emit threaded_form
+    emit threaded_form measure_of has_lengths sliced_form
 constant_given = refl
 
 -- demand 3 of any registers, the same in both

@@ -7,6 +7,7 @@ use mathlib.Core.List.{List, [], ◌∷◌, ◌++◌, map}
 use lib.ListN.{length, get_or, take, drop}
 use Rattle.layout.specs.Walk.{walk, lead}
 use Rattle.layout.proofs.Walks.{walk_pass, walk_head, walk_tail}
+use Rattle.procedure.specs.Lists.{joined}
 use Rattle.round_trips.specs.WellFormed.{All}
 
 module _ {A : Type 0} (P : A → Type 0) where
@@ -40,6 +41,10 @@ module _ {A : Type 0} (P : A → Type 0) where
   all_drop zero xs h = h
   all_drop (suc n) [] h = tt
   all_drop (suc n) (x ∷ xs) h = all_drop n xs h.1
+
+pub all_joined : {A : Type 0} (P : A → Type 0) (xs : List (List A)) → All (All P) xs → All P (joined xs)
+all_joined P [] h = tt
+all_joined P (x ∷ xs) h = all_append P x (joined xs) h.0 (all_joined P xs h.1)
 
 pub all_map : {A B : Type 0} (P : A → Type 0) (Q : B → Type 0) (f : A → B) → ((x : A) → P x → Q (f x)) → (xs : List A) → All P xs → All Q (map f xs)
 all_map P Q f g [] h = tt

@@ -26,7 +26,7 @@ use Rattle.procedure.specs.Procedure.{Procedure, Arm, procedure_of, first_of}
 use Rattle.procedure.specs.Lists.{joined}
 use Rattle.steps.specs.Write.{block_records, body_records, table_records, case_record, default_record, records_for}
 use Rattle.round_trips.specs.WellFormed.{All, Ends, Sound, BodyIn, counts_in, WellFormed}
-use Rattle.round_trips.proofs.Lists.{all-turn, all_map, all_append, map_back}
+use Rattle.round_trips.proofs.Lists.{all-turn, all_map, all_append, all_joined, map_back}
 use Rattle.round_trips.proofs.Sections.{Sections, right_of_lem, section_of, sections_in_order}
 use Rattle.round_trips.proofs.Blocks.{length-blocks, blocks_tile, parts-back, all-parts}
 use Rattle.round_trips.proofs.Ends.{written-ends}
@@ -53,10 +53,6 @@ body-read (Some b) = refl
 pub body-few : (o : Option ℕ) → length (body_records o) ≤ 1
 body-few None = omega arith
 body-few (Some b) = omega arith
-
-all-joined : (P : Code → Type 0) (cs : List (List Code)) → All (All P) cs → All P (joined cs)
-all-joined P [] h = tt
-all-joined P (c ∷ cs) h = all_append P c (joined cs) h.0 (all-joined P cs h.1)
 
 some_code : (c : List Code) → Ends c → 1 ≤ length c
 some_code [] h = absurd h
@@ -115,7 +111,7 @@ module _ (p : Procedure) (w : WellFormed p) where
   six_joined = ap (λ (l : List Record). R ++ (B ++ (Y ++ (C ++ (O ++ l))))) (append-nil T)
 
   all-code : All (Sound (counts_in p)) (joined p.blocks)
-  all-code = all-joined (Sound (counts_in p)) p.blocks (all-turn (λ c h. h.each) p.blocks w.each-block)
+  all-code = all_joined (Sound (counts_in p)) p.blocks (all-turn (λ c h. h.each) p.blocks w.each-block)
 
   few-arms : length p.tables ≤ 2 ^ 32
   few-arms = let a = w.arms in let b = few-tables p.tables in omega arith

@@ -27,9 +27,10 @@ use Rattle.round_trips.specs.WellFormed.{counts_in}
 use Rattle.round_trips.proofs.Blocks.{Tiled, joined-map}
 use Rattle.step_laws.proofs.Arms.{Kept, arms-kept}
 use Rattle.procedure_parts.specs.Opened.{Parts, Opened}
+use Rattle.procedure_parts.proofs.Laws.{tiles-all}
 use Rattle.thread.proofs.Whole.{sizes_from}
 use Rattle.run.proofs.Lent.{Held}
-use Rattle.run.proofs.Tiles.{within_same, part_same, tiles-all, sizes_tiled, heads-same}
+use Rattle.run.proofs.Tiles.{within_same, part_same, sizes_tiled, heads-same}
 
 -- what a code holds of a procedure with blocks of the same lengths
 pub record Coded (p : Procedure) (table c : List ℕ) : Type 0 where

@@ -2,11 +2,12 @@
 use Prim.Native.Nat.{ℕ, ◌+◌, ◌/◌, ◌≤◌}
 use native.Mathlib.Omega.{arith}
 use mathlib.Core.Path.{◌≡◌, refl, sym, ap, subst, ◌∙◌}
-use mathlib.Core.Bool.{Bool, true, false, ◌&&◌, false≢true}
+use mathlib.Core.Bool.{Bool, true, false, ◌&&◌, not, false≢true, true≢false}
 use mathlib.Core.List.{List}
 use Rattle.std.proofs.Common.{Option}
 use lib.ListN.{length}
 use lib.Seq.{length-take-le}
+use Rattle.general.proofs.Booleans.{and_first}
 use Rattle.inst.specs.declared.Code.{Code}
 use Rattle.procedure.specs.Procedure.{Procedure}
 use Rattle.procedure.specs.Lists.{joined, present}
@@ -159,6 +160,24 @@ module _ {p : Procedure} {x : Parts} {known copy : ℕ} {work kinds facts : List
   run-edited true e = absurd (false≢true e)
   run-edited false e = by_arms (λ z l. l.store.at.edited ≡ true → Edited p z work x.heads kinds facts l) gate_edited e
 
+  -- what the steps of the gate told, where some block was edited and where none was
+  gate-open : (b : Bool) → (gated b).store.at.edited ≡ true → b ≡ true
+  gate-open false e = absurd (false≢true e)
+  gate-open true e = refl
+
+  run-open : (b : Bool) → (ran b).store.at.edited ≡ true → (not b && s.looped_in p) ≡ true
+  run-open true e = absurd (false≢true e)
+  run-open false e =
+      ap has_back_edge (sym arms-blocks) ∙ and_first (has_back_edge (blocks_of arms.code x.heads)) _ (gate-open (r.opens_in p.body arms.code x.heads) e)
+
+  gate-unedited : (b : Bool) → (gated b).store.at.edited ≡ false → s.thread_if b (s.arms_joined p) ≡ s.arms_joined p
+  gate-unedited false e = refl
+  gate-unedited true e = ap (λ (b : Bool). s.emit_if b (s.counted_in q) (s.arms_joined p) w) (edited-is e)
+
+  run-unedited : (b : Bool) → (ran b).store.at.edited ≡ false → b ≡ false → s.threaded_unless b p ≡ s.arms_joined p
+  run-unedited true e f = absurd (true≢false f)
+  run-unedited false e f = by_arms (λ z l. l.store.at.edited ≡ false → z ≡ s.arms_joined p) gate-unedited e
+
 module _ {p : Procedure} {x : Parts} {body : Option ℕ} {known copy n : ℕ} {work table kinds facts : List ℕ}
     (h : Lent p x body known copy n work table kinds facts) where
   -- the same of a body, a number and a table that are the file's
@@ -179,3 +198,15 @@ module _ {p : Procedure} {x : Parts} {body : Option ℕ} {known copy n : ℕ} {w
   unfolding s.threaded_form r.ran_in
   edited = to_file (λ t l. l.store.at.edited ≡ true → Edited p (s.threaded_form p) work t kinds facts l)
       (λ g. run-edited g (s.short p))
+
+  -- where some block was edited, the file is long enough and some block leads back
+  pub looped : (r.ran_in body known copy x.operands x.registers n work table kinds facts).store.at.edited ≡ true → (not (s.short p) && s.looped_in p) ≡ true
+  unfolding r.ran_in
+  looped = to_file (λ t l. l.store.at.edited ≡ true → (not (s.short p) && s.looped_in p) ≡ true) (λ g. run-open g (s.short p))
+
+  -- where none was, the threaded form of a file that is long enough is what equal arms left
+  pub unedited-form : (r.ran_in body known copy x.operands x.registers n work table kinds facts).store.at.edited ≡ false → s.short p ≡ false
+      → s.threaded_form p ≡ s.arms_joined p
+  unfolding s.threaded_form r.ran_in
+  unedited-form = to_file (λ t l. l.store.at.edited ≡ false → s.short p ≡ false → s.threaded_form p ≡ s.arms_joined p)
+      (λ g. run-unedited g (s.short p))

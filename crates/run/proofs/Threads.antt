@@ -2,11 +2,10 @@
 use Prim.Native.Nat.{ℕ, ◌+◌, ◌*◌, ◌/◌, ◌≤◌, ◌<◌, min}
 use native.Mathlib.Omega.{arith}
 use mathlib.Core.Path.{◌≡◌, refl, sym, ap, subst, ◌∙◌}
-use mathlib.Core.List.{List, [], ◌∷◌}
+use mathlib.Core.List.{List}
 use mathlib.Core.Logic.{◌⊎◌, inl, inr}
 use lib.ListN.{length, get_or, take, drop, length-append, length-drop, get_or-eq_default}
 use Rattle.general.proofs.Numbers.{order}
-use Rattle.record_rules.specs.declared.exist.Counts.{Counts}
 use Rattle.inst.specs.declared.Code.{Code}
 use Rattle.procedure.specs.Procedure.{Procedure, codes_of}
 use Rattle.procedure.specs.Lists.{joined}
@@ -18,8 +17,8 @@ use Rattle.steps.proofs.Edits.{Edits, thread_edits}
 use Rattle.facts.specs.Storage.{kinds_of, operands_in, rows, row_of, table_of, kinds_in, facts_in}
 use Rattle.facts.proofs.Rows.{rows-length}
 use Rattle.facts.proofs.Told.{told}
-use Rattle.round_trips.specs.WellFormed.{All, Sound, BlockIn, counts_in}
-use Rattle.round_trips.proofs.Lists.{all-at, all_append}
+use Rattle.round_trips.specs.WellFormed.{All, Sound, counts_in}
+use Rattle.round_trips.proofs.Lists.{all-at, all_joined, all-turn}
 use Rattle.step_laws.proofs.Threads.{Inv}
 use Rattle.step_laws.proofs.Laws.{edits_inv}
 use Rattle.procedure_parts.proofs.Laws.{kinds-sent}
@@ -42,10 +41,6 @@ table_long t kinds ops c =
     let d = length-drop (5 * n) t in
     let a = length-append (rows n (row_of kinds ops c)) (drop (5 * n) t) in
     omega arith
-
-each-joined : (n : Counts) (P : List (List Code)) → All (BlockIn n) P → All (Sound n) (joined P)
-each-joined n [] h = tt
-each-joined n (c ∷ P) h = all_append (Sound n) c (joined P) h.0.each (each-joined n P h.1)
 
 kind-few : (kinds : List ℕ) → All (λ k. k < 5) kinds → (r : ℕ) → get_or kinds r 0 ≤ 5
 kind-few kinds h r = by (order r (length kinds))
@@ -91,7 +86,7 @@ module _ {p : Procedure} {x : Parts} {known copy : ℕ} {work kinds facts : List
       let k = j.arms-sound (held h) in
       let wf = o.parted.well_formed in
       let c = joined q.blocks in
-      let sound = each-joined (counts_in p) q.blocks k.each in
+      let sound = all_joined (Sound (counts_in p)) q.blocks (all-turn (λ c b. b.each) q.blocks k.each) in
       let few = o.few-code in
       let len = k.code in
       ap (λ (t : List ℕ). facts_in t p.body (N / 2 + 32)) counted_is

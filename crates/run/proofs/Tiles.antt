@@ -9,14 +9,13 @@ use Rattle.records.specs.declared.Record.{Record}
 use Rattle.records.specs.Record.{records_of, record_at, blank}
 use Rattle.read.specs.Structure.{code_of as recordsOfBlock}
 use Rattle.codec.specs.Codec.{code_of}
-use Rattle.procedure.specs.Lists.{joined}
 use Rattle.steps.specs.Write.{block_records}
 use Rattle.blocks.specs.Blocks.{block_records_in}
 use Rattle.blocks.specs.Rewrite.{Apart}
 use Rattle.blocks.proofs.Parts.{records_part}
 use Rattle.blocks.proofs.Apart.{map-one, last-place}
 use Rattle.arena.proofs.Pointed.{part-below}
-use Rattle.round_trips.proofs.Blocks.{Tiled, first_tile, next-tiles, code-back}
+use Rattle.round_trips.proofs.Blocks.{Tiled, first_tile, next-tiles}
 use Rattle.thread.proofs.Whole.{sizes_from}
 
 module _ (n : ℕ) (table : List ℕ) (a : Apart n table) where
@@ -37,11 +36,6 @@ module _ (n : ℕ) (table : List ℕ) (a : Apart n table) where
   pub part_same : (c : List ℕ) → n ≤ length c / 32 → block_records_in (take (32 * n) c) table ≡ block_records_in c table
   part_same c h =
       within_same (take (32 * n) c) c (ap (take n) (records_part c 0 n (omega arith)) ∙ take-take n n (records_of c) (omega arith))
-
--- what tiles some records is all of them
-pub tiles-all : (code bs : List Record) → Tiled (length code) 0 bs → 1 ≤ length bs → joined (map (recordsOfBlock code) bs) ≡ code
-tiles-all code [] t h = absurd (omega arith)
-tiles-all code (b ∷ bs) t h = code-back code 0 b bs t
 
 rest_at : (l : List Record) (a : ℕ) (r : Record) (bs : List Record) → drop a l ≡ r ∷ bs → (get_or l a blank ≡ r) × (drop (suc a) l ≡ bs)
 rest_at [] zero r bs e = absurd (let z : ◌≡◌ {A = ℕ} 0 1 = cc in omega arith)

@@ -4,6 +4,7 @@ use Rattle.procedure.specs.Procedure.{codes_of}
 use Rattle.procedure.specs.Lists.{present}
 use Rattle.blocks.specs.Blocks.{blocks_of}
 use Rattle.steps.specs.Gate.{has_back_edge, may_thread}
+use Rattle.steps.specs.Slice.{has_lengths}
 use Rattle.facts.specs.Storage.{kinds_of, operands_in, table_of}
 use Rattle.equal_arms.specs.Joined.{Joined, joined, equal_arms_in}
 use Rattle.thread.specs.declared.Threaded.{Threaded}
@@ -38,9 +39,14 @@ module _ (n : ℕ) where
 abbrev pub opens_in : Option ℕ → List ℕ → List ℕ → Bool
 opens_in body work table = has_back_edge (blocks_of work table) && may_thread (present body) (blocks_of work table)
 
--- no step does anything: "Fewer than 6 instructions", or no arms to join and a gate that stays shut
+-- the gate of `slice_tests`, of code that no step before it changes
+abbrev pub slices_in : List ℕ → List ℕ → Bool
+slices_in code table = has_back_edge (blocks_of code table) && has_lengths (codes_of code)
+
+-- no step does anything: "Fewer than 6 instructions", or no arms to join and gates that stay shut
 abbrev pub NoStep : Option ℕ → List ℕ → List ℕ → Type 0
-NoStep body code table = (length code / 32 < 6) ⊎ ((equal_arms_in table code ≡ joined code false) × (opens_in body code table ≡ false))
+NoStep body code table =
+    (length code / 32 < 6) ⊎ ((equal_arms_in table code ≡ joined code false) × ((opens_in body code table ≡ false) × (slices_in code table ≡ false)))
 
 -- the lengths of the slices for known values and copies, the records of operands and registers, and how many instructions there are
 module _ (body : Option ℕ) (known copy : ℕ) (operands registers : List ℕ) (n : ℕ) where

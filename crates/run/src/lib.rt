@@ -148,7 +148,7 @@ pub fn run(
     Ran { joined, at }
 }
 
-// A glance at code before its steps: None if no step would change it, else whether the gate is open.
+// A glance at code before its steps: None if no step would change it, else whether the gate of threading is open.
 pub fn glance(code: &[u8], table: &[u8], pause: Pause) -> Option<bool>
     ensures none { IfNone result (r.NoStep (body_in pause) code.now table.now) }
     ensures some { IfSome result (λ b. b ≡ r.opens_in (body_in pause) code.now table.now) }
@@ -157,11 +157,15 @@ pub fn glance(code: &[u8], table: &[u8], pause: Pause) -> Option<bool>
         return None;
     }
     let blocks = Blocks { code, table };
-    if opens(blocks, pause) {
+    let looped = gate::has_back_edge(blocks);
+    if looped && gate::may_thread(blocks, pause::has_pause(pause)) {
         return Some(true);
     }
-    if equal_arms::none_meet(blocks) {
-        return None;
+    if !equal_arms::none_meet(blocks) {
+        return Some(false);
     }
-    Some(false)
+    if looped && gate::has_lengths(code) {
+        return Some(false);
+    }
+    None
 }

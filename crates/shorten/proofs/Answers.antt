@@ -29,7 +29,10 @@ use Rattle.tidy.specs.Told.{tidiness_of}
 use Rattle.steps.specs.declared.Shortening.{Shortening}
 use Rattle.steps.specs.Told.{told}
 use Rattle.steps.specs.Shorten.{Answer, Outcome, refusal, above, run_unless, accept_if, shorten_within, shorten, instructions}
+use Rattle.steps.specs.Slice.{some_test}
+use Rattle.steps.specs.Run.{sliced_form}
 use Rattle.machine.specs.Demand.{Demand3}
+use Rattle.demand.specs.Lengths.{Demand3Where}
 use Rattle.step_laws.proofs.Shorten.{Within, shortened_accepted, room-enough, unmoved_same, few-instructions}
 use Rattle.promise.specs.Promise.{held}
 use Rattle.promise.proofs.Promised.{promise}
@@ -131,7 +134,8 @@ Clauses E b out r out' = record {
   room : 61728 ≤ length out → IfErr r (λ e. e.reason ≢ Output);
   unmoved : IfOk r (λ s. s.moved ≡ false → out' ≡ b ++ drop (length b) out);
   bound : IfOk r (λ s. instructions (take s.length out') ≤ instructions b + instructions b / 2 + 36);
-  demand3 : IfOk r (λ s. Tidy (held b) → Demand3 (held b) (held (take s.length out')) s.rescued);
+  demand3 : IfOk r (λ s. Tidy (held b) → Demand3Where (held b) (sliced_form (held b)) (held (take s.length out')) s.rescued);
+  unsliced : IfOk r (λ s. Tidy (held b) → some_test (sliced_form (held b)).tests ≡ false → Demand3 (held b) (held (take s.length out')) s.rescued);
 }
 
 -- an answer and a buffer that are Shorten's
@@ -156,10 +160,15 @@ module _ (b out : List ℕ) (h : Bytes b) (a : Answer) (out' : List ℕ) (e : ou
   result-few z =
       subst (λ (c : List ℕ). instructions c ≤ instructions b + instructions b / 2 + 36) (sym part) (few-instructions b out h (sym number ∙ z))
 
-  result-promised : a.number ≡ 0 → Tidy (held b) → Demand3 (held b) (held (take a.length out')) a.rescued
+  result-promised : a.number ≡ 0 → Tidy (held b) → Demand3Where (held b) (sliced_form (held b)) (held (take a.length out')) a.rescued
   result-promised z t =
+      subst (λ (o : Outcome). Demand3Where (held b) (sliced_form (held b)) (held (take o.answer.length o.output)) o.answer.rescued) (sym e)
+      (promise b out h (sym number ∙ z) t).0
+
+  result-unsliced : a.number ≡ 0 → Tidy (held b) → some_test (sliced_form (held b)).tests ≡ false → Demand3 (held b) (held (take a.length out')) a.rescued
+  result-unsliced z t u =
       subst (λ (o : Outcome). Demand3 (held b) (held (take o.answer.length o.output)) o.answer.rescued) (sym e)
-      (promise b out h (sym number ∙ z) t)
+      ((promise b out h (sym number ∙ z) t).1 u)
 
 -- all of them, of a result that tells it
 all : (b out : List ℕ) → Bytes b → (r : Result Shortening Refusal) (out' : List ℕ) → outcome (told r) out' ≡ shorten b out → {E : Type 0} → E → Clauses E b out r out'
@@ -172,6 +181,7 @@ all b out h (Ok s) out' e f =
       unmoved = λ m. result-unmoved b out h a out' e refl (rw m refl);
       bound = result-few b out h a out' e refl;
       demand3 = result-promised b out h a out' e refl;
+      unsliced = result-unsliced b out h a out' e refl;
     }
 all b out h (Err x) out' e f =
     record {
@@ -181,6 +191,7 @@ all b out h (Err x) out' e f =
       unmoved = tt;
       bound = tt;
       demand3 = tt;
+      unsliced = tt;
     }
 
 -- the clauses behind the equation hold of a refusal
@@ -189,7 +200,7 @@ refused-clauses b out (Ok s) out' e f = absurd (let n = ap (λ (o : Outcome). o.
 refused-clauses b out (Err x) out' e f =
     let n : number_of x.reason ≡ 8 = ap (λ (o : Outcome). o.answer.number) e in
     let nine : x.reason ≡ Output → ⊥ = λ z. let y = ap number_of z in omega arith in
-    record { is = f; accepted = tt; room = λ i. nine; unmoved = tt; bound = tt; demand3 = tt }
+    record { is = f; accepted = tt; room = λ i. nine; unmoved = tt; bound = tt; demand3 = tt; unsliced = tt }
 
 -- and so of every result within limits of at most 480
 pub clauses : (registers code : ℕ) (b out : List ℕ) → Bytes b → registers ≤ 480 → code ≤ 480 → (r : Result Shortening Refusal) (out' : List ℕ)
@@ -217,8 +228,9 @@ pub provisioned : (b out : List ℕ) → Bytes b → (t : Result (Option Reg) Re
       room : 61728 ≤ length out → IfErr r (λ e. e.reason ≢ Output);
       unmoved : IfOk r (λ s. s.moved ≡ false → out' ≡ b ++ drop (length b) out);
       bound : IfOk r (λ s. instructions (take s.length out') ≤ instructions b + instructions b / 2 + 36);
-      demand3 : IfOk r (λ s. Tidy (held b) → Demand3 (held b) (held (take s.length out')) s.rescued);
-      promised : IfOk r (λ s. t ≡ Ok None → Demand3 (held b) (held (take s.length out')) s.rescued);
+      demand3 : IfOk r (λ s. Tidy (held b) → Demand3Where (held b) (sliced_form (held b)) (held (take s.length out')) s.rescued);
+      unsliced : IfOk r (λ s. Tidy (held b) → some_test (sliced_form (held b)).tests ≡ false → Demand3 (held b) (held (take s.length out')) s.rescued);
+      promised : IfOk r (λ s. t ≡ Ok None → Demand3Where (held b) (sliced_form (held b)) (held (take s.length out')) s.rescued);
     }
 provisioned b out h t f r out' e =
     let c = all b out h r out' e e in
@@ -230,13 +242,14 @@ provisioned b out h t f r out' e =
       unmoved = c.unmoved;
       bound = c.bound;
       demand3 = c.demand3;
+      unsliced = c.unsliced;
       promised = yes r c.demand3;
     }
   where
     tidy : t ≡ Ok None → Tidy (held b)
     tidy y = yes_tidy b (ap (λ (x : Tidiness). x.tidy) (sym f) ∙ ap (λ (r : Result (Option Reg) Refusal). (tidiness_of r).tidy) y)
 
-    yes : (r : Result Shortening Refusal) → IfOk r (λ s. Tidy (held b) → Demand3 (held b) (held (take s.length out')) s.rescued)
-        → IfOk r (λ s. t ≡ Ok None → Demand3 (held b) (held (take s.length out')) s.rescued)
+    yes : (r : Result Shortening Refusal) → IfOk r (λ s. Tidy (held b) → Demand3Where (held b) (sliced_form (held b)) (held (take s.length out')) s.rescued)
+        → IfOk r (λ s. t ≡ Ok None → Demand3Where (held b) (sliced_form (held b)) (held (take s.length out')) s.rescued)
     yes (Ok s) d = λ y. d (tidy y)
     yes (Err x) d = tt

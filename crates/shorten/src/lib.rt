@@ -9,7 +9,10 @@ ghost use Rattle.tidy.specs.Tidy.{Tidy, tidiness};
 ghost use Rattle.tidy.specs.Told.{tidiness_of};
 ghost use Rattle.steps.specs.Shorten as spec;
 ghost use Rattle.steps.specs.Told.{told};
+ghost use Rattle.steps.specs.Slice.{some_test};
+ghost use Rattle.steps.specs.Run.{sliced_form};
 ghost use Rattle.machine.specs.Demand.{Demand3};
+ghost use Rattle.demand.specs.Lengths.{Demand3Where};
 ghost use Rattle.promise.specs.Promise.{held};
 ghost use Rattle.parts.specs.Parts.{parts_in};
 ghost use Rattle.output.specs.Filed.{outcome};
@@ -150,6 +153,8 @@ fn shorten_below(
     ensures bound { IfOk result (λ s. spec.instructions (take s.length out.new)
         ≤ spec.instructions bytes.now + spec.instructions bytes.now / 2 + 36) }
     ensures demand3 { IfOk result (λ s. Tidy (held bytes.now)
+        → Demand3Where (held bytes.now) (sliced_form (held bytes.now)) (held (take s.length out.new)) s.rescued) }
+    ensures unsliced { IfOk result (λ s. Tidy (held bytes.now) → some_test (sliced_form (held bytes.now)).tests ≡ false
         → Demand3 (held bytes.now) (held (take s.length out.new)) s.rescued) }
 {
     read::read(bytes)?;
@@ -171,6 +176,8 @@ pub fn shorten_within(
     ensures bound { IfOk result (λ s. spec.instructions (take s.length out.new)
         ≤ spec.instructions bytes.now + spec.instructions bytes.now / 2 + 36) }
     ensures demand3 { IfOk result (λ s. Tidy (held bytes.now)
+        → Demand3Where (held bytes.now) (sliced_form (held bytes.now)) (held (take s.length out.new)) s.rescued) }
+    ensures unsliced { IfOk result (λ s. Tidy (held bytes.now) → some_test (sliced_form (held bytes.now)).tests ≡ false
         → Demand3 (held bytes.now) (held (take s.length out.new)) s.rescued) }
 {
     shorten_below(bytes, out, registers.min(480), code.min(480))
@@ -185,6 +192,8 @@ pub fn shorten(bytes: &[u8], out: &mut [u8]) -> Result<Shortening, Refusal>
     ensures bound { IfOk result (λ s. spec.instructions (take s.length out.new)
         ≤ spec.instructions bytes.now + spec.instructions bytes.now / 2 + 36) }
     ensures demand3 { IfOk result (λ s. Tidy (held bytes.now)
+        → Demand3Where (held bytes.now) (sliced_form (held bytes.now)) (held (take s.length out.new)) s.rescued) }
+    ensures unsliced { IfOk result (λ s. Tidy (held bytes.now) → some_test (sliced_form (held bytes.now)).tests ≡ false
         → Demand3 (held bytes.now) (held (take s.length out.new)) s.rescued) }
 {
     shorten_within(bytes, out, 480, 480)
@@ -207,9 +216,11 @@ pub fn tidy_and_shorten(bytes: &[u8], out: &mut [u8]) -> Provisioning
     ensures bound { IfOk result.shortening (λ s. spec.instructions (take s.length out.new)
         ≤ spec.instructions bytes.now + spec.instructions bytes.now / 2 + 36) }
     ensures demand3 { IfOk result.shortening (λ s. Tidy (held bytes.now)
+        → Demand3Where (held bytes.now) (sliced_form (held bytes.now)) (held (take s.length out.new)) s.rescued) }
+    ensures unsliced { IfOk result.shortening (λ s. Tidy (held bytes.now) → some_test (sliced_form (held bytes.now)).tests ≡ false
         → Demand3 (held bytes.now) (held (take s.length out.new)) s.rescued) }
     ensures promised { IfOk result.shortening (λ s. result.tidiness ≡ Ok None
-        → Demand3 (held bytes.now) (held (take s.length out.new)) s.rescued) }
+        → Demand3Where (held bytes.now) (sliced_form (held bytes.now)) (held (take s.length out.new)) s.rescued) }
 {
     match tidy::tidy(bytes) {
         Ok(lowest) => {

@@ -2,36 +2,40 @@
 use Prim.Native.Nat.{ℕ, ◌+◌, ◌*◌, ◌/◌, ◌≤◌, ◌<◌, min}
 use native.Mathlib.Omega.{arith}
 use mathlib.Core.Path.{◌≡◌, refl, sym, ap, subst, ◌∙◌}
-use mathlib.Core.Bool.{true, false}
+use mathlib.Core.Bool.{Bool, true, false, not, ◌&&◌}
 use mathlib.Core.List.{List, [], ◌++◌, map}
 use mathlib.Core.Logic.{◌⊎◌, inl, inr}
+use lib.Dec.{ltb}
 use lib.ListN.{length, take, length-map}
+use Rattle.std.proofs.Math.Bool.{and_assoc}
 use lib.Seq.{take_all, length-take-le}
 use Rattle.general.proofs.Numbers.{order}
 use Rattle.records.specs.Record.{records_of}
 use Rattle.records.proofs.Laws.{length_records}
 use Rattle.inst.specs.declared.Code.{Code}
 use Rattle.codec.specs.Codec.{record_of}
-use Rattle.procedure.specs.Procedure.{Procedure, first_of}
+use Rattle.procedure.specs.Procedure.{Procedure, codes_of, first_of}
 use Rattle.procedure.specs.Lists.{joined}
 use Rattle.blocks.specs.Blocks.{blocks_of}
 use Rattle.blocks.proofs.Parts.{records_part}
 use Rattle.blocks.proofs.Bytes.{bytes-part}
-use Rattle.steps.specs.Run.{Shortened, arms_joined, emit, threaded_form}
+use Rattle.steps.specs.Gate.{has_back_edge}
+use Rattle.steps.specs.Slice.{has_lengths}
+use Rattle.steps.specs.Run.{Shortened, arms_joined, emit, looped_in, short, threaded_form, slice_if, slices}
 use Rattle.facts.specs.Storage.{facts_in}
 use Rattle.thread.proofs.Refined.{work_of}
 use Rattle.round_trips.specs.WellFormed.{WellFormed}
 use Rattle.round_trips.proofs.Blocks.{length-blocks}
-use Rattle.step_laws.proofs.Laws.{run-sized, run_well_formed}
+use Rattle.step_laws.proofs.Laws.{threaded_stage, stage_well_formed}
 use Rattle.procedure_parts.specs.Opened.{Parts, recoded, Coded, Holds, Opened}
-use Rattle.procedure_parts.proofs.Laws.{exchanged, kinds-sent, registers-sent}
-use Rattle.run.specs.Ran.{Left}
+use Rattle.procedure_parts.proofs.Laws.{exchanged, codes-held, kinds-sent, registers-sent}
+use Rattle.run.specs.Ran.{Left, slices_in}
 use Rattle.run.proofs.Lent as r
-use Rattle.run.proofs.Laws.{Still, Edited, still, edited}
+use Rattle.run.proofs.Laws.{Still, Edited, still, edited, looped, unedited-form}
 use Rattle.emit.specs.Stage.{Ready, Emitted}
 use Rattle.emit.specs.declared.Staged.{Staged}
-use Rattle.output.specs.Filed.{short}
-use Rattle.shortening.specs.Storage.{fronted, Lent, size_of, Enough, Staging, LeftOf, Tells}
+use Rattle.output.specs.Filed.{short as counted}
+use Rattle.shortening.specs.Storage.{fronted, Lent, size_of, Enough, Staging, LeftOf, Tells, form_with}
 use Rattle.shortening.proofs.Fronts.{fronted-length, fronted_first}
 
 -- a part of whole records that would end past the last ends there
@@ -98,7 +102,14 @@ module _ (p : Procedure) (x : Parts) {l : Left} (h : LeftOf p x l) where
       }
 
   well : WellFormed (threaded_form p).procedure
-  well = let r = o.few-registers in let c = o.few-code in run_well_formed p o.parted.well_formed (omega arith) (omega arith)
+  well =
+      let r = o.few-registers in
+      let c = o.few-code in
+      stage_well_formed p o.parted.well_formed (omega arith) (omega arith) (threaded_stage p o.parted.well_formed)
+
+  -- by the gate of `slice_tests`, where it is wanted
+  pub formed : (wanted : Bool) {b : Bool} → b ≡ (wanted && slices p) → (slice_if b (threaded_form p)).form ≡ form_with wanted p
+  formed wanted e = ap (λ (b : Bool). (slice_if b (threaded_form p)).form) e
 
   -- nothing threaded
   module _ (off : l.store.at.edited ≡ false) where
@@ -144,6 +155,25 @@ module _ (p : Procedure) (x : Parts) {l : Left} (h : LeftOf p x l) where
     pub same-tells : Tells (threaded_form p) (record { moved = l.joined; grown = 0; rescued = 0 }) 0
     same-tells = let z = stays in record { is-moved = z.moved; is-grown = z.grown; is-fresh = z.fresh; is-rescued = z.rescued }
 
+    -- the gate of `slice_tests`
+    arms-here : short p ≡ false → (threaded_form p).procedure.blocks ≡ (arms_joined p).procedure.blocks
+    arms-here f =
+        ap (λ (y : Shortened). y.procedure.blocks)
+        (subst (λ (l : Left). l.store.at.edited ≡ false → short p ≡ false → threaded_form p ≡ arms_joined p) (sym h.is) (unedited-form lent) off f)
+
+    pub same-slices : (not (ltb (size_of x) 6) && slices_in code l.store.table) ≡ slices p
+    same-slices =
+        ap (λ (n : ℕ). not (ltb n 6) && slices_in code l.store.table) size
+        ∙ ap (λ (P : List (List Code)). not (short p) && (has_back_edge P && has_lengths (codes_of code))) same-held.blocks
+        ∙ ap (λ (c : List Code). not (short p) && (has_back_edge (threaded_form p).procedure.blocks && has_lengths c)) (codes-held same-held)
+        ∙ by (short p) refl
+      where
+        by : (b : Bool) → short p ≡ b
+            → (not b && (has_back_edge (threaded_form p).procedure.blocks && has_lengths (joined (threaded_form p).procedure.blocks)))
+            ≡ (not b && (looped_in p && has_lengths (joined (threaded_form p).procedure.blocks)))
+        by true f = refl
+        by false f = ap (λ (P : List (List Code)). has_back_edge P && has_lengths (joined (threaded_form p).procedure.blocks)) (arms-here f)
+
   -- some block edited
   module _ (on : l.store.at.edited ≡ true) where
     edits : Edited p (threaded_form p) (fronted s.work x.code) (fronted s.table x.heads) s.kinds s.facts l
@@ -172,7 +202,7 @@ module _ (p : Procedure) (x : Parts) {l : Left} (h : LeftOf p x l) where
         let t = e.table in
         let hl = o.parted.coded.heads-length in
         let few = o.parted.well_formed.blocks in
-        let d = run-sized p o.parted.well_formed in
+        let d = (threaded_stage p o.parted.well_formed).sized in
         let dc = d.code in
         let db = d.blocks in
         let n = size in
@@ -217,7 +247,7 @@ module _ (p : Procedure) (x : Parts) {l : Left} (h : LeftOf p x l) where
           (sym (ap (λ (y : Shortened). y.procedure.body) i)) (sym (ap (λ (y : Shortened). y.procedure.operands) i))
           (sym (ap (λ (y : Shortened). y.procedure.tables) i)) here.coded
 
-      pub emitted-tells : {grown : ℕ} → grown ≡ short l.store.at.grown → Tells (threaded_form p) (record { moved = true; grown = grown; rescued = u.rescued }) (length kinds)
+      pub emitted-tells : {grown : ℕ} → grown ≡ counted l.store.at.grown → Tells (threaded_form p) (record { moved = true; grown = grown; rescued = u.rescued }) (length kinds)
       unfolding emit
       emitted-tells n =
           let i = edits.emitted in
@@ -230,3 +260,11 @@ module _ (p : Procedure) (x : Parts) {l : Left} (h : LeftOf p x l) where
             is-fresh = ap (λ (y : Shortened). y.fresh) i ∙ ap length kinds_are;
             is-rescued = sym here.rescued;
           }
+
+      -- the gate of `slice_tests`
+      pub emitted-slices : has_lengths (codes_of (take (32 * u.n) code)) ≡ slices p
+      emitted-slices =
+          let g = subst (λ (l : Left). l.store.at.edited ≡ true → (not (short p) && looped_in p) ≡ true) (sym h.is) (looped lent) on in
+          ap has_lengths (codes-held emitted-held)
+          ∙ ap (λ (b : Bool). b && has_lengths (joined (threaded_form p).procedure.blocks)) (sym g)
+          ∙ and_assoc (not (short p)) (looped_in p) (has_lengths (joined (threaded_form p).procedure.blocks))

@@ -13,7 +13,6 @@ use Rattle.layout.specs.declared.Layout.{Layout}
 use Rattle.inst.specs.declared.Code.{Code}
 use Rattle.procedure.specs.Procedure.{Procedure, first_of}
 use Rattle.procedure.specs.Lists.{present}
-use Rattle.blocks.specs.Blocks.{blocks_of}
 use Rattle.steps.specs.Gate.{has_back_edge, may_thread}
 use Rattle.steps.specs.Run.{unchanged, run}
 use Rattle.procedure_parts.specs.Opened.{Parts, parts_of, recoded, Holds, Parted, Opened}

@@ -1,10 +1,10 @@
 -- Storage, not the paper's: what is lent to Shorten, and what it holds before the result is written.
-use Rattle.std.specs.Prelude.{ℕ, ◌+◌, ◌*◌, ◌/◌, ◌≤◌, min, ◌≡◌, Bool, List, map, length}
+use Rattle.std.specs.Prelude.{ℕ, ◌+◌, ◌*◌, ◌/◌, ◌≤◌, min, ◌≡◌, Bool, ◌&&◌, List, map, length}
 use Rattle.std.proofs.Math.Seq.{paste}
 use Rattle.records.specs.Record.{records_of}
 use Rattle.put_record.specs.Store.{Bytes}
 use Rattle.procedure.specs.Procedure.{Procedure, first_of}
-use Rattle.steps.specs.Run.{Shortened}
+use Rattle.steps.specs.Run.{Shortened, threaded_form, slice_if, slices}
 use Rattle.procedure_parts.specs.Opened.{Parts, Opened}
 use Rattle.run.specs.Ran.{Left, opens_in, ran_in, NoStep}
 use Rattle.output.specs.declared.Changes.{Changes}
@@ -72,3 +72,7 @@ pub record Tells (s : Shortened) (did : Changes) (fresh : ℕ) : Type 0 where
   pub is-grown : s.grown ≡ did.grown
   pub is-fresh : s.fresh ≡ fresh
   pub is-rescued : s.rescued ≡ did.rescued
+
+-- `run`, or the threaded form where `slice_tests` isn't wanted
+abbrev pub form_with : Bool → Procedure → Shortened
+form_with wanted p = (slice_if (wanted && slices p) (threaded_form p)).form

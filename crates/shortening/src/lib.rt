@@ -1,19 +1,19 @@
 // Shorten over lent storage, for an accepted file within the limits.
 #![tactic(auto)]
 
-ghost use Rattle.std.specs.Prelude.{◌≡◌, true, false, map, length, IfSome, IfNone};
+ghost use Rattle.std.specs.Prelude.{◌≡◌, true, false, ◌&&◌, not, ltb, ◌*◌, ◌/◌, min, map, length, take, IfSome, IfNone};
 ghost use Rattle.records.specs.Record.{records_of};
 ghost use Rattle.put_record.specs.Store.{Bytes};
 ghost use Rattle.procedure.specs.Procedure.{Procedure, first_of};
-ghost use Rattle.steps.specs.Run.{Shortened, unchanged, run as run_of};
+ghost use Rattle.steps.specs.Run.{Shortened, unchanged, threaded_form, slice_if, run as run_of};
 ghost use Rattle.steps.specs.Shorten.{shortened};
 ghost use Rattle.steps.specs.Told.{told};
 ghost use Rattle.pause.specs.Storage.{body_in};
 ghost use Rattle.parts.specs.Parts.{parts_in};
 ghost use Rattle.procedure_parts.specs.Opened.{recoded, Holds, Parted, Opened};
-ghost use Rattle.run.specs.Ran.{left};
+ghost use Rattle.run.specs.Ran.{left, slices_in};
 ghost use Rattle.output.specs.Filed.{outcome};
-ghost use Rattle.shortening.specs.Storage.{fronted, lent, opens_for, NoStepIn, Tells, LeftOf, Enough, Staging};
+ghost use Rattle.shortening.specs.Storage.{fronted, lent, opens_for, NoStepIn, Tells, form_with, LeftOf, Enough, Staging};
 
 use blocks::Blocks;
 use inst::BlockId;
@@ -118,9 +118,8 @@ pub fn put_sent(out: &mut [u8], file: &File) -> Result<Shortening, Refusal>
 }
 
 // Code, block table and new registers hold what Emit left, or what there is if nothing was threaded. Steps after Emit go
-// here, each over the storage in place; then the result is written. Until there is one it is `put` alone, so that a step changes one
-// place (docs/ADDING-A-STEP.md). Code and block table are no Stage: tried, and the borrow checker doesn't cover a Stage of parts of
-// the storage that is lent here.
+// here, each over the storage in place; then the result is written. The flag is whether the gate of `slice_tests` is open. Code and
+// block table are no Stage: tried, and the borrow checker doesn't cover a Stage of parts of the storage that is lent here.
 fn finish(
     out: &mut [u8],
     file: &File,
@@ -128,22 +127,59 @@ fn finish(
     heads: &mut [u8],
     kinds: &[u8],
     did: Changes,
+    slices: bool,
 ) -> Result<Shortening, Refusal>
     ensures { (s : Shortened)
         → Holds s.procedure (recoded (parts_in file.now) code.old heads.old) kinds.now
         → Tells s did (length kinds.now)
-        → outcome (told result) out.new ≡ shortened s out.old }
+        → outcome (told result) out.new ≡ shortened (slice_if slices s).form out.old }
 {
-    put(out, file, code, heads, kinds, did)
+    if !slices {
+        return put(out, file, code, heads, kinds, did);
+    }
+    let registers = file.registers().len() / 32 + kinds.len();
+    let any = slice::slice(code, heads, file.operands(), registers);
+    put(
+        out,
+        file,
+        code,
+        heads,
+        kinds,
+        Changes {
+            moved: did.moved | any,
+            ..did
+        },
+    )
 }
 
-// Nothing is threaded: the storage holds the result already, the code with its equal arms joined.
-fn write_same(out: &mut [u8], file: &File, s: &mut Storage, r: Ran) -> Result<Shortening, Refusal>
+// The gate of `slice_tests` where nothing is threaded, of n instructions whose equal arms are joined.
+fn slices(s: &Storage, n: usize, with_slices: bool) -> bool
+    ensures { result ≡ (with_slices && (not (ltb n 6)
+        && slices_in (take (32 * min n (length s.now.work.now / 32)) s.now.work.now) s.now.table.now)) }
+{
+    let m = n.min(s.work.len() / 32);
+    let blocks = Blocks {
+        code: &s.work[..32 * m],
+        table: s.table,
+    };
+    with_slices && n >= 6 && gate::has_lengths(blocks.code) && gate::has_back_edge(blocks)
+}
+
+// Nothing is threaded: the storage holds the threaded form already, the code with its equal arms joined. The flag is whether
+// `slice_tests` is wanted.
+fn write_same(
+    out: &mut [u8],
+    file: &File,
+    s: &mut Storage,
+    r: Ran,
+    with_slices: bool,
+) -> Result<Shortening, Refusal>
     ensures { (p : Procedure)
         → LeftOf p (parts_in file.now) (left s.old.work.now s.old.table.now s.old.kinds.now s.old.facts.now r)
-        → r.at.edited ≡ false → outcome (told result) out.new ≡ shortened (run_of p) out.old }
+        → r.at.edited ≡ false → outcome (told result) out.new ≡ shortened (form_with with_slices p) out.old }
 {
     let n = file.code().len() / 32;
+    let to_slice = slices(s, n, with_slices);
     let m = n.min(s.work.len() / 32);
     finish(
         out,
@@ -156,21 +192,23 @@ fn write_same(out: &mut [u8], file: &File, s: &mut Storage, r: Ran) -> Result<Sh
             grown: 0,
             rescued: 0,
         },
+        to_slice,
     )
 }
 
-// Threading edited some block: Emit leaves its result in the storage for it.
+// Threading edited some block, so the file has 6 instructions and a block that leads back. Emit leaves its result in the storage for it.
 fn write_emitted(
     out: &mut [u8],
     file: &File,
     s: &Storage,
     stage: &mut Stage,
     r: Ran,
+    with_slices: bool,
 ) -> Result<Shortening, Refusal>
     ensures { (p : Procedure)
         → LeftOf p (parts_in file.now) (left s.now.work.now s.now.table.now s.now.kinds.now s.now.facts.now r)
         → Staging (parts_in file.now) (length stage.old.code.now) (length stage.old.heads.now)
-        → r.at.edited ≡ true → outcome (told result) out.new ≡ shortened (run_of p) out.old }
+        → r.at.edited ≡ true → outcome (told result) out.new ≡ shortened (form_with with_slices p) out.old }
 {
     let blocks = Blocks {
         code: s.work,
@@ -179,10 +217,12 @@ fn write_emitted(
     let e = emit::emit(stage.code, stage.heads, blocks, file.arms(), s.facts);
     let n = e.n;
     let m = r.at.fresh.min(s.kinds.len());
+    let code = &mut stage.code[..32 * n];
+    let to_slice = with_slices & gate::has_lengths(code);
     finish(
         out,
         file,
-        &mut stage.code[..32 * n],
+        code,
         stage.heads,
         &s.kinds[..m],
         Changes {
@@ -190,6 +230,7 @@ fn write_emitted(
             grown: u32::try_from(r.at.grown).unwrap_or(u32::MAX),
             rescued: e.rescued,
         },
+        to_slice,
     )
 }
 
@@ -202,20 +243,50 @@ fn write(
     s: &mut Storage,
     stage: &mut Stage,
     r: Ran,
+    with_slices: bool,
 ) -> Result<Shortening, Refusal>
     ensures { (p : Procedure)
         → LeftOf p (parts_in file.now) (left s.old.work.now s.old.table.now s.old.kinds.now s.old.facts.now r)
         → Staging (parts_in file.now) (length stage.old.code.now) (length stage.old.heads.now)
-        → outcome (told result) out.new ≡ shortened (run_of p) out.old }
+        → outcome (told result) out.new ≡ shortened (form_with with_slices p) out.old }
 {
     if r.at.edited {
-        write_emitted(out, file, s, stage, r)
+        write_emitted(out, file, s, stage, r, with_slices)
     } else {
-        write_same(out, file, s, r)
+        write_same(out, file, s, r, with_slices)
     }
 }
 
-// Carries out the steps on the parts of a file and writes the result, if it fits. The flag is what `glance` told of the gate.
+// `run` before Emit on the parts of a file. The flag is what `glance` told of the gate.
+fn run_in(file: &File, s: &mut Storage, is_open: bool) -> Ran
+    ensures { (p : Procedure) → Opened p (parts_in file.now)
+        → (is_open ≡ true → opens_for (parts_in file.now) ≡ true)
+        → Enough (parts_in file.now)
+        (lent s.old.work.now s.old.table.now s.old.kinds.now s.old.facts.now (length s.old.known.now) (length s.old.copy.now))
+        → LeftOf p (parts_in file.now) (left s.new.work.now s.new.table.now s.new.kinds.now s.new.facts.now result) }
+{
+    let code = file.code();
+    put_front(s.work, code);
+    put_front(s.table, file.heads());
+    let begin = Begin {
+        pause: pause_of(file.body()),
+        n: code.len() / 32,
+        is_open,
+    };
+    run::run(
+        s.work,
+        s.table,
+        s.kinds,
+        s.known,
+        s.copy,
+        s.facts,
+        file.operands(),
+        file.registers(),
+        begin,
+    )
+}
+
+// Carries out the steps on the parts of a file and writes the result, if it fits.
 pub fn shorten_in(
     file: &File,
     out: &mut [u8],
@@ -230,24 +301,23 @@ pub fn shorten_in(
         → Staging (parts_in file.now) (length stage.old.code.now) (length stage.old.heads.now)
         → outcome (told result) out.new ≡ shortened (run_of p) out.old }
 {
-    let code = file.code();
-    put_front(s.work, code);
-    put_front(s.table, file.heads());
-    let begin = Begin {
-        pause: pause_of(file.body()),
-        n: code.len() / 32,
-        is_open,
-    };
-    let r = run::run(
-        s.work,
-        s.table,
-        s.kinds,
-        s.known,
-        s.copy,
-        s.facts,
-        file.operands(),
-        file.registers(),
-        begin,
-    );
-    write(out, file, s, stage, r)
+    let r = run_in(file, s, is_open);
+    write(out, file, s, stage, r, true)
+}
+
+// The same without `slice_tests`, for tests: the result is the threaded form.
+pub fn thread_in(
+    file: &File,
+    out: &mut [u8],
+    s: &mut Storage,
+    stage: &mut Stage,
+) -> Result<Shortening, Refusal>
+    ensures { (p : Procedure) → Opened p (parts_in file.now)
+        → Enough (parts_in file.now)
+        (lent s.old.work.now s.old.table.now s.old.kinds.now s.old.facts.now (length s.old.known.now) (length s.old.copy.now))
+        → Staging (parts_in file.now) (length stage.old.code.now) (length stage.old.heads.now)
+        → outcome (told result) out.new ≡ shortened (threaded_form p) out.old }
+{
+    let r = run_in(file, s, false);
+    write(out, file, s, stage, r, false)
 }

@@ -5,16 +5,20 @@ use mathlib.Core.Path.{◌≡◌, refl, ap, ◌∙◌}
 use mathlib.Core.Bool.{Bool, true, false, ◌&&◌, true≢false}
 use mathlib.Core.List.{List, ◌++◌}
 use lib.ListN.{length, length-append}
+use Rattle.std.proofs.lemmas.Bool.{or_parts}
 use Rattle.inst.specs.declared.Code.{Code}
 use Rattle.procedure.specs.Procedure.{Procedure}
 use Rattle.procedure.specs.Lists.{joined, present}
-use Rattle.steps.specs.Facts.{Facts, facts_of}
+use Rattle.steps.specs.Facts.{Facts, const_of, facts_of}
 use Rattle.steps.specs.EqualArms.{equal_arms}
 use Rattle.steps.specs.Gate.{may_thread}
 use Rattle.steps.specs.Thread.{Work, next_number, thread, unthreaded}
 use Rattle.steps.specs.Emit.{reached, empty_from, rescues, onto_front}
-use Rattle.steps.specs.Run.{Shortened, with_blocks, unchanged, arms_joined, emit, emit_if, counted_in, thread_if, looped_in, short, threaded_unless, threaded_form, run}
+use Rattle.steps.specs.Slice.{tests_in, sliced_in, some_test}
+use Rattle.steps.specs.Run.{Shortened, with_blocks, unchanged, arms_joined, emit, emit_if, counted_in, thread_if, looped_in, short, threaded_unless, threaded_form}
+use Rattle.steps.specs.Run.{slice_if, slices, sliced_form, run}
 use Rattle.steps.proofs.Edits.{Edits, thread_edits}
+use Rattle.steps.proofs.Sliced.{sliced_blocks, sliced_size, untested_same}
 use Rattle.round_trips.specs.WellFormed.{All, BlockIn, counts_in, WellFormed}
 use Rattle.round_trips.proofs.Lists.{all_append, all-turn}
 use Rattle.round_trips.proofs.ToRecords.{few-blocks}
@@ -22,6 +26,7 @@ use Rattle.step_laws.specs.Size.{code_size, Sized}
 use Rattle.step_laws.proofs.Names.{with_regs}
 use Rattle.step_laws.proofs.Arms.{Kept, arms-kept}
 use Rattle.step_laws.proofs.Threads.{Inv, start_keeps, edits_keep}
+use Rattle.step_laws.proofs.Slices.{sliced_sound}
 use Rattle.step_laws.proofs.Emits.{empty_length, empty_in_lem, rescues-in, emit-few, onto_in, onto_length, onto_few}
 
 -- what each stage leaves of a procedure
@@ -147,9 +152,26 @@ module _ (p : Procedure) (h : WellFormed p) where
   unfolding threaded_form
   threaded_stage = unless-short (short p)
 
-  -- a later step is put behind it here, by stage_then
+  sliced_stage : (t : Bool) → Stage p (slice_if t (threaded_form p)).form
+  sliced_stage true =
+      let r = threaded_stage in
+      let q = (threaded_form p).procedure in
+      let kc = const_of (joined q.blocks) in
+      let z = r.sized in
+      let m = z.registers in
+      let fr = z.fresh in
+      let g = z.grown in
+      let i = h.registers in
+      let j = h.code in
+      let low : All (λ x. x < length q.registers) q.operands = rw r.operands (all-turn (λ x k. omega arith) p.operands h.each_operand) in
+      let sound = sliced_sound kc q.operands (counts_in q) low (omega arith) q.blocks r.each-block in
+      let size = sliced_size kc q.operands q.blocks in
+      stage_then r (sliced_in kc q.operands q.blocks) _ (sliced_blocks kc q.operands q.blocks) sound (omega arith)
+  sliced_stage false = threaded_stage
+
   pub run_stage : Stage p (run p)
-  run_stage = threaded_stage
+  unfolding sliced_form
+  run_stage = sliced_stage (slices p)
 
   -- "Output has at most n + n/2 + 36 instructions."
   pub run-sized : Sized p (run p)
@@ -176,14 +198,23 @@ module _ (p : Procedure) (h : WellFormed p) where
   unfolding threaded_form
   threaded-same = unless-same (short p)
 
+  sliced-same : (t : Bool) → Same (slice_if t (threaded_form p)).form
+  sliced-same true e =
+      let s = threaded_form p in
+      let q = s.procedure in
+      let kc = const_of (joined q.blocks) in
+      let t = or_parts s.moved (some_test (tests_in kc q.operands q.blocks)) e in
+      ap (with_blocks q) (untested_same kc q.operands q.blocks t.1) ∙ threaded-same t.0
+  sliced-same false e = threaded-same e
+
   pub run-same : Same (run p)
-  run-same = threaded-same
+  unfolding sliced_form
+  run-same = sliced-same (slices p)
 
   -- within limits that leave room for what is added, such as 480 registers and 480 instructions
   module _ (registers : length p.registers + code_size p / 2 + 36 ≤ 756) (code : code_size p + code_size p / 2 + 36 ≤ 756) where
-    pub run_well_formed : WellFormed (run p).procedure
-    run_well_formed =
-        let r = run_stage in
+    pub stage_well_formed : {s : Shortened} → Stage p s → WellFormed s.procedure
+    stage_well_formed r =
         let s = r.sized in
         let b = s.blocks in
         let g = s.grown in
@@ -205,3 +236,6 @@ module _ (p : Procedure) (h : WellFormed p) where
           each_operand = rw r.operands (all-turn (λ x k. omega arith) p.operands h.each_operand);
           each-table = rw (b, r.tables) h.each-table;
         }
+
+    pub run_well_formed : WellFormed (run p).procedure
+    run_well_formed = stage_well_formed run_stage

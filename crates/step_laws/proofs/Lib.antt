@@ -7,5 +7,6 @@ pub mod Notes
 pub mod Copies
 pub mod Threads
 pub mod Emits
+pub mod Slices
 pub mod Laws
 pub mod Shorten

@@ -29,7 +29,8 @@ use Rattle.steps.specs.Copy.{how_of, own_uses, copy_from, kinds_given}
 use Rattle.steps.specs.Thread.{arm_of, hop_cond_br, stops, hop_br, hop, hops, thread_from}
 use Rattle.paths.specs.Paths.{total, walk, reached_from}
 use Rattle.steps.specs.Emit.{reached, stays, empty_from, rescued_of, rescues}
-use Rattle.steps.specs.Run.{emit, threaded_form}
+use Rattle.steps.specs.Slice.{measure_of, has_lengths}
+use Rattle.steps.specs.Run.{emit, threaded_form, sliced_form}
 use Rattle.steps.specs.Write.{block_records, table_records, records_for, bytes_of}
 use Rattle.steps.specs.Shorten.{Outcome, refusal, shorten, shorten_within}
 
@@ -265,5 +266,6 @@ unfolding bytes_of word_bytes tag_bytes records_of first_records right names_exi
     read_records checked inst_of inst_record tables_from procedure_of any_of times found form_of view_of end_of front with_end copyable small step_by
     step_block latch reads_konst writes_in use_count fixed_of const_in const_of konst_of facts_of values_without copies_without forget_all learn notes
     follow join_arms join_from back_edge_from copied may_thread_from exchanged how_of own_uses copy_from kinds_given arm_of hop_cond_br stops hop_br hop hops
-    thread_from total walk reached_from reached stays empty_from rescued_of rescues emit threaded_form block_records table_records records_for shorten_within
+    thread_from total walk reached_from reached stays empty_from rescued_of rescues emit threaded_form measure_of has_lengths sliced_form
+    block_records table_records records_for shorten_within
 proved = refl

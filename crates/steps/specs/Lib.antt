@@ -6,6 +6,7 @@ pub mod Gate
 pub mod Copy
 pub mod Thread
 pub mod Emit
+pub mod Slice
 pub mod Run
 pub mod Write
 pub mod Shorten

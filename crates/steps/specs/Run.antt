@@ -1,13 +1,14 @@
--- Document 01, "Steps", and its counts: the `run` part, made of its stages.
-use Rattle.std.specs.Prelude.{ℕ, List, ◌++◌, Bool, true, false, ◌&&◌, ltb, length}
+-- Document 01, "Steps", and its counts, and document 02, 2.1: the `run` part, made of its stages.
+use Rattle.std.specs.Prelude.{ℕ, List, [], ◌++◌, Bool, true, false, ◌&&◌, ◌||◌, not, ltb, length, Option, None}
 use Rattle.inst.specs.declared.Code.{Code}
 use Rattle.procedure.specs.Procedure.{Procedure}
 use Rattle.procedure.specs.Lists.{joined, present}
-use Rattle.steps.specs.Facts.{Facts, facts_of}
+use Rattle.steps.specs.Facts.{Facts, const_of, facts_of}
 use Rattle.steps.specs.EqualArms.{Arms, equal_arms}
 use Rattle.steps.specs.Gate.{has_back_edge, may_thread}
 use Rattle.steps.specs.Thread.{Work, thread}
 use Rattle.steps.specs.Emit.{reached, empty_from, rescues, onto_front}
+use Rattle.steps.specs.Slice.{Test, tests_in, sliced_in, some_test, has_lengths}
 
 -- what a stage of `run` leaves
 pub record Shortened : Type 0 where
@@ -97,6 +98,41 @@ threaded_unless false p = threaded (looped_in p) (arms_joined p)
 unfoldable pub threaded_form : Procedure → Shortened
 threaded_form p = threaded_unless (short p) p
 
--- "The reference is `run`, stopped after `thread`"
+-- the sliced form, with what `slice_tests` did
+pub record Sliced : Type 0 where
+  pub form : Shortened
+  -- for each instruction of each block, what it tested, if it is a Cmp that was rewritten; none where the gate is shut
+  pub tests : List (List (Option Test))
+  -- "the registers [..] that `slice_tests` takes for constants", with their values; none where the gate is shut
+  pub taken : ℕ → Option ℕ
+
+-- `moved |= slice_tests(..)`; the counts stay
+abbrev pub with_tests : Shortened → List (List Code) → List (List (Option Test)) → Shortened
+with_tests s P tests =
+    record { procedure = with_blocks s.procedure P; moved = s.moved || some_test tests; grown = s.grown; fresh = s.fresh; rescued = s.rescued }
+
+abbrev pub sliced_by : (ℕ → Option ℕ) → Shortened → Sliced
+sliced_by kc s =
+    let p = s.procedure in
+    let tests = tests_in kc p.operands p.blocks in
+    record { form = with_tests s (sliced_in kc p.operands p.blocks) tests; tests = tests; taken = kc }
+
+abbrev pub unsliced : Shortened → Sliced
+unsliced s = record { form = s; tests = []; taken = λ r. None }
+
+-- definitions are counted anew: `kc`
+abbrev pub slice_if : Bool → Shortened → Sliced
+slice_if true s = sliced_by (const_of (joined s.procedure.blocks)) s
+slice_if false s = unsliced s
+
+-- "with its gate in `run`": `looped` is the one asked before threading, the rest is asked of the code after Emit. "Fewer than 6
+-- instructions: unchanged."
+abbrev pub slices : Procedure → Bool
+slices p = not (short p) && (looped_in p && has_lengths (joined (threaded_form p).procedure.blocks))
+
+unfoldable pub sliced_form : Procedure → Sliced
+sliced_form p = slice_if (slices p) (threaded_form p)
+
+-- "The records and moved then match the Rust with that call as its last."
 abbrev pub run : Procedure → Shortened
-run p = threaded_form p
+run p = (sliced_form p).form

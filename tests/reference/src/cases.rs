@@ -46,6 +46,7 @@ pub fn cases() -> Vec<Case> {
     for seed in 1..=4 {
         add(&format!("full-{seed}"), full(seed).bytes());
     }
+    add("full-of-lengths", full_of_lengths().bytes());
     for n in [31, 32 * 2048, 32 * 2049, 65_535] {
         add(&format!("bytes-{n}"), repeated_register(n));
     }
@@ -64,6 +65,9 @@ pub fn cases() -> Vec<Case> {
         add(&format!("ring-{n}"), ring(n).bytes());
     }
     for (name, d) in decided() {
+        add(name, d.with_statements(10).bytes());
+    }
+    for (name, d) in lengths().into_iter().chain(wrong_lengths()) {
         add(name, d.with_statements(10).bytes());
     }
     all
@@ -481,6 +485,106 @@ fn decided() -> Vec<(&'static str, Draft)> {
     ]
 }
 
+/// Lengths and their tests, one point of `slice_tests` in each; `table.py` makes a table of the definition from them. r0 and r1 are
+/// the bounds, r2 is the constant 0, r4 the length, r5 what the test gives, r6 the register of a descriptor.
+fn lengths() -> Vec<(&'static str, Draft)> {
+    let looped = |code: &[Record], operands: &[u32]| {
+        let mut block = vec![constant(2, 0)];
+        block.extend_from_slice(code);
+        block.push(stmt());
+        block.push(br(0));
+        Draft { registers: vec![0; 7], blocks: vec![block], operands: operands.to_vec(), ..Draft::default() }
+    };
+    let spans = |dst, left, right, dir| ins(kind::BOUNDS_LEN, 0, &[dst, left, right, dir]);
+    let makes = |at, start, len| ins(kind::MAKE_DOPE, 0, &[at, start, len]);
+    let measures = |dst, dim| ins(kind::DOPE_LEN, 0, &[dst, 6, dim]);
+    let up = [0, 1, 2];
+    let twice = [0, 1, 2, 1, 0, 2];
+    let once_unknown = [0, 1, 2, 1, 0, 0];
+    vec![
+        ("length-up", looped(&[spans(4, 0, 1, 2), cmp(0, 5, 4, 2), cmp(3, 5, 4, 2)], &[])),
+        ("length-down", looped(&[constant(3, 1), spans(4, 0, 1, 3), cmp(1, 5, 4, 2), cmp(4, 5, 4, 2)], &[])),
+        ("length-two-ops", looped(&[spans(4, 0, 1, 2), cmp(2, 5, 4, 2), cmp(5, 5, 4, 2)], &[])),
+        ("length-direction-2", looped(&[constant(3, 2), spans(4, 0, 1, 3), cmp(0, 5, 4, 2)], &[])),
+        ("length-not-zero", looped(&[constant(3, 1), spans(4, 0, 1, 2), cmp(0, 5, 4, 3)], &[])),
+        (
+            "length-over-its-left",
+            looped(&[spans(0, 0, 1, 2), cmp(0, 5, 0, 2), spans(1, 0, 1, 2), cmp(0, 5, 1, 2)], &[]),
+        ),
+        ("length-bound-written", looped(&[spans(4, 0, 1, 2), mov(1, 0), cmp(0, 5, 4, 2)], &[])),
+        ("length-written", looped(&[spans(4, 0, 1, 2), cmp(0, 4, 4, 2), cmp(0, 5, 4, 2)], &[])),
+        ("length-of-dope", looped(&[makes(6, 0, 3), measures(4, 0), cmp(0, 5, 4, 2)], &up)),
+        ("length-of-dim-1", looped(&[makes(6, 0, 3), measures(4, 1), cmp(0, 5, 4, 2)], &up)),
+        (
+            "length-of-dope-made-twice",
+            looped(&[makes(6, 0, 3), measures(4, 0), makes(6, 3, 3), cmp(1, 5, 4, 2)], &twice),
+        ),
+        (
+            "length-of-dope-unknown",
+            looped(&[makes(6, 0, 3), measures(4, 0), makes(6, 3, 3), cmp(0, 5, 4, 2)], &once_unknown),
+        ),
+        ("length-of-dope-of-two", looped(&[makes(6, 0, 2), measures(4, 0), cmp(0, 5, 4, 2)], &up)),
+        ("length-of-dope-at-its-bound", looped(&[makes(6, 0, 3), measures(4, 0), cmp(0, 5, 4, 2)], &[0, 6, 2])),
+        ("length-of-dope-written", looped(&[makes(6, 0, 3), measures(4, 0), mov(6, 0), cmp(0, 5, 4, 2)], &up)),
+        (
+            "length-of-next-block",
+            Draft {
+                registers: vec![0; 6],
+                blocks: vec![
+                    vec![constant(2, 0), spans(4, 0, 1, 2), stmt(), stmt(), stmt(), br(1)],
+                    vec![cmp(0, 5, 4, 2), stmt(), stmt(), stmt(), stmt(), br(0)],
+                ],
+                ..Draft::default()
+            },
+        ),
+        (
+            "length-loop-threaded-away",
+            Draft {
+                registers: vec![0; 6],
+                blocks: vec![
+                    vec![constant(2, 0), spans(4, 0, 1, 2), cmp(0, 5, 4, 2), br(2)],
+                    vec![ret()],
+                    vec![stmt(), br(1)],
+                ],
+                ..Draft::default()
+            },
+        ),
+        (
+            "length-without-loop",
+            Draft {
+                registers: vec![0; 6],
+                blocks: vec![vec![constant(2, 0), spans(4, 0, 1, 2), cmp(0, 5, 4, 2), stmt(), stmt(), ret()]],
+                ..Draft::default()
+            },
+        ),
+        (
+            "length-zero-once-emptied",
+            Draft {
+                registers: vec![0; 3],
+                blocks: vec![
+                    vec![spans(2, 1, 1, 0), cmp(0, 1, 2, 0), constant(0, 0), br(2)],
+                    vec![cmp(0, 1, 2, 0), constant(0, 0), ret()],
+                    vec![cmp(0, 2, 0, 0), br(0)],
+                ],
+                ..Draft::default()
+            },
+        ),
+    ]
+}
+
+/// Tidy files whose runs differ from their sliced forms' where the outside's lengths are wrong, or don't fit in 63 bits.
+fn wrong_lengths() -> Vec<(&'static str, Draft)> {
+    let draft = |registers: usize, blocks| Draft { registers: vec![0; registers], blocks, ..Draft::default() };
+    let spans = |dst, left, right, dir| ins(kind::BOUNDS_LEN, 0, &[dst, left, right, dir]);
+    let again = || vec![mov(0, 0), ret()];
+    let inexact = vec![spans(2, 0, 0, 1), cmp(0, 0, 2, 1), br(0)];
+    let too_long = vec![constant(3, 0), constant(2, 0), spans(1, 0, 3, 2), cmp(4, 0, 1, 3), br(0)];
+    vec![
+        ("inexact-length", draft(3, vec![inexact, again(), vec![constant(1, 0), ret()]])),
+        ("too-long-length", draft(4, vec![too_long, again()])),
+    ]
+}
+
 fn with_body(b: u32, d: Draft) -> Draft {
     Draft { body: Some(b), ..d }
 }
@@ -535,6 +639,20 @@ fn full(seed: u64) -> Draft {
         d.blocks[0].insert(0, stmt());
     }
     d.registers.resize(480, 0);
+    d
+}
+
+/// The same with lengths and their tests in its first block, by the last registers.
+fn full_of_lengths() -> Draft {
+    let mut d = full(1);
+    let stmts = d.blocks[0].iter().take_while(|i| i.kind == kind::STMT).count();
+    let pairs = (0..).flat_map(|k| {
+        let length = 470 + k % 4;
+        let span = ins(kind::BOUNDS_LEN, 0, &[length, 475, 476, 479]);
+        [span, cmp(k as u8 % 6, 477, length, 479)]
+    });
+    let code = std::iter::once(constant(479, 0)).chain(pairs);
+    d.blocks[0].iter_mut().take(stmts).zip(code).for_each(|(stmt, i)| *stmt = i);
     d
 }
 

@@ -4,7 +4,7 @@ use crate::library::{Shortening, symbol};
 use std::ffi::c_void;
 
 /// The forms in the order of their numbers.
-pub const NAMES: [&str; 2] = ["sent", "threaded"];
+pub const NAMES: [&str; 3] = ["sent", "threaded", "sliced"];
 
 type Function = unsafe extern "C" fn(*const u8, usize, u32, *mut u8, usize) -> Shortening;
 

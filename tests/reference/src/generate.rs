@@ -1,6 +1,7 @@
 //! Seeded procedures: rich in branches to small blocks, with bodies, tables and lists.
 
 use crate::draft::*;
+use crate::lengths;
 use crate::procedure::Table;
 use crate::record::{Place, RECORD, Record, kind, places};
 use crate::tidy;
@@ -38,7 +39,7 @@ impl Rng {
     }
 }
 
-pub const FAMILIES: [&str; 15] = [
+pub const FAMILIES: [&str; 18] = [
     "small",
     "chains",
     "process",
@@ -54,11 +55,15 @@ pub const FAMILIES: [&str; 15] = [
     "tidy-large",
     "budget",
     "damaged",
+    "lengths",
+    "tidy-lengths",
+    "lengths-split",
 ];
 
 /// File `seed` of a family.
 pub fn file(family: &str, seed: u64) -> Vec<u8> {
-    let mut g = Rng::new(seed ^ family.bytes().fold(7, |h, b| h * 31 + u64::from(b)) << 40);
+    let name = family.bytes().fold(7_u64, |h, b| h.wrapping_mul(31).wrapping_add(u64::from(b)));
+    let mut g = Rng::new(seed ^ name << 40);
     match family {
         "small" => Shape::small(&mut g).draft(&mut g).bytes(),
         "chains" => Shape::chains(&mut g).draft(&mut g).bytes(),
@@ -81,6 +86,12 @@ pub fn file(family: &str, seed: u64) -> Vec<u8> {
         "tidy-large" => tidied(Shape { most: 400, ..Shape::large(&mut g) }.draft(&mut g), &mut g).bytes(),
         "budget" => budget(&mut g).bytes(),
         "damaged" => damaged(&mut g),
+        "lengths" => lengths::draft(&mut g, false).bytes(),
+        "tidy-lengths" => {
+            let split = g.chance(40);
+            tidied(told(lengths::draft(&mut g, split), &mut g, 20), &mut g).bytes()
+        }
+        "lengths-split" => lengths::draft(&mut g, true).bytes(),
         _ => panic!("no family {family}"),
     }
 }

@@ -1,15 +1,17 @@
 //! Which calls of the published `run` are carried out, by name. A request of document 02 that
 //! brings one in adds its name to CALLS, and nothing else changes here.
 
-use std::sync::atomic::{AtomicU8, Ordering::Relaxed};
+use std::cell::Cell;
 
-/// What Shorten is compared with: document 01 stops `run` after `thread`.
-pub const CALLS: &[&str] = &["thread"];
+/// What Shorten is compared with: `thread` by document 01, `slice_tests` by document 02, 2.1.
+pub const CALLS: &[&str] = &["thread", "slice_tests"];
 
 /// All of them, in their order.
 pub const ALL: [&str; 4] = ["thread", "slice_tests", "dead_defs", "coalesce"];
 
-static ON: AtomicU8 = AtomicU8::new(bits(CALLS));
+thread_local! {
+    static ON: Cell<u8> = const { Cell::new(bits(CALLS)) };
+}
 
 const fn same(a: &str, b: &str) -> bool {
     let (a, b) = (a.as_bytes(), b.as_bytes());
@@ -38,19 +40,27 @@ const fn bits(calls: &[&str]) -> u8 {
     all
 }
 
-/// Has these calls carried out from now on, and no others.
+/// Has this thread carry out these calls from now on, and no others.
 pub fn set(calls: &[&str]) {
-    ON.store(bits(calls), Relaxed);
+    ON.set(bits(calls));
+}
+
+/// What is asked with these calls carried out, and no others.
+pub fn with<T>(calls: &[&str], asked: impl FnOnce() -> T) -> T {
+    let before = ON.replace(bits(calls));
+    let told = asked();
+    ON.set(before);
+    told
 }
 
 pub fn slice_tests() -> bool {
-    ON.load(Relaxed) & const { bit("slice_tests") } != 0
+    ON.get() & const { bit("slice_tests") } != 0
 }
 
 pub fn dead_defs() -> bool {
-    ON.load(Relaxed) & const { bit("dead_defs") } != 0
+    ON.get() & const { bit("dead_defs") } != 0
 }
 
 pub fn coalesce() -> bool {
-    ON.load(Relaxed) & const { bit("coalesce") } != 0
+    ON.get() & const { bit("coalesce") } != 0
 }

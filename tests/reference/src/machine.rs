@@ -1,6 +1,7 @@
 //! Document 01's machine, and demand 3 tried on two runs.
 
 use crate::generate::Rng;
+use crate::measured::{Measured, length};
 use crate::procedure::Procedure;
 use crate::record::{Place, Record, kind, places};
 
@@ -35,29 +36,55 @@ pub struct Seeded {
     pub seed: u64,
     /// Ends the run on one act in this many.
     pub patience: u64,
+    /// Answers a BoundsLen or DopeLen with the length of its bounds.
+    pub exact: bool,
+    /// Words are seldom small.
+    pub extreme: bool,
     /// A digest of the acts so far.
     history: u64,
 }
 
 impl Seeded {
     pub fn new(seed: u64, patience: u64) -> Seeded {
-        Seeded { seed, patience, history: 0 }
+        Seeded { seed, patience, exact: false, extreme: false, history: 0 }
+    }
+
+    fn word(&self, g: &mut Rng) -> u64 {
+        if self.extreme && g.chance(60) { extreme(g) } else { word(g) }
     }
 }
 
 impl Outside for Seeded {
-    fn answer(&mut self, _: &[Act], act: &Act, written: usize) -> Option<Vec<u64>> {
+    fn answer(&mut self, earlier: &[Act], act: &Act, written: usize) -> Option<Vec<u64>> {
         self.history = digest(self.history, act);
         let mut g = Rng::new(self.seed ^ self.history);
         if g.draw().is_multiple_of(self.patience) {
             return None;
         }
-        Some((0..written).map(|_| word(&mut g)).collect())
+        let measured = if self.exact { exact_length(earlier, act) } else { None };
+        Some((0..written).map(|_| measured.unwrap_or_else(|| self.word(&mut g))).collect())
     }
 
     fn address(&self, space: u8, number: u32, off: u32) -> u64 {
         Rng::new(u64::from(space) << 40 ^ u64::from(off) << 32 ^ u64::from(number)).draw()
     }
+}
+
+/// The length that an act asks for, where its bounds are those of the act or of the last MakeDope at that address.
+fn exact_length(earlier: &[Act], act: &Act) -> Option<u64> {
+    let made = |a: &&Act| a.kind == kind::MAKE_DOPE && a.read.len() == 4 && a.read[0] == act.read[0];
+    let bounds = match act.kind {
+        kind::BOUNDS_LEN => &act.read[..],
+        kind::DOPE_LEN if act.plain == [0] => &earlier.iter().rev().find(made)?.read[1..],
+        _ => return None,
+    };
+    (bounds[2] < 2).then(|| length(bounds[0], bounds[1], bounds[2] == 1) as u64)
+}
+
+/// A word near the ends of what a signed or unsigned one can be.
+fn extreme(g: &mut Rng) -> u64 {
+    let end = g.pick(&[0, 1 << 63, 1 << 62, 1 << 32]);
+    if g.chance(50) { end + g.below(3) as u64 } else { end.wrapping_sub(g.below(3) as u64) }
 }
 
 /// A word, often a small one.
@@ -79,6 +106,11 @@ pub struct Run<'a, O> {
 impl<'a, O: Outside> Run<'a, O> {
     pub fn new(f: &'a Procedure, outside: O, registers: Vec<u64>) -> Run<'a, O> {
         Run { f, outside, registers, block: 0, place: 0, acts: Vec::new(), entries: 1, end: None }
+    }
+
+    /// The block, and the place in it.
+    pub fn stands(&self) -> (usize, usize) {
+        (self.block, self.place)
     }
 
     /// The instructions of its block that are left.
@@ -191,6 +223,7 @@ pub fn loaded(original: &Procedure, outside: &impl Outside, words: Vec<u64>) -> 
 }
 
 /// What a pair of runs met.
+#[derive(Default)]
 pub struct Met {
     /// How the original ended within its instructions, if it did.
     pub end: Option<End>,
@@ -198,44 +231,97 @@ pub struct Met {
     pub entries: usize,
     /// An act of the shortened run came with the last instruction that the bound allows.
     pub at_bound: bool,
+    /// Rewritten Cmps that were carried out, of an empty range and of another.
+    pub tested: [usize; 2],
+    /// Nothing more was claimed before a rewritten Cmp: its length wasn't exact, or was exact and not below 2^63.
+    pub wrong: bool,
+    pub too_long: bool,
+}
+
+/// A shortened form, with the counts and conditions of the claim about its run.
+pub struct Claim<'a> {
+    pub shortened: &'a Procedure,
+    pub rescued: u32,
+    pub measured: &'a Measured,
+}
+
+/// The shortened run, up to where a condition fails.
+struct Watched<'a> {
+    run: Run<'a, Seeded>,
+    measured: &'a Measured,
+    used: usize,
+    /// When the last act came.
+    last_act: usize,
+    met: Met,
+}
+
+impl Watched<'_> {
+    /// Goes on to `bound` instructions. Is it there, so that the claim about so many holds?
+    fn reaches(&mut self, bound: usize) -> bool {
+        while self.used < bound && self.run.end.is_none() {
+            if let Some(test) = self.measured.test_at(self.run.stands()) {
+                let [exact, fits] = test.holds(&self.run.registers);
+                self.met.wrong |= !exact;
+                self.met.too_long |= exact && !fits;
+                if !exact || !fits {
+                    return false;
+                }
+                self.met.tested[usize::from(self.run.registers[test.length as usize] != 0)] += 1;
+            }
+            let acts = self.run.acts.len();
+            self.run.step();
+            self.used += 1;
+            if self.run.acts.len() > acts {
+                self.last_act = self.used;
+            }
+        }
+        true
+    }
 }
 
 /// Demand 3 for one start and one outside, up to `n` instructions of the original: within `n`
 /// plus the rescued constants for each of its entries into block 0 the shortened run has done
-/// the same acts and ended alike; and it does nothing else.
-pub fn demand_3(original: &Procedure, shortened: &Procedure, rescued: u32, seed: u64, n: usize) -> Result<Met, String> {
+/// the same acts and ended alike; and it does nothing else. Once a condition has failed, only
+/// that what was done until then is what the original does.
+pub fn demand_3(original: &Procedure, claim: &Claim, seed: u64, n: usize) -> Result<Met, String> {
     let mut g = Rng::new(seed);
     let outside = Seeded::new(g.draw(), g.pick(&[8, 40, 1000]));
-    let words = original.registers.iter().map(|_| word(&mut g)).collect();
-    let words = loaded(original, &outside, words);
+    let outside = Seeded { exact: g.below(8) < 6, extreme: g.chance(25), ..outside };
+    let words = original.registers.iter().map(|_| outside.word(&mut g)).collect();
+    let mut words = loaded(original, &outside, words);
+    for &r in &claim.measured.zeros {
+        words[r as usize] = 0;
+    }
     let mut longer = words.clone();
-    longer.resize_with(shortened.registers.len(), || word(&mut g));
+    longer.resize_with(claim.shortened.registers.len(), || outside.word(&mut g));
     let mut sent = Run::new(original, outside, words);
-    let mut short = Run::new(shortened, outside, longer);
-    let (mut used, mut compared, mut last_act, mut at_bound) = (0, 0, 0, false);
+    let run = Run::new(claim.shortened, outside, longer);
+    let mut short = Watched { run, measured: claim.measured, used: 0, last_act: 0, met: Met::default() };
+    let (mut compared, mut at_bound) = (0, false);
     for done in 0..=n {
-        let bound = done + rescued as usize * sent.entries;
-        while used < bound && short.end.is_none() {
-            let acts = short.acts.len();
-            short.step();
-            used += 1;
-            if short.acts.len() > acts {
-                last_act = used;
-            }
+        let bound = done + claim.rescued as usize * sent.entries;
+        if !short.reaches(bound) {
+            break;
         }
-        if !short.acts[compared.min(short.acts.len())..].starts_with(&sent.acts[compared..]) {
+        if !short.run.acts[compared.min(short.run.acts.len())..].starts_with(&sent.acts[compared..]) {
             return Err(format!("after {done} instructions the acts aren't a first part"));
         }
-        at_bound |= compared < sent.acts.len() && short.acts.len() == sent.acts.len() && last_act == bound;
+        let level = short.run.acts.len() == sent.acts.len();
+        at_bound |= compared < sent.acts.len() && level && short.last_act == bound;
         compared = sent.acts.len();
-        if sent.end.is_some() && (short.end != sent.end || short.acts.len() != sent.acts.len()) {
+        if sent.end.is_some() && (short.run.end != sent.end || !level) {
             return Err(format!("after {done} instructions the ends differ"));
         }
         sent.step();
     }
-    let met = Met { end: sent.end, acts: sent.acts.len(), entries: sent.entries, at_bound };
+    let met = Met { end: sent.end, acts: sent.acts.len(), entries: sent.entries, at_bound, ..short.met };
+    only_the_same(sent, short.run, 64 * n).map(|()| met)
+}
+
+/// The second half of demand 3: what the shortened run has done is what the original does within so many more instructions.
+fn only_the_same(mut sent: Run<Seeded>, short: Run<Seeded>, more: usize) -> Result<(), String> {
     let behind = |sent: &Run<Seeded>| sent.acts.len() < short.acts.len() || short.end.is_some() && sent.end.is_none();
-    for _ in 0..64 * n {
+    for _ in 0..more {
         if !behind(&sent) {
             break;
         }
@@ -247,5 +333,5 @@ pub fn demand_3(original: &Procedure, shortened: &Procedure, rescued: u32, seed:
     if short.end.is_some() && (sent.end != short.end || sent.acts != short.acts) {
         return Err("the shortened run ends by itself".into());
     }
-    Ok(met)
+    Ok(())
 }

@@ -17,9 +17,11 @@ pub enum Sort {
     Straight,
     /// Drawn at random, rich in branches.
     Drawn,
+    /// Loops that don't copy, with lengths and their tests, of which all are rewritten.
+    Lengths,
 }
 
-pub const SORTS: [Sort; 4] = [Sort::Copies, Sort::Loops, Sort::Straight, Sort::Drawn];
+pub const SORTS: [Sort; 5] = [Sort::Copies, Sort::Loops, Sort::Straight, Sort::Drawn, Sort::Lengths];
 
 /// Files of exactly so many instructions: 16 drawn ones, or one of another sort.
 pub fn files(sort: Sort, n: usize) -> Vec<Vec<u8>> {
@@ -30,6 +32,7 @@ pub fn files(sort: Sort, n: usize) -> Vec<Vec<u8>> {
 pub fn more_files(sort: Sort, n: usize, drawn_ones: u64) -> Vec<Vec<u8>> {
     match sort {
         Sort::Drawn => (0..drawn_ones).map(|seed| drawn(n, seed).bytes()).collect(),
+        Sort::Lengths => vec![lengths(n).bytes()],
         _ => vec![groups(sort, n).bytes()],
     }
 }
@@ -68,6 +71,39 @@ fn groups(sort: Sort, n: usize) -> Draft {
     d.with_statements(100)
 }
 
+/// Groups of ten instructions in two blocks, a loop: one tests the length of a BoundsLen, the other that of a DopeLen. Then a
+/// Ret. r0 is the constant 0, r1 the constant 1.
+fn lengths(n: usize) -> Draft {
+    let operands = vec![2, 3, 0, 2, 3, 1];
+    let mut d = Draft { registers: vec![0, 0, 0, 0, 2], operands, ..Draft::default() };
+    for k in 0..(n / 10) as u32 {
+        let [first, second, next] = [2 * k, 2 * k + 1, 2 * k + 2];
+        let [length, test] = [0, 1].map(|j| d.registers.len() as u32 + j);
+        d.registers.extend([0, 0]);
+        let load = ins(kind::LOAD, 2, &[2, 4]);
+        let before = if k < 2 { constant(k, i64::from(k)) } else { load };
+        let direction = k % 2;
+        let op = [0, 1, 3, 4][k as usize % 4];
+        d.blocks.push(vec![
+            stmt(),
+            before,
+            ins(kind::BOUNDS_LEN, 0, &[length, 2, 3, direction]),
+            cmp(op, test, length, 0),
+            cond_br(test, second, next),
+        ]);
+        d.blocks.push(vec![
+            load,
+            ins(kind::MAKE_DOPE, 0, &[4, 3 * direction, 3]),
+            ins(kind::DOPE_LEN, 0, &[length, 4, 0]),
+            cmp(op, test, length, 0),
+            cond_br(test, first, next),
+        ]);
+    }
+    d.blocks[0].remove(0);
+    d.blocks.push(vec![ret()]);
+    d.with_statements(100)
+}
+
 #[cfg(test)]
 mod tests {
     use super::*;
@@ -84,13 +120,24 @@ mod tests {
         }
     }
 
+    /// Two in each ten instructions.
+    #[test]
+    fn tests_of_lengths_are_rewritten() {
+        let Some(shorten) = crate::reference() else { return };
+        for n in SIZES {
+            let bytes = &files(Sort::Lengths, n)[0];
+            let [before, after] = [bytes, &shorten(bytes, usize::MAX).output].map(|b| Procedure::from_bytes(b).code);
+            assert_eq!(before.iter().zip(&after).filter(|(i, j)| i != j).count(), n / 5, "{n}");
+        }
+    }
+
     #[test]
     fn only_files_that_copy_grow() {
         let Some(shorten) = crate::reference() else { return };
         for n in SIZES {
             let grown = |sort: Sort| shorten(&files(sort, n)[0], usize::MAX).grown as usize;
             assert!(100 * grown(Sort::Copies) >= 55 * n, "{n}");
-            assert_eq!([grown(Sort::Loops), grown(Sort::Straight)], [0, 0], "{n}");
+            assert_eq!([grown(Sort::Loops), grown(Sort::Straight), grown(Sort::Lengths)], [0; 3], "{n}");
         }
     }
 }

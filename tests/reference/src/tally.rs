@@ -1,6 +1,6 @@
 //! What a comparison reached.
 
-use crate::probe::EVENTS;
+use crate::probe::{EVENTS, LENGTHS};
 use crate::procedure::Procedure;
 use crate::record::{RECORD, kind};
 use crate::{Answer, read};
@@ -24,6 +24,7 @@ pub struct Tally {
     longest_code: usize,
     longest: usize,
     events: [u64; EVENTS.len()],
+    lengths: [u64; LENGTHS.len()],
 }
 
 /// The last but one is what every file is asked for with.
@@ -131,8 +132,9 @@ impl Tally {
         self.calls
     }
 
-    pub fn events(&mut self, seen: [u64; EVENTS.len()]) {
+    pub fn events(&mut self, seen: [u64; EVENTS.len()], of_lengths: [u64; LENGTHS.len()]) {
         self.events.iter_mut().zip(seen).for_each(|(count, n)| *count += n);
+        self.lengths.iter_mut().zip(of_lengths).for_each(|(count, n)| *count += n);
     }
 
     pub fn add(&mut self, other: &Tally) {
@@ -142,6 +144,7 @@ impl Tally {
         sum(&mut self.limits, &other.limits);
         sum(&mut self.chains, &other.chains);
         sum(&mut self.events, &other.events);
+        sum(&mut self.lengths, &other.lengths);
         self.calls += other.calls;
         self.moved += other.moved;
         self.grown += other.grown;
@@ -165,6 +168,7 @@ impl Tally {
             .chain(named(&LIMITS, &self.limits))
             .chain(named(&CHAINS, &self.chains))
             .chain(named(&EVENTS, &self.events))
+            .chain(named(&LENGTHS, &self.lengths))
     }
 
     /// What no file reached.
@@ -190,6 +194,7 @@ impl Tally {
         println!("  files with {}", list(&LIMITS, &self.limits));
         println!("  accepted files with {}", list(&CHAINS, &self.chains));
         println!("  blocks in threading: {}", list(&EVENTS, &self.events));
+        println!("  Cmps in slice_tests, and what it noted: {}", list(&LENGTHS, &self.lengths));
     }
 }
 
@@ -220,7 +225,7 @@ mod tests {
     #[test]
     fn what_is_not_reached_is_missing() {
         let mut tally = Tally::default();
-        let all = 10 + 4 + ROOMS.len() + LIMITS.len() + CHAINS.len() + EVENTS.len() + 1;
+        let all = 10 + 4 + ROOMS.len() + LIMITS.len() + CHAINS.len() + EVENTS.len() + LENGTHS.len() + 1;
         assert_eq!(tally.missing().len(), all);
         tally.note(&[], &Answer::refused(3, 0));
         tally.asked(&Answer { output: vec![0; 64], ..Answer::default() }, 0);

@@ -4,13 +4,13 @@ use mathlib.Core.Path.{refl}
 use Rattle.std.proofs.lemmas.Result.{err_from_is_err_and}
 use Rattle.read.proofs.Reasons.{no_zero}
 use Rattle.put_record.specs.Store.{Bytes}
-use Rattle.bench_c.proofs.Forms.{sent_refused, sent-put}
+use Rattle.bench_c.proofs.Forms.{read_refused, sent-put}
 use Rattle.bench_c.proofs.sent.Goals as goal
 
 pub returns-in_err-read : goal.returns-in_err-read
 returns-in_err-read c =
     let q = err_from_is_err_and c.from_residual.result c.from_residual.ensures.1 in
-    rw (q.1, q.2) (sent_refused c.args.bytes.now c.args.out.now c.in_err-read.ensures (no_zero _))
+    rw (q.1, q.2) (read_refused c.args.bytes.now c.args.out.now _ c.in_err-read.ensures (no_zero _))
 
 pub returns : goal.returns
 returns c =

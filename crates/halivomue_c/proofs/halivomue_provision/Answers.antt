@@ -1,12 +1,15 @@
 use Rattle.std.proofs.Common.{◌≡◌, refl, sym, ap, ◌∙◌, arith, Option, Some, None, Result, Ok, Err}
-use Rattle.std.specs.Prelude.{◌+◌, ◌/◌, ◌≤◌, take}
+use Rattle.std.specs.Prelude.{◌+◌, ◌/◌, ◌≤◌, false, take}
 use Rattle.inst.specs.declared.Reg.{Reg}
 use Rattle.read.specs.declared.Refusal.{Refusal}
 use Rattle.tidy.specs.Told.{tidiness_of}
 use Rattle.read.specs.Reading.{reading, answer}
 use Rattle.tidy.specs.Tidy.{Tidiness, Tidy}
 use Rattle.steps.specs.Shorten.{Outcome, instructions}
+use Rattle.steps.specs.Slice.{some_test}
+use Rattle.steps.specs.Run.{sliced_form}
 use Rattle.machine.specs.Demand.{Demand3}
+use Rattle.demand.specs.Lengths.{Demand3Where}
 use Rattle.promise.specs.Promise.{held}
 use Rattle.halivomue_c.proofs.Answered.{on_success, unmoved, never_nine}
 use Rattle.halivomue_c.proofs.halivomue_provision.Goals as goal
@@ -44,8 +47,12 @@ returns c =
       bound = λ z. rw m.length (on_success r (λ a. instructions (take a.length out) ≤ instructions b + instructions b / 2 + 36) s.bound (sym m.number ∙ z));
       demand3 = λ z.
           rw (m.length, m.rescued)
-          (on_success r (λ a. Tidy (held b) → Demand3 (held b) (held (take a.length out)) a.rescued) s.demand3 (sym m.number ∙ z));
+          (on_success r (λ a. Tidy (held b) → Demand3Where (held b) (sliced_form (held b)) (held (take a.length out)) a.rescued) s.demand3 (sym m.number ∙ z));
+      unsliced = λ z.
+          rw (m.length, m.rescued)
+          (on_success r (λ a. Tidy (held b) → some_test (sliced_form (held b)).tests ≡ false → Demand3 (held b) (held (take a.length out)) a.rescued) s.unsliced
+          (sym m.number ∙ z));
       promised = λ z x.
           rw (m.length, m.rescued)
-          (on_success r (λ a. t ≡ Ok None → Demand3 (held b) (held (take a.length out)) a.rescued) s.promised (sym m.number ∙ z) (yes_none t (sym y.tidy ∙ x)));
+          (on_success r (λ a. t ≡ Ok None → Demand3Where (held b) (sliced_form (held b)) (held (take a.length out)) a.rescued) s.promised (sym m.number ∙ z) (yes_none t (sym y.tidy ∙ x)));
     }

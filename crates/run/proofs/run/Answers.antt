@@ -1,8 +1,5 @@
-use mathlib.Core.Path.{◌≡◌, sym, ap, ◌∙◌}
-use Rattle.std.proofs.Common.{List, Bool, true, length, ◌/◌}
+use Rattle.std.proofs.Common.{length}
 use Rattle.pause.specs.Storage.{body_in}
-use Rattle.equal_arms.specs.Joined.{Joined}
-use Rattle.run.specs.Ran.{opens_in}
 use Rattle.run.proofs.Steps.{shut, opened, few, enough, not-joined}
 use Rattle.run.proofs.run.Goals as goal
 

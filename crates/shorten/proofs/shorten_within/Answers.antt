@@ -17,4 +17,5 @@ returns c =
       unmoved = e.unmoved;
       bound = e.bound;
       demand3 = e.demand3;
+      unsliced = e.unsliced;
     }

@@ -175,7 +175,7 @@ fn table(library: Library) {
         worst[2] = worst[2].max(library_grows);
     }
     println!(
-        "A ratio is above 1 where the library is the faster. Its steps are `run` and, where a block was edited, emit with the writing of its result."
+        "A ratio is above 1 where the library is the faster. Its steps are `run`, emit where a block was edited, slice_tests where the gate is open, and the writing of the result where something was edited."
     );
     let [bytes, steps, grows] = worst;
     let steps = if steps.is_finite() { format!("{steps:.2}") } else { "not told".into() };

@@ -1,8 +1,9 @@
-//! The library's steps alone: `halivomue_run`, `halivomue_emit` and `halivomue_put` of the shared object that HALIVOMUE_STEPS
-//! names, made of the crate `bench_c`. What they need is opened here, outside of what is timed.
+//! The library's steps alone: `halivomue_run`, `halivomue_emit`, `halivomue_slice` and `halivomue_put` of the shared object
+//! that HALIVOMUE_STEPS names, made of the crate `bench_c`. What they need is opened here, outside of what is timed.
 
 use halivomue_reference::library::symbol;
-use halivomue_reference::record::RECORD;
+use halivomue_reference::procedure::Procedure;
+use halivomue_reference::record::{RECORD, kind};
 use std::ffi::c_void;
 use std::mem::transmute;
 use std::ptr::copy_nonoverlapping;
@@ -79,10 +80,13 @@ type Put = unsafe extern "C" fn(
     u32,
 ) -> usize;
 
+type SliceTests = unsafe extern "C" fn(*mut u8, usize, Bytes, usize, Bytes, usize, usize) -> bool;
+
 #[derive(Clone, Copy)]
 pub struct Steps {
     run: Run,
     emit: Emit,
+    slice: SliceTests,
     put: Put,
     out: Slice<u8>,
 }
@@ -95,8 +99,9 @@ impl Steps {
         // They have the signatures of crates/bench_c, a slice being a pointer and a length.
         let run = unsafe { transmute::<*mut c_void, Run>(found(c"halivomue_run")) };
         let emit = unsafe { transmute::<*mut c_void, Emit>(found(c"halivomue_emit")) };
+        let slice = unsafe { transmute::<*mut c_void, SliceTests>(found(c"halivomue_slice")) };
         let put = unsafe { transmute::<*mut c_void, Put>(found(c"halivomue_put")) };
-        Some(Steps { run, emit, put, out: Slice::zeroed(65_536) })
+        Some(Steps { run, emit, slice, put, out: Slice::zeroed(65_536) })
     }
 }
 
@@ -112,6 +117,11 @@ impl<T: Clone + Default> Slice<T> {
     fn zeroed(len: usize) -> Slice<T> {
         let storage = Box::leak(vec![T::default(); len].into_boxed_slice());
         Slice { at: storage.as_mut_ptr(), len }
+    }
+
+    fn part(&self) -> &[T] {
+        // It points to so many.
+        unsafe { std::slice::from_raw_parts(self.at, self.len) }
     }
 
     /// Bytes of a file, which no function changes.
@@ -138,6 +148,8 @@ pub struct Opened {
     facts: Slice<u64>,
     staged: Slice<u8>,
     heads: Slice<u8>,
+    /// Some Br or CondBr goes back, and there are six instructions.
+    looped: bool,
 }
 
 impl Opened {
@@ -161,6 +173,7 @@ impl Opened {
             facts: Slice::zeroed(5 * (parts[0].len / RECORD)),
             staged: Slice::zeroed((n + n / 2 + 36) * RECORD),
             heads: Slice::zeroed(parts[1].len),
+            looped: n >= 6 && goes_back(&Procedure::from_bytes(bytes)),
         }
     }
 
@@ -174,9 +187,9 @@ impl Opened {
         }
     }
 
-    /// The steps, once it is opened; how many bytes of emit's result were written, if threading edited some block.
+    /// The steps, once it is opened; how many bytes of the result were written, if a block was edited or a test rewritten.
     pub fn steps(&self, steps: Steps) -> Option<usize> {
-        let Opened { parts, work, table, kinds, known, copy, facts, staged, heads } = self;
+        let Opened { parts, work, table, kinds, known, copy, facts, staged, heads, looped } = self;
         let [registers, _, body, code, operands, arms] = parts;
         // The functions stay within these slices.
         unsafe {
@@ -186,16 +199,38 @@ impl Opened {
                 code.len / RECORD
             );
             let kinds = Slice { len: ran.fresh, ..*kinds };
-            ran.edited.then(|| {
+            let (form, heads, rescued) = if ran.edited {
                 let emitted = call!(steps.emit, (staged, heads, work, table, arms, facts));
-                let code = Slice { len: emitted.n * RECORD, ..*staged };
+                (Slice { len: emitted.n * RECORD, ..*staged }, *heads, emitted.rescued)
+            } else {
+                (Slice { len: code.len, ..*work }, *table, 0)
+            };
+            let count = registers.len / RECORD + ran.fresh;
+            let sliced = *looped && has_lengths(form.part()) && call!(steps.slice, (form, heads, operands), count);
+            (ran.edited || sliced).then(|| {
                 call!(
                     steps.put,
-                    (steps.out, registers, kinds, heads, body, code, operands, arms),
+                    (steps.out, registers, kinds, heads, body, form, operands, arms),
                     ran.grown as u32,
-                    emitted.rescued
+                    rescued
                 )
             })
         }
     }
+}
+
+/// Does some Br or CondBr go to its own block or an earlier one? (No file here has equal arms.)
+fn goes_back(p: &Procedure) -> bool {
+    (0..p.blocks.len()).any(|b| match p.block(b).last() {
+        Some(i) if i.kind == kind::BR => i.p[0] as usize <= b,
+        Some(i) if i.kind == kind::COND_BR => i.p[1].min(i.p[2]) as usize <= b,
+        _ => false,
+    })
+}
+
+/// The gate's look at the kinds, as the library takes it.
+fn has_lengths(code: &[u8]) -> bool {
+    let kinds = || code.iter().skip(1).step_by(RECORD).copied();
+    kinds().any(|k| k == kind::MAKE_DOPE || k == kind::BOUNDS_LEN)
+        && kinds().any(|k| k == kind::DOPE_LEN || k == kind::BOUNDS_LEN)
 }

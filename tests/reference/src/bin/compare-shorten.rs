@@ -25,14 +25,17 @@ const PROVISIONED: u64 = 10;
 const GUARD: usize = 64;
 
 /// Of 1000 files, how many of each family.
-const SHARES: [(&str, usize); 12] = [
-    ("small", 280),
-    ("chains", 140),
-    ("process", 140),
-    ("kinds", 100),
-    ("known", 80),
-    ("tidy", 60),
-    ("damaged", 90),
+const SHARES: [(&str, usize); 15] = [
+    ("small", 250),
+    ("chains", 110),
+    ("process", 110),
+    ("kinds", 80),
+    ("known", 70),
+    ("tidy", 50),
+    ("damaged", 70),
+    ("lengths", 60),
+    ("lengths-split", 60),
+    ("tidy-lengths", 30),
     ("of steps", 60),
     ("of records", 30),
     ("budget", 8),
@@ -131,7 +134,7 @@ fn compared(library: Library, shorten: Shorten, seeds: impl Iterator<Item = u64>
             }
         }
     }
-    found.tally.events(probe::events());
+    found.tally.events(probe::events(), probe::lengths());
     found
 }
 

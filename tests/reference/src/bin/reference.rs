@@ -3,6 +3,7 @@
 use halivomue_reference::answers::{self, Stored};
 use halivomue_reference::generate::{self, FAMILIES};
 use halivomue_reference::listing::listing;
+use halivomue_reference::measured::Measured;
 use halivomue_reference::procedure::Procedure;
 use halivomue_reference::stream::{Request, read_request, write_reply, write_request};
 use halivomue_reference::{Answer, Shorten, cases, level, machine, read, reference, self_test, tidy};
@@ -131,7 +132,11 @@ fn demand_3(from: u64, n: u64) -> io::Result<()> {
     let shorten = shorten();
     let (mut runs, mut moved) = (0, 0);
     for seed in from..from + n {
-        let family = if seed % 50 == 0 { "tidy-large" } else { "tidy" };
+        let family = match seed % 50 {
+            0 => "tidy-large",
+            1..10 => "tidy-lengths",
+            _ => "tidy",
+        };
         let bytes = generate::file(family, seed);
         let sent = Procedure::from_bytes(&bytes);
         let a = shorten(&bytes, ROOM);
@@ -140,8 +145,11 @@ fn demand_3(from: u64, n: u64) -> io::Result<()> {
         }
         moved += a.moved;
         let short = Procedure::from_bytes(&a.output);
+        let threaded = Procedure::from_bytes(&level::with(&["thread"], || shorten(&bytes, ROOM)).output);
+        let measured = Measured::between(&threaded, &short);
+        let claim = machine::Claim { shortened: &short, rescued: a.rescued, measured: &measured };
         for run in 0..3 {
-            if let Err(why) = machine::demand_3(&sent, &short, a.rescued, seed * 3 + run, 120) {
+            if let Err(why) = machine::demand_3(&sent, &claim, seed * 3 + run, 120) {
                 fail(&format!("demand 3 fails on {family} {seed}, run {run}: {why}"));
             }
             runs += 1;
@@ -152,7 +160,7 @@ fn demand_3(from: u64, n: u64) -> io::Result<()> {
 }
 
 /// Seeds of each family in the pool.
-const POOL: [(&str, u64); 10] = [
+const POOL: [(&str, u64); 13] = [
     ("small", 3000),
     ("chains", 2000),
     ("process", 2000),
@@ -163,6 +171,9 @@ const POOL: [(&str, u64); 10] = [
     ("tidy-large", 10),
     ("budget", 60),
     ("damaged", 1500),
+    ("lengths", 1500),
+    ("lengths-split", 1500),
+    ("tidy-lengths", 500),
 ];
 
 fn pool(requests: &str, names: &str) -> io::Result<()> {

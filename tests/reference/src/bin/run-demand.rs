@@ -1,17 +1,20 @@
 //! Demand 3 by running: tidy files, shortened by a library, both forms on document 01's machine.
 //! Usage: run-demand [files] [first seed] [--form NAME]
-//! HALIVOMUE_LIBRARY names the shared object. With --form that form of a file (sent, threaded) is run beside it instead of
-//! what the library writes; HALIVOMUE_STEPS names the shared object of the crate `bench_c`. The papers aren't needed. From
-//! ten thousand files on it fails where something of the tally was not reached.
+//! HALIVOMUE_LIBRARY names the shared object. With --form that form of a file (sent, threaded, sliced) is run beside it
+//! instead of what the library writes; HALIVOMUE_STEPS names the shared object of the crate `bench_c`. Where a test of a
+//! length was rewritten, the claim goes as far as the lengths are right; what was rewritten is seen beside the threaded form,
+//! which is that of HALIVOMUE_STEPS, or without it that of the published Rust. From ten thousand files on it fails where
+//! something of the tally was not reached.
 
 use halivomue_reference::answers::packed;
 use halivomue_reference::cores::on_all_cores;
-use halivomue_reference::forms::Form;
+use halivomue_reference::forms;
 use halivomue_reference::library::{Library, Shortening};
-use halivomue_reference::machine::{End, Met, demand_3};
+use halivomue_reference::machine::{Claim, End, Met, demand_3};
+use halivomue_reference::measured::Measured;
 use halivomue_reference::procedure::Procedure;
 use halivomue_reference::reduce::{reduced, told};
-use halivomue_reference::{generate, read, tidy};
+use halivomue_reference::{Shorten, generate, level, read, reference, tidy};
 use std::process::ExitCode;
 
 /// More than any result needs.
@@ -25,22 +28,69 @@ const LENGTH: usize = 120;
 const ENOUGH: u64 = 10_000;
 
 /// Of 100 files, how many of each family.
-const SHARES: [(&str, u64); 6] =
-    [("tidy", 58), ("tidy-chains", 15), ("tidy-process", 15), ("tidy-known", 9), ("tidy-large", 2), ("tidy-budget", 1)];
+const SHARES: [(&str, u64); 7] = [
+    ("tidy", 48),
+    ("tidy-chains", 13),
+    ("tidy-process", 13),
+    ("tidy-known", 8),
+    ("tidy-large", 2),
+    ("tidy-budget", 1),
+    ("tidy-lengths", 15),
+];
 
-/// Where the form that is run beside a file comes from.
+/// Where a form of a file comes from.
 #[derive(Clone, Copy)]
-enum Source {
+enum Form {
     Shorten(Library),
-    Form(Form),
+    Named(forms::Form),
+    /// The threaded form of the published Rust.
+    Rust(Shorten),
+}
+
+impl Form {
+    fn write(self, bytes: &[u8], out: &mut [u8]) -> Shortening {
+        match self {
+            Form::Shorten(library) => library.shorten(bytes, out),
+            Form::Named(form) => form.of(bytes, out),
+            Form::Rust(shorten) => {
+                let answer = level::with(&["thread"], || shorten(bytes, out.len()));
+                out[..answer.output.len()].copy_from_slice(&answer.output);
+                Shortening::from(&answer)
+            }
+        }
+    }
+
+    fn of(self, bytes: &[u8]) -> Result<(Shortening, Procedure), String> {
+        let mut out = [0; ROOM];
+        let told = self.write(bytes, &mut out);
+        if told.number != 0 {
+            return Ok((told, Procedure::default()));
+        }
+        let written = out.get(..told.length).ok_or("a length past the room")?;
+        read::read(written).map_err(|(number, record)| format!("what was written is refused: {number} {record}"))?;
+        Ok((told, Procedure::from_bytes(written)))
+    }
+}
+
+/// The form that is run beside a file, and the one that shows which Cmps were rewritten in it.
+#[derive(Clone, Copy)]
+struct Source {
+    form: Form,
+    threaded: Form,
 }
 
 impl Source {
-    fn write(self, bytes: &[u8], out: &mut [u8]) -> Shortening {
-        match self {
-            Source::Shorten(library) => library.shorten(bytes, out),
-            Source::Form(form) => form.of(bytes, out),
-        }
+    fn from_environment(name: Option<&String>) -> Result<Source, String> {
+        let form = match name {
+            Some(name) => Form::Named(forms::Form::from_environment(name)?),
+            None => Form::Shorten(Library::from_environment()?),
+        };
+        let threaded = match (forms::Form::from_environment("threaded"), reference()) {
+            (Ok(form), _) => Form::Named(form),
+            (Err(_), Some(shorten)) => Form::Rust(shorten),
+            (Err(why), None) => return Err(format!("{why}; nor was the published Rust found when this was built")),
+        };
+        Ok(Source { form, threaded })
     }
 }
 
@@ -55,7 +105,7 @@ fn file(seed: u64) -> Vec<u8> {
 }
 
 const FILES: [&str; 5] = ["above the limits (not run)", "moved", "grown", "fresh", "rescued"];
-const PAIRS: [&str; 8] = [
+const PAIRS: [&str; 13] = [
     "ended by Ret",
     "by Unreachable",
     "by the outside",
@@ -64,7 +114,14 @@ const PAIRS: [&str; 8] = [
     "into block 0 again",
     "and with rescued constants",
     "an act with the last instruction of the bound",
+    "with a rewritten Cmp",
+    "of an empty range",
+    "of another range",
+    "up to a wrong length",
+    "up to one of 2^63 or more",
 ];
+/// So many of these don't speak of lengths.
+const OTHERS: usize = 8;
 
 /// What one thread found.
 #[derive(Default)]
@@ -87,6 +144,11 @@ impl Found {
             again,
             again && rescued > 0,
             met.at_bound,
+            met.tested != [0; 2],
+            met.tested[0] > 0,
+            met.tested[1] > 0,
+            met.wrong,
+            met.too_long,
         ];
         seen.iter().zip(&mut self.pairs).for_each(|(&seen, count)| *count += u64::from(seen));
     }
@@ -110,22 +172,20 @@ impl Found {
 
 /// A tidy file and its form, and so many pairs of runs.
 fn tried(source: Source, bytes: &[u8], seed: u64, runs: u64, found: &mut Found) -> Result<(), String> {
-    let mut out = [0; ROOM];
-    let told = source.write(bytes, &mut out);
+    let (told, short) = source.form.of(bytes)?;
     match told.number {
         0 => {}
         8 => return Ok(found.files[0] += 1),
         n => return Err(format!("refused with {n}")),
     }
-    let written = out.get(..told.length).ok_or("a length past the room")?;
-    read::read(written).map_err(|(number, record)| format!("what was written is refused: {number} {record}"))?;
-    let (sent, short) = (Procedure::from_bytes(bytes), Procedure::from_bytes(written));
+    let sent = Procedure::from_bytes(bytes);
+    let measured = Measured::between(&source.threaded.of(bytes)?.1, &short);
+    let claim = Claim { shortened: &short, rescued: told.rescued, measured: &measured };
     for (k, count) in [told.moved, told.grown, told.fresh, told.rescued].into_iter().enumerate() {
         found.files[1 + k] += u64::from(count > 0);
     }
     for run in 0..runs {
-        let met = demand_3(&sent, &short, told.rescued, seed * RUNS + run, LENGTH)
-            .map_err(|why| format!("run {run}: {why}"))?;
+        let met = demand_3(&sent, &claim, seed * RUNS + run, LENGTH).map_err(|why| format!("run {run}: {why}"))?;
         found.note_pair(&met, told.rescued);
     }
     Ok(())
@@ -169,11 +229,7 @@ fn arguments() -> (u64, u64, Option<String>) {
 
 fn main() -> ExitCode {
     let (files, first, form) = arguments();
-    let found = match &form {
-        Some(name) => Form::from_environment(name).map(Source::Form),
-        None => Library::from_environment().map(Source::Shorten),
-    };
-    let source = match found {
+    let source = match Source::from_environment(form.as_ref()) {
         Ok(source) => source,
         Err(why) => {
             eprintln!("{why}");
@@ -193,9 +249,10 @@ fn main() -> ExitCode {
         print(source, smallest);
         return ExitCode::FAILURE;
     }
-    // The file as sent has no counts to reach.
+    // The file as sent has no counts to reach, and the threaded form no lengths.
+    let pairs = if form.as_deref() == Some("threaded") { OTHERS } else { PAIRS.len() };
     let all = form.as_deref() != Some("sent");
-    if all && files >= ENOUGH && found.files[1..].iter().chain(&found.pairs).any(|&count| count == 0) {
+    if all && files >= ENOUGH && found.files[1..].iter().chain(&found.pairs[..pairs]).any(|&count| count == 0) {
         println!("run-demand: something of this was not reached");
         return ExitCode::FAILURE;
     }

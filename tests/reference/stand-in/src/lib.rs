@@ -4,7 +4,7 @@ use halivomue_reference::draft::mov;
 use halivomue_reference::library::{Provisioning, Reading, Shortening, Tidiness};
 use halivomue_reference::procedure::Procedure;
 use halivomue_reference::record::kind;
-use halivomue_reference::{read, reference, tidy};
+use halivomue_reference::{level, read, reference, tidy};
 use std::sync::LazyLock;
 
 static FAULT: LazyLock<String> = LazyLock::new(|| std::env::var("STAND_IN_FAULT").unwrap_or_default());
@@ -17,9 +17,11 @@ pub unsafe extern "C" fn halivomue_shorten(bytes: *const u8, length: usize, out:
     let beyond = unsafe { out.add(room) };
     let out = if room == 0 { &mut [] } else { unsafe { std::slice::from_raw_parts_mut(out, room) } };
     let shorten = reference().expect("the papers were there when this was built");
-    let mut a = shorten(bytes, room);
+    let threaded = || level::with(&["thread"], || shorten(bytes, room));
+    let mut a = if *FAULT == "unsliced" { threaded() } else { shorten(bytes, room) };
     if a.number == 0 {
-        a.output = spoiled(a.output, a.moved > 0);
+        a.output =
+            if *FAULT == "bounds" { exchanged(a.output, &threaded().output) } else { spoiled(a.output, a.moved > 0) };
         if a.output.len() > room {
             return refused(9);
         }
@@ -119,6 +121,13 @@ fn spoiled(output: Vec<u8>, moved: bool) -> Vec<u8> {
         ("act", Some(i)) => i.kind = kind::MOVE,
         (_, Some(i)) => (i.op, i.p[0]) = (1 - i.op, 0),
     }
+    f.bytes()
+}
+
+/// A sliced form whose rewritten Cmps have their bounds exchanged.
+fn exchanged(output: Vec<u8>, threaded: &[u8]) -> Vec<u8> {
+    let (mut f, before) = (Procedure::from_bytes(&output), Procedure::from_bytes(threaded));
+    f.code.iter_mut().zip(&before.code).filter(|(i, j)| i != j).for_each(|(i, _)| i.p.swap(1, 2));
     f.bytes()
 }
 

@@ -1,0 +1,5 @@
+pub mod Parts
+pub mod Passes
+pub mod Law
+pub mod Same
+pub mod Staged
