@@ -6,7 +6,7 @@
  *   room   HALIVOMUE_ROOM bytes for the result of any procedure. If the result is known to be small, 32 bytes for each of
  *          its registers, blocks and so on; if that is too little, the answer is HALIVOMUE_OUTPUT and nothing is written
  *   stack  HALIVOMUE_SHORTEN_STACK bytes below the caller's frame; HALIVOMUE_TIDY_STACK if only halivomue_tidy is called
- *   code   40 KB and 2 KB of constants for both functions (37 KB for shorten alone), no writable data; of the C library
+ *   code   58 KB and 4 KB of constants for both functions (53 KB for shorten alone), no writable data; of the C library
  *          only memcpy, memmove, memset and memcmp
  */
 #include <halivomue.h>

@@ -4,7 +4,7 @@
     tests/believed.py [--write]    --write corrects the counts and the table of types in docs/MAP.md
 
 It starts from the contracts of each exported function (`pub extern "C" fn` of the crate halivomue_c)
-and of each public operation, and from the theorem's statement. It follows everything that these cite,
+and of each public operation, and from the statements of the theorems. It follows everything that these cite,
 from definition to definition, down to the toolchain's library; types that the code declares count too.
 Then the checker itself is given what was reached, and nothing else, as one crate (sliced.py): it must
 find every name. So nothing is missing. Too much may be reached; antt.py and tree.py say where.
@@ -34,8 +34,13 @@ from tree import Made, Tree
 ROOT = os.path.dirname(os.path.dirname(os.path.abspath(__file__)))
 MAP = os.path.join(ROOT, "docs", "MAP.md")
 EXPORTING = "halivomue_c"
-OPERATIONS = [("read", "read"), ("tidy", "tidy"), ("shorten", "shorten"), ("shorten", "shorten_within"), ("shorten", "tidy_and_shorten")]
+OPERATIONS = [
+    ("read", "read"), ("tidy", "tidy"), ("shorten", "shorten"), ("shorten", "shorten_within"), ("shorten", "tidy_and_shorten"),
+    ("billing", "shorten_for"), ("billing", "provision_for"), ("accounts", "make"), ("accounts", "tally"), ("accounts", "shorten_for"),
+    ("accounts", "provision_for"), ("accounts", "save"), ("accounts", "load"), ("accounts", "join"),
+]
 THEOREM = ("Rattle", "promise", "proofs", "Promised", "promise")
+TALLIED = ("Rattle", "histories", "proofs", "Tallied", "tallied")
 
 BELIEVED, TYPES = "## What a reader has to believe", "### The types that they use"
 BESIDE, STORAGE = "### In the same files, but needed by nothing public", "## Storage and statements"
@@ -65,11 +70,16 @@ def contracts(tree, functions):
             yield target, f"the contract of {name}", name
 
 
-def start(tree, functions, theorem):
-    """What the contracts and the theorem's statement cite."""
+def theorems(tree):
+    return [tree.item(path, "the theorems") for path in (THEOREM, TALLIED)]
+
+
+def start(tree, functions, stated):
+    """What the contracts and the theorems' statements cite."""
     yield from contracts(tree, functions)
-    for target in tree.cited(theorem, statement=True):
-        yield target, f"the statement of {theorem.name}", theorem.name
+    for theorem in stated:
+        for target in tree.cited(theorem, statement=True):
+            yield target, f"the statement of {theorem.name}", theorem.name
 
 
 def read_all(tree):
@@ -257,15 +267,15 @@ def told(page, computed):
 
 def judged(tree, page, faults, write):
     """Adds the faults of the page to those found before; if there are none, the checker's."""
-    theorem, functions = tree.item(THEOREM, "the theorem"), roots(tree)
-    found = tree.reached(start(tree, functions, theorem))
+    stated, functions = theorems(tree), roots(tree)
+    found = tree.reached(start(tree, functions, stated))
     computed = Computed(tree, found)
     faults += page.faults + [*not_believed(page, computed), *not_reached(page, computed), *listed(page)]
     faults += counts(page, computed, write)
     told(page, computed)
     if not faults:
         with tempfile.TemporaryDirectory() as folder:
-            said = check(Slice(tree, found, functions, theorem).written(folder))
+            said = check(Slice(tree, found, functions, stated).written(folder))
         faults += [f"the checker, over what was reached and nothing else: {line}" for line in said]
 
 

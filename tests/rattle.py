@@ -36,7 +36,7 @@ class Code:
     ghost: list = field(default_factory=list)
     uses: dict = field(default_factory=dict)  # name to path
     mods: list = field(default_factory=list)
-    constants: set = field(default_factory=set)
+    constants: dict = field(default_factory=dict)  # name to the item's text
     aliases: set = field(default_factory=set)
     types: dict = field(default_factory=dict)
     functions: dict = field(default_factory=dict)
@@ -123,8 +123,10 @@ def read_item(code, text, at, found, line):
         read_use(code, inner, where)
     elif kind == "mod" and re.fullmatch(r"\w+", inner):
         code.mods.append(inner)
-    elif kind in ("const", "alias"):
-        (code.constants if kind == "const" else code.aliases).add(re.match(r"\w+", inner).group())
+    elif kind == "const":
+        code.constants[re.match(r"\w+", inner).group()] = f"const {inner};"
+    elif kind == "alias":
+        code.aliases.add(re.match(r"\w+", inner).group())
     else:
         raise Fault(f"{where}: an item of a shape that isn't known")
     return end + 1

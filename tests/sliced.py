@@ -2,7 +2,7 @@
 
 The crate `slice` holds the reached definitions and types, word for word, each in a module of its
 file's name; the contracts that everything was reached from, on functions that only call themselves; and
-the theorem's statement. If the checker finds every name in it, nothing that a contract depends on is
+the theorems' statements. If the checker finds every name in it, nothing that a contract depends on is
 missing from what was reached.
 """
 
@@ -34,8 +34,8 @@ def module_of(file):
 
 
 class Slice:
-    def __init__(self, tree, reached, roots, theorem):
-        self.tree, self.theorem = tree, theorem
+    def __init__(self, tree, reached, roots, theorems):
+        self.tree, self.theorems = tree, theorems
         self.definitions, self.types = defaultdict(list), defaultdict(list)
         self.roots = defaultdict(list)  # the functions by their file
         for target, _, _ in reached:
@@ -103,9 +103,8 @@ class Slice:
         header = list(self.brought(self.tree.scope(file), read.uses))
         return header + [moved(line) if k in kept else "" for k, line in enumerate(lines, 1)]
 
-    def statement(self):
-        """The theorem's telescopes and type, on a function that takes a proof of it."""
-        d = self.theorem
+    def statement(self, d):
+        """A theorem's telescopes and type, on a function that takes a proof of it."""
         lines = self.tree.read(d.file).split("\n")
         headers = [line for first, last in d.block for line in lines[first - 1:last]]
         first, last = d.spans[0]
@@ -125,6 +124,8 @@ class Slice:
         if self.roots.get(file):
             scope = Scope(self.tree, file, code.ghost)
             lines += [f"ghost {line};" for line in self.brought(scope, code.ghost)]
+        texts = [item.text for item in (*self.types.get(file, ()), *self.roots.get(file, ()))]
+        lines += self.tree.constants_in(code, "\n".join(texts))
         lines += [t.text for t in self.types.get(file, ())]
         for function in self.roots.get(file, ()):
             lines += [function.text, "{", f"    {function.name}({', '.join(function.parameters)})", "}"]
@@ -135,7 +136,8 @@ class Slice:
         antt, code = {}, {}
         for file in self.definitions:
             antt[module_of(file)] = self.text_of(file)
-        antt[("Stated",)] = self.statement()
+        for theorem in self.theorems:
+            antt[("Stated" + theorem.name.capitalize(),)] = self.statement(theorem)
         for file in {*self.types, *self.roots}:
             code[parts_of(file)] = self.code_of(file)
         crate = os.path.join(folder, "slice")

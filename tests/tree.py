@@ -357,6 +357,14 @@ class Tree:
             raise Fault(f"{code.path}: the type `{'::'.join(path)}` leads nowhere")
         return found.types[path[-1]]
 
+    def constants_in(self, code, text):
+        """The constants that a text of Rattle code names, its file's own and those of other crates, as items."""
+        for name in sorted({*re.findall(r"\b[A-Z][A-Z0-9_]*\b", text)}):
+            crate, *path = code.uses.get(name, (None, name))
+            there = self.code(crate, tuple(path[:-1])) if crate in self.crates else code
+            if there and path[-1] in there.constants:
+                yield there.constants[path[-1]]
+
     def types_of(self, declared):
         """The types of a declared type's fields."""
         code = self.code(*place_of(declared.file))

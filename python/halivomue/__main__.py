@@ -1,4 +1,4 @@
-"""The commands: provision, audit and page; read, tidy, list and shorten; show, explain and diff."""
+"""The commands: provision, audit and page; read, tidy, list and shorten; accounts; show, explain and diff."""
 
 from __future__ import annotations
 
@@ -9,7 +9,7 @@ import signal
 import sys
 from typing import IO, Callable, List, Optional
 
-from . import __version__, asking, audit, filing, look, page, provisioning, report, work
+from . import __version__, asking, audit, filing, look, names, page, provisioning, report, work
 from ._library import LibraryError
 from .filer import Options
 from .filing import Failed
@@ -23,10 +23,15 @@ tidy file is promised to do what the file does. A file that is refused or unread
 nothing; the others go on. A run that was interrupted is taken up again by the same command: what is filed
 and unchanged isn't done again.
 
+Each shortening that is filed now is billed: its price is added to the tally of the accounts, which are saved at
+the end of the run. What is filed already and unchanged isn't billed again. Without --accounts the accounts are
+FILED/.halivomue/accounts, which the first run makes.
+
 examples:
   python3 -m halivomue provision sent filed
   python3 -m halivomue provision --strict --json --jobs 4 sent filed
   python3 -m halivomue provision --dry-run sent filed >would-be.csv
+  python3 -m halivomue provision --accounts shop north-sent north-filed
 
 ends with 0; 1 where a file was refused or unreadable, or untidy with --strict; 2 where the run itself failed"""
 
@@ -74,13 +79,25 @@ _ASK_JSON = {
 _SHORTEN = """\
 Writes the shortened form of IN to the file OUT, or of each IN into the folder OUT, under the same name: whole or
 not at all, with the mode of IN, less what the umask takes away. A symbolic link, a device or a pipe isn't
-replaced.
+replaced. With --accounts the price of each is added to the tally of the accounts in FILE, which is saved before
+OUT gets its name; while the command runs, FILE.lock keeps others out.
 
 examples:
   python3 -m halivomue shorten lift-7.call short.call
+  python3 -m halivomue shorten --accounts shop lift-7.call short.call
   python3 -m halivomue shorten --json north/*.call shortened/
 
 ends with 0; 1 where a file is refused, or can't be read or written; 2 where the command failed"""
+
+_ACCOUNTS = """\
+make  makes accounts with a tally of 0 in FILE, which must not exist
+show  prints their tally, in cents
+
+examples:
+  python3 -m halivomue accounts make shop
+  python3 -m halivomue accounts show shop
+
+ends with 0, or 2 where the command failed"""
 
 _LOOK = {
     "show": ("a procedure by names, as sent or as shortened", "  python3 -m halivomue show --short lift-7.call"),
@@ -113,6 +130,7 @@ def parser() -> argparse.ArgumentParser:
     of_untidy = run.add_mutually_exclusive_group()
     of_untidy.add_argument("--strict", action="store_true", help="refuse untidy files")
     of_untidy.add_argument("--untidy", action="store_true", help="file shortened forms of untidy files too, though they may act differently")
+    run.add_argument("--accounts", metavar="FILE", help="the accounts that are billed (default: FILED/.halivomue/accounts)")
     run.add_argument("--dry-run", action="store_true", help="file nothing; the report goes to standard output")
     run.add_argument("--json", action="store_true", help="write FILED/report.jsonl too, a line of JSON for each file")
     run.add_argument("--no-flush", action="store_true", help="don't wait for the disk: faster, but not safe from a power cut")
@@ -142,6 +160,10 @@ def _add_asking(commands: "argparse._SubParsersAction[argparse.ArgumentParser]")
     short = commands.add_parser("shorten", help="write shortened forms", epilog=_SHORTEN, formatter_class=raw)
     short.add_argument("files", nargs="+", metavar="IN", help="a procedure's file; - is standard input")
     short.add_argument("out", metavar="OUT", help="a file, or a folder")
+    short.add_argument("--accounts", metavar="FILE", help="add the price to the tally of these accounts")
+    kept = commands.add_parser("accounts", help="make accounts, or show their tally", epilog=_ACCOUNTS, formatter_class=raw)
+    kept.add_argument("what", choices=("make", "show"), metavar="make|show")
+    kept.add_argument("file", metavar="FILE", help="the file that keeps the accounts")
     for command in (*_ASK, "shorten"):
         commands.choices[command].add_argument("--words", action="store_true", help="what the numbers mean, beside them")
         commands.choices[command].add_argument("--json", action="store_true", help="a line of JSON for each file")
@@ -180,6 +202,7 @@ def _provision(arguments: argparse.Namespace) -> int:
         arguments.dry_run,
         not arguments.no_flush,
         arguments.json,
+        None if arguments.accounts is None else os.fsencode(arguments.accounts),
     )
     say = _Lines(sys.stderr if options.dry_run else sys.stdout)
     outcome = provisioning.run(options, provisioning.Told(say, progress=sys.stderr), sys.stdout)
@@ -187,9 +210,12 @@ def _provision(arguments: argparse.Namespace) -> int:
     say(outcome.totals.sums_text())
     if outcome.passed_over:
         say(f"passed over: {report.counted(outcome.passed_over)} under SENT whose name doesn't match {options.pattern}")
+    tally = f"{outcome.tally} cents: {names.shown(os.fsencode(outcome.accounts))}"
     if options.dry_run:
-        say("nothing was filed (--dry-run)")
+        say("nothing was filed or billed (--dry-run)")
+        say(f"the tally would be {tally}")
     else:
+        say(f"the tally is {tally}")
         kept = f", {outcome.kept} were filed already" if outcome.kept else ""
         say(f"{outcome.done} filed{kept}; report: {arguments.filed.rstrip('/')}/report.csv")
     return 1 if outcome.totals.failed else 0
@@ -216,8 +242,12 @@ def _look(arguments: argparse.Namespace) -> int:
 def _ask(arguments: argparse.Namespace) -> int:
     asked = asking.Asked(arguments.command, arguments.words, arguments.json)
     if arguments.command == "shorten":
-        return asking.shorten(asked, [*arguments.files, arguments.out])
+        return asking.shorten(asked, [*arguments.files, arguments.out], arguments.accounts)
     return asking.ask(asked, arguments.files)
+
+
+def _accounts(arguments: argparse.Namespace) -> int:
+    return asking.accounts(arguments.what, arguments.file)
 
 
 class _Stopped(Exception):
@@ -235,7 +265,7 @@ def main(words: Optional[List[str]] = None) -> int:
             stream.reconfigure(encoding="utf-8", errors="backslashreplace")
     signal.signal(signal.SIGTERM, _stop)
     try:
-        work_of = {"provision": _provision, "audit": _audit, "page": _page, **dict.fromkeys(_LOOK, _look)}
+        work_of = {"provision": _provision, "audit": _audit, "page": _page, "accounts": _accounts, **dict.fromkeys(_LOOK, _look)}
         return work_of.get(arguments.command, _ask)(arguments)
     except (Failed, LibraryError) as error:
         why = str(error)

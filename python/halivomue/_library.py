@@ -13,13 +13,13 @@ import os
 import threading
 from typing import Any, List, Optional, Tuple, Union
 
-from .answers import LONGEST, ROOM, Reading, Refused, Shortening, Tidiness, is_by_addr_of, tidiness
+from .answers import ACCOUNTS_SAVED, CEILING, LONGEST, ROOM, Reading, Refused, Shortening, Tidiness, is_by_addr_of, tidiness
 
 #: The types in which a file's bytes may be passed.
 Data = Union[bytes, bytearray, memoryview, mmap.mmap]
 
 #: The version of the package, and of the library that it needs.
-VERSION = "0.5"
+VERSION = "0.6"
 
 _NAME = "libhalivomue.so"
 
@@ -41,12 +41,16 @@ class _Tidiness(ctypes.Structure):
     _fields_ = _members("number record tidy reg")
 
 
-class _Shortening(ctypes.Structure):
-    _fields_ = _members("number record length moved grown fresh rescued")
+class _Billing(ctypes.Structure):
+    _fields_ = _members("number record length moved grown fresh rescued price")
 
 
-class _Provisioning(ctypes.Structure):
-    _fields_ = _members("number record tidy reg length moved grown fresh rescued")
+class _BilledProvisioning(ctypes.Structure):
+    _fields_ = _members("number record tidy reg length moved grown fresh rescued price")
+
+
+#: struct halivomue_accounts.
+_Words = ctypes.c_uint32 * 128
 
 
 class _Buffer(ctypes.Structure):
@@ -101,17 +105,28 @@ class _Functions:
             found = _version_of(library)
             if found != VERSION:
                 raise LibraryError(f"{where} is of version {found}, and the package of {VERSION} (python/build makes {_NAME} anew)")
-            self.read = self._function(library, "halivomue_read", _Reading, 0)
-            self.tidy = self._function(library, "halivomue_tidy", _Tidiness, 0)
-            self.shorten = self._function(library, "halivomue_shorten", _Shortening, 1)
-            self.provision = self._function(library, "halivomue_provision", _Provisioning, 1)
+            address, size, number = ctypes.c_void_p, ctypes.c_size_t, ctypes.c_uint32
+            file, room = (address, size), (address, size)
+            self.read = self._function(library, "read", _Reading, *file)
+            self.tidy = self._function(library, "tidy", _Tidiness, *file)
+            self.shorten_for = self._function(library, "shorten_for", _Billing, address, *file, *room)
+            self.provision_for = self._function(library, "provision_for", _BilledProvisioning, address, *file, *room)
+            self.make = self._function(library, "accounts_make", None, address)
+            self.tally = self._function(library, "tally", number, address)
+            self.save = self._function(library, "accounts_save", None, address, address)
+            self.load = self._function(library, "accounts_load", number, address, *file)
+            self.join = self._function(library, "accounts_join", number, address, address)
+            made = _Words()
+            self.make(ctypes.addressof(made))
+            #: Accounts with a tally of 0.
+            self.made = bytes(made)
         except (OSError, AttributeError) as error:
             raise LibraryError(f"{error} (python/build makes {_NAME})") from None
 
     @staticmethod
-    def _function(library: ctypes.CDLL, name: str, answer: Any, buffers: int) -> Any:
-        function = getattr(library, name)
-        function.argtypes = [ctypes.c_void_p, ctypes.c_size_t] * (1 + buffers)
+    def _function(library: ctypes.CDLL, name: str, answer: Any, *arguments: Any) -> Any:
+        function = getattr(library, "halivomue_" + name)
+        function.argtypes = arguments
         function.restype = answer
         return function
 
@@ -130,10 +145,10 @@ def functions() -> _Functions:
     return _functions
 
 
-def _call(function: Any, data: Data, *out: Any) -> Any:
+def _call(function: Any, accounts: Tuple[int, ...], data: Data, *out: Any) -> Any:
     """What the function returns for the bytes of `data`, which are not copied."""
     if type(data) is bytes:
-        return function(data, len(data), *out)
+        return function(*accounts, data, len(data), *out)
     if not isinstance(data, (bytes, bytearray, memoryview, mmap.mmap)):
         raise TypeError(f"bytes, bytearray, memoryview or mmap expected, not {type(data).__name__}")
     if isinstance(data, memoryview) and not data.c_contiguous:
@@ -141,18 +156,31 @@ def _call(function: Any, data: Data, *out: Any) -> Any:
     view = _Buffer()
     _get_buffer(data, ctypes.byref(view), 0)
     try:
-        return function(view.buf, view.len, *out)
+        return function(*accounts, view.buf, view.len, *out)
     finally:
         _release_buffer(ctypes.byref(view))
 
 
+class Words:
+    """The words of accounts, for the C functions: their address, and `bytes`, which can be kept and put back."""
+
+    __slots__ = ("_words", "address", "bytes")
+
+    def __init__(self) -> None:
+        self._words = _Words()
+        self.address = ctypes.addressof(self._words)
+        self.bytes = memoryview(self._words).cast("B")
+        self.bytes[:] = functions().made
+
+
 class _Room:
-    """An output buffer."""
+    """An output buffer, and accounts for a file that is billed to nobody."""
 
     def __init__(self) -> None:
         buffer = (ctypes.c_char * ROOM)()
         self.address = ctypes.addressof(buffer)
         self.bytes = memoryview(buffer).cast("B")
+        self.words = Words()
 
 
 class _Rooms(threading.local):
@@ -167,40 +195,79 @@ _rooms = _Rooms()
 
 def read(data: Data) -> Reading:
     """Is this a valid procedure? Any bytes may be given; a refusal is an answer."""
-    answer = _call(functions().read, data)
+    answer = _call(functions().read, (), data)
     return Reading(answer.number, answer.record)
 
 
 def tidy(data: Data) -> Tidiness:
     """Is this procedure tidy, so that its shortened form is promised to do what it does?"""
-    answer = _call(functions().tidy, data)
+    answer = _call(functions().tidy, (), data)
     untidy = answer.number == 0 and answer.tidy == 0
     by_addr_of = untidy and is_by_addr_of(memoryview(data).cast("B"), answer.reg)
     return tidiness(answer.number, answer.record, answer.tidy == 1, answer.reg, by_addr_of)
 
 
-def _written(function: Any, data: Data) -> Tuple[Any, bytes]:
-    """What a function with an output buffer returns, and the bytes that it writes."""
+def _written(function: Any, words: Optional[Words], data: Data) -> Tuple[Any, bytes]:
+    """What a function returns that shortens and bills, and the bytes that it writes; without accounts, the file
+    is billed to nobody."""
     free = _rooms.free
     room = free.pop() if free else _Room()
     try:
-        answer = _call(function, data, room.address, ROOM)
+        address = room.words.address if words is None else words.address
+        if type(data) is bytes:
+            answer = function(address, data, len(data), room.address, ROOM)
+        else:
+            answer = _call(function, (address,), data, room.address, ROOM)
+        if answer.number == CEILING and words is None:
+            # These accounts are full. They are nobody's, so they are made anew.
+            room.words = Words()
+            answer = _call(function, (room.words.address,), data, room.address, ROOM)
         return answer, room.bytes[: answer.length].tobytes()
     finally:
         free.append(room)
 
 
-def provisioned(data: Data) -> Tuple[Any, bytes]:
-    """The C answer of both Tidy and Shorten, and the bytes written; none if Shorten refuses."""
-    return _written(functions().provision, data)
+def provisioned(data: Data, words: Optional[Words] = None) -> Tuple[Any, bytes]:
+    """The C answer of both Tidy and Shorten, and the bytes written; none if Shorten refuses. The price is added to
+    the accounts, if some are given."""
+    return _written((_functions or functions()).provision_for, words, data)
+
+
+def shortened(data: Data, words: Optional[Words] = None) -> Shortening:
+    """The procedure with its branches shortened, and the counts; raises `Refused`. The price is added to the
+    accounts, if some are given."""
+    answer, short = _written((_functions or functions()).shorten_for, words, data)
+    if answer.number:
+        raise Refused(answer.number, answer.record)
+    return Shortening(short, answer.moved, answer.grown, answer.fresh, answer.rescued, answer.price)
 
 
 def shorten(data: Data) -> Shortening:
-    """The procedure with its branches shortened, and the counts; raises `Refused`."""
-    answer, short = _written(functions().shorten, data)
-    if answer.number:
-        raise Refused(answer.number, answer.record)
-    return Shortening(short, answer.moved, answer.grown, answer.fresh, answer.rescued)
+    """The procedure with its branches shortened, the counts and the price, which is added to no accounts; raises
+    `Refused`."""
+    return shortened(data)
+
+
+def tally(words: Words) -> int:
+    """The tally of accounts, in cents."""
+    return int(functions().tally(words.address))
+
+
+def saved(words: Words) -> bytes:
+    """The saved form of accounts."""
+    form = ctypes.create_string_buffer(ACCOUNTS_SAVED)
+    functions().save(words.address, ctypes.addressof(form))
+    return form.raw
+
+
+def loaded(words: Words, data: Data) -> bool:
+    """Loads accounts from their saved form; if that is damaged, nothing is changed."""
+    return bool(_call(functions().load, (words.address,), data) == 1)
+
+
+def joined(words: Words, part: Words) -> bool:
+    """Adds the tally of a part; if the sum would pass the ceiling, nothing is changed."""
+    return bool(functions().join(words.address, part.address) == 1)
 
 
 __all__ = ["Data", "LONGEST", "LibraryError", "VERSION", "functions", "path", "provisioned", "read", "shorten", "tidy"]

@@ -12,6 +12,14 @@ ROOM = 61_728
 RECORD = 32
 LONGEST = 65_536
 
+#: Cents that a file costs at most, and that a tally may be.
+DEAREST = 233
+CEILING_CENTS = 9_999_999
+#: The refusal of a file whose price the tally has no room for.
+CEILING = 10
+#: Bytes of the saved form of accounts.
+ACCOUNTS_SAVED = 416
+
 _REASONS = {
     1: "the file is not a multiple of 32 bytes long, or is longer than 65536",
     2: "record {} is wrong in itself, or its class is below that of the record before",
@@ -23,6 +31,7 @@ _REASONS = {
     7: "record {} names a register, block, table or list that does not exist",
     8: "the file has more than 480 registers or 480 instructions, the most that are shortened",
     9: "the buffer is too short for the shortened form",
+    10: f"the tally would pass {CEILING_CENTS} cents",
 }
 
 
@@ -131,14 +140,15 @@ def tidiness(number: int, record: int, tidy: bool, reg: int, by_addr_of: bool) -
 
 @dataclass(frozen=True)
 class Shortening(_Frozen):
-    """The answer of `shorten`: the shortened form's bytes and the counts."""
+    """The answer of `shorten`: the shortened form's bytes, the counts, and the price in cents."""
 
-    __slots__ = ("data", "moved", "grown", "fresh", "rescued")
+    __slots__ = ("data", "moved", "grown", "fresh", "rescued", "price")
     data: bytes
     moved: int
     grown: int
     fresh: int
     rescued: int
+    price: int
 
     @property
     def length(self) -> int:

@@ -10,7 +10,8 @@ import sys
 from typing import Any, Callable, Dict, List, NamedTuple, Optional, Sequence, Tuple
 
 from . import _library, files, filing, names
-from .answers import LONGEST, Refused
+from .accounts import LOCK, Accounts, AccountsFile, make_file, read_file
+from .answers import LONGEST, Refused, Shortening
 from .filing import Failed
 from .procedure import Procedure
 
@@ -61,26 +62,22 @@ def _tidy_answer(data: bytes) -> Answer:
     return {"answer": "accepted", "tidy": False, "reg": answer.reg, "reason": answer.reason}
 
 
-def _shorten_answer(data: bytes) -> Tuple[Answer, bytes]:
-    try:
-        short = _library.shorten(data)
-    except Refused as refused:
-        return _refused(refused), b""
-    counts = {"moved": short.moved, "grown": short.grown, "fresh": short.fresh, "rescued": short.rescued}
-    return {"answer": "accepted", **counts}, short.data
+def _counts(short: Shortening) -> Answer:
+    return {"answer": "accepted", "moved": short.moved, "grown": short.grown, "fresh": short.fresh, "rescued": short.rescued}
 
 
 def _list_answer(data: bytes) -> Answer:
     """The numbers of document 01's listing: types of registers, start and end of blocks, and kind, op,
     statement and p1 to p6 of each instruction."""
-    answer, short = _shorten_answer(data)
-    if answer["answer"] == "accepted":
-        of: Dict[str, List[Any]] = {"reg": [], "block": [], "code": []}
-        for line in Procedure.parse(short).numeric().splitlines():
-            kind, _, *numbers = line.split()
-            of[kind].append([int(number) for number in numbers])
-        answer.update(registers=[kind for (kind,) in of["reg"]], blocks=of["block"], code=of["code"])
-    return answer
+    try:
+        short = _library.shorten(data)
+    except Refused as refused:
+        return _refused(refused)
+    of: Dict[str, List[Any]] = {"reg": [], "block": [], "code": []}
+    for line in Procedure.parse(short.data).numeric().splitlines():
+        kind, _, *numbers = line.split()
+        of[kind].append([int(number) for number in numbers])
+    return {**_counts(short), "registers": [kind for (kind,) in of["reg"]], "blocks": of["block"], "code": of["code"]}
 
 
 _ANSWERS: Dict[str, Callable[[bytes], Answer]] = {"read": _read_answer, "tidy": _tidy_answer, "list": _list_answer}
@@ -102,7 +99,7 @@ def text_of(answer: Answer, words: bool) -> str:
         return f"{answer['answer']}: {answer['reason']}"
     if "moved" in answer:
         counts = "moved {moved} grown {grown} fresh {fresh} rescued {rescued}".format(**answer)
-        return counts + (_listing(answer) if "code" in answer else "")
+        return counts + (_listing(answer) if "code" in answer else f" price {answer['price']}")
     if "tidy" in answer:
         return "yes" if answer["tidy"] else f"no {answer['reg']}{why}"
     return "accepted"
@@ -144,24 +141,75 @@ def _outs(inputs: Sequence[str], out: str) -> List[str]:
     return [os.path.join(out, base) for base in bases]
 
 
-def _shorten_one(name: str, out: str) -> Answer:
+class _Billed:
+    """The accounts that shortening is billed to; none if no file of accounts is named."""
+
+    def __init__(self, file: Optional[AccountsFile], accounts: Accounts) -> None:
+        self.file, self.accounts = file, accounts
+
+    def shorten(self, data: bytes, out: str, mode: int) -> Shortening:
+        """Shortens and writes OUT. The accounts are saved when OUT's new file is written and before it takes the name,
+        and if it can't take it they are put back."""
+        before = bytes(self.accounts)
+        saved = False
+
+        def save() -> None:
+            nonlocal saved
+            if self.file is not None:
+                self.file.save(bytes(self.accounts))
+                saved = True
+
+        try:
+            short = self.accounts.shorten(data)
+            files.replace(out, short.data, mode, save)
+            return short
+        except BaseException:
+            self.accounts.put_back(before)
+            if saved and self.file is not None:
+                self.file.save(before)
+            raise
+
+
+def _shorten_one(name: str, out: str, billed: _Billed) -> Answer:
     try:
         read = _read(name)
-        answer, short = _shorten_answer(read.data)
-        if answer["answer"] == "accepted":
-            files.replace(out, short, read.mode)
-            answer["out"] = names.shown(os.fsencode(out))
-        return answer
+        short = billed.shorten(read.data, out, read.mode)
+        return {**_counts(short), "price": short.price, "out": names.shown(os.fsencode(out))}
+    except Refused as refused:
+        return _refused(refused)
     except OSError as error:
         return {"answer": "unreadable", "reason": filing.why(error)}
     except Failed as error:
         return {"answer": "failed", "reason": str(error)}
 
 
-def shorten(asked: Asked, given: Sequence[str]) -> int:
-    """Writes the shortened form of each IN, with its mode, to OUT or into the folder OUT; returns 1 if one
-    is refused, or can't be read or written."""
-    inputs, good = given[:-1], True
-    for name, out in zip(inputs, _outs(inputs, given[-1])):
-        good = _say(asked, names.shown(os.fsencode(name)), _shorten_one(name, out)) and good
+def _shorten_all(asked: Asked, given: Sequence[str], outs: Sequence[str], billed: _Billed) -> int:
+    good = True
+    for name, out in zip(given, outs):
+        good = _say(asked, names.shown(os.fsencode(name)), _shorten_one(name, out, billed)) and good
     return 0 if good else 1
+
+
+def shorten(asked: Asked, given: Sequence[str], accounts: Optional[str] = None) -> int:
+    """Writes the shortened form of each IN, with its mode, to OUT or into the folder OUT, and adds their prices to the
+    accounts of a file, if one is named; returns 1 if one is refused, or can't be read or written."""
+    inputs = given[:-1]
+    outs = _outs(inputs, given[-1])
+    if accounts is None:
+        return _shorten_all(asked, inputs, outs, _Billed(None, Accounts()))
+    file = AccountsFile(accounts)
+    for out in outs:
+        if os.path.realpath(out) in (os.path.realpath(accounts), os.path.realpath(accounts) + os.fsdecode(LOCK)):
+            raise Failed(f"{out}: the accounts are there: a shortened form would take their place")
+    with file.locked() as now:
+        return _shorten_all(asked, inputs, outs, _Billed(file, now))
+
+
+def accounts(what: str, path: str) -> int:
+    """Makes a file of accounts, or prints the tally of one."""
+    if what == "make":
+        make_file(path)
+        print(f"{names.shown(os.fsencode(path))}: made", flush=True)
+    else:
+        print(f"tally {read_file(path).tally}", flush=True)
+    return 0

@@ -6,7 +6,7 @@ import os
 import sys
 from typing import Callable, Iterable, Iterator, List, NamedTuple, Optional
 
-from . import _library, causes, filing, names, report, work
+from . import _library, books, causes, filing, names, report, work
 from .answers import reason
 from .filer import asked, described, is_refused
 from .filing import LINE, Failed, Folder, Held, NotAFile, Unreadable
@@ -17,7 +17,8 @@ from .state import Lock, State, open_top
 _FORMS = {"sha256_sent": "the sent form is not the one that was filed", "sha256_short": "the shortened form is not the one that was filed"}
 # The columns of a row that are compared: the digests first, since if they differ, the others are those of another file.
 _REASON = ("number", "record", "reason")
-_COMPARED = (*_FORMS, *report.COLUMNS[report.COLUMNS.index("tidy") : report.COLUMNS.index("sha256_sent")])
+# What a run has billed can't be told from what is filed.
+_COMPARED = (*_FORMS, *report.COLUMNS[report.COLUMNS.index("tidy") : report.COLUMNS.index("billed")])
 
 
 #: What is said about things that no report lists.
@@ -125,6 +126,9 @@ def _wrong_row(row: Row) -> Optional[str]:
         return f"{row.answer} and filed {row.filed!r} don't go together"
     if row.answer == "refused" and row.number is not None and row.reason != _reason(row):
         return "number, record and reason of the refusal don't go together"
+    # Whoever was billed in a run was billed what is filed now, and before that perhaps other forms.
+    if row.filed == "yes" and row.price is not None and not (row.billed == 0 or (row.billed or 0) >= row.price):
+        return "billed is neither 0 nor at least the price"
     return None
 
 
@@ -138,7 +142,7 @@ def _reason(row: Row) -> str:
 
 def _own(name: bytes) -> bool:
     """Is this one of the run's own files, which remain after it?"""
-    return name in (names.REPORT, names.REPORT_JSON, names.OWN + b"/lock")
+    return name in (names.REPORT, names.REPORT_JSON, names.OWN + b"/lock", books.ACCOUNTS)
 
 
 def _base(name: bytes) -> bytes:
@@ -234,6 +238,8 @@ def _compare(filed: Folder, jobs: int, outcome: Outcome, say: Callable[[str], No
             progress.add(len(chunk))
         for text in checked.wrong:
             tell("report.csv", "report: " + text)
+        for text in _wrong_accounts(filed):
+            tell(os.fsdecode(books.ACCOUNTS), text)
         for text in wrong_json:
             tell("report.jsonl", text)
 
@@ -247,6 +253,19 @@ def _unusable(state: State) -> str:
     except NotAFile as error:
         return f"altered: {error.reason}"
     return ""
+
+
+def _wrong_accounts(filed: Folder) -> List[str]:
+    """What is wrong with FILED's own accounts; they need not be there."""
+    try:
+        books.Books(filed, None, flush=False).read()
+    except FileNotFoundError:
+        return []
+    except NotAFile as error:
+        return [f"altered: {error.reason}"]
+    except Failed:
+        return ["altered: damaged: not the saved form of accounts"]
+    return []
 
 
 def _count(state: State) -> int:

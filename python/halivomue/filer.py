@@ -5,12 +5,13 @@ from __future__ import annotations
 import errno
 import hashlib
 import os
-from typing import Any, List, NamedTuple, Optional, Set, Tuple, Union
+from typing import Any, Iterator, List, NamedTuple, Optional, Set, Tuple, Union
 
 from . import _library, filing, names, report
-from .answers import is_by_addr_of, reason, untidy_reason
+from ._library import Words
+from .answers import CEILING, is_by_addr_of, reason, untidy_reason
 from .filing import Failed, Folder, Form, Held, Unreadable
-from .report import Row
+from .report import Row, with_billed
 
 _sha256 = hashlib.sha256
 
@@ -25,10 +26,13 @@ _TOGETHER = 32
 
 
 class Task(NamedTuple):
+    """`billed` are the cents that the same run billed for this name before it was interrupted."""
+
     how: int
     name: bytes
     earlier: Optional[Row] = None
     reason: str = ""
+    billed: int = 0
 
 
 def task_size(task: Task) -> int:
@@ -45,33 +49,43 @@ class Options(NamedTuple):
     dry_run: bool = False
     flush: bool = True
     json: bool = False
+    accounts: Optional[bytes] = None
     resumed: bool = False
 
 
 class Done(NamedTuple):
-    """What became of a chunk of tasks: the report's lines, their totals, and the messages to print."""
+    """What became of a chunk of tasks: the report's lines, their totals, the messages to print, and the accounts of
+    the chunk alone, in their saved form, if it was done apart."""
 
     text: str
     totals: report.Totals
     filed_now: int
     told: List[str]
     tasks: int
+    part: bytes
 
 
 class Both(NamedTuple):
     """The two forms of a file, the library's answer, and the mode that the forms get. There is no shortened
-    form if the file is refused or too large, or if it is untidy and --untidy wasn't given."""
+    form if the file is refused or too large, or if it is untidy and --untidy wasn't given. Of a file that was billed,
+    `before` has the accounts' words before that."""
 
     sent: bytes
     short: Optional[bytes]
     answer: Any
     mode: int = 0o666
+    before: Optional[bytes] = None
 
 
-def asked(sent: bytes, mode: int = 0o666) -> Both:
-    """What the library makes of a file."""
-    answer, short = _library.provisioned(sent)
+def asked(sent: bytes, mode: int = 0o666, words: Optional[Words] = None) -> Both:
+    """What the library makes of a file, which is billed if accounts are given."""
+    answer, short = _library.provisioned(sent, words)
     return Both(sent, None if answer.number else short, answer, mode)
+
+
+def cents(both: Both) -> int:
+    """What was billed for a file."""
+    return 0 if both.before is None else int(both.answer.price)
 
 
 def is_refused(both: Both) -> bool:
@@ -96,7 +110,7 @@ def filed_as(sent: Optional[bytes], short: Optional[bytes]) -> Optional[Both]:
     return both if short == both.short else None
 
 
-def without_short(name: str, answer: str, filed: str, both: Both) -> Row:
+def without_short(name: str, answer: str, filed: str, both: Both, billed: int = 0) -> Row:
     """The row of a file that is filed only as sent, with the reason."""
     sent, number, tidy = both.sent, both.answer.number or None, both.answer.tidy
     return Row(
@@ -110,15 +124,16 @@ def without_short(name: str, answer: str, filed: str, both: Both) -> Row:
         reg=None if tidy else both.answer.reg,
         instructions_sent=sent[::32].count(4),
         bytes_sent=len(sent),
+        billed=billed or None,
         sha256_sent=_sha256(sent).hexdigest(),
     )
 
 
-def described(name: str, answer: str, filed: str, both: Both) -> Row:
-    """The row of a filed file, from its forms and the library's answer."""
-    sent, short, counts, _ = both
+def described(name: str, answer: str, filed: str, both: Both, billed: int = 0) -> Row:
+    """The row of a filed file, from its forms, the library's answer and the cents that this run has billed."""
+    sent, short, counts = both.sent, both.short, both.answer
     if short is None:
-        return without_short(name, answer, "as sent" if filed == "yes" else filed, both)
+        return without_short(name, answer, "as sent" if filed == "yes" else filed, both, billed)
     digest = _sha256(sent).hexdigest()
     return Row(
         name=name,
@@ -134,9 +149,30 @@ def described(name: str, answer: str, filed: str, both: Both) -> Row:
         grown=counts.grown,
         fresh=counts.fresh,
         rescued=counts.rescued,
+        price=counts.price,
+        billed=billed,
         sha256_sent=digest,
         sha256_short=digest if short == sent else _sha256(short).hexdigest(),
     )
+
+
+def standing(filed: Folder) -> Iterator[Tuple[bytes, Row]]:
+    """Rows of what stands under FILED as a run files it, with their names' keys; none of it is billed."""
+    held = Held(filed)
+    try:
+        for name, kind in names.walk(filed, names.by_pair):
+            both = _standing(held, name) if kind == "file" and not names.reserved(name) else None
+            if both is not None:
+                yield names.key(name), described(names.quote(name), "accepted", "yes", both)
+    finally:
+        held.leave()
+
+
+def _standing(held: Held, name: bytes) -> Optional[Both]:
+    try:
+        return filed_as(held.read(name), held.read(name + names.SHORT))
+    except Unreadable:
+        return None
 
 
 def line_of(row: Row) -> str:
@@ -210,20 +246,27 @@ class Target:
 
 
 class Filer:
-    """Does tasks, chunk after chunk, in one process."""
+    """Does tasks, chunk after chunk, in one process. It bills the accounts that it is given; otherwise each chunk has
+    accounts of its own, which are handed back."""
 
-    def __init__(self, options: Options, sent: Folder, filed: Optional[Folder], number: int) -> None:
+    def __init__(
+        self, options: Options, sent: Folder, filed: Optional[Folder], number: int, words: Optional[Words] = None
+    ) -> None:
         self.strict, self.untidy = options.strict, options.untidy
         self.dry_run, self.flush = options.dry_run, options.flush
         self.resumed = options.resumed
         self.temporary = b"%s.%d.sent.tmp" % (names.OWN, number), b"%s.%d.short.tmp" % (names.OWN, number)
         self.source, self.kept, self.target = Held(sent), Held(filed), Target(filed, options.flush)
         self.now = 0
-        _library.functions()
+        self.apart = words is None
+        self.words = Words() if words is None else words
+        self.made = bytes(self.words.bytes)
 
     def chunk(self, tasks: List[Task]) -> Done:
         """Does some tasks."""
         self.now = 0
+        if self.apart:
+            self.words.bytes[:] = self.made
         try:
             found = [row for at in range(0, len(tasks), _TOGETHER) for row in self.rows(tasks[at : at + _TOGETHER])]
         finally:
@@ -231,51 +274,76 @@ class Filer:
             self.kept.leave()
             self.target.leave()
         self.target.flush_all()
-        rows = [row for row in found if row.answer != "not sent" or row.filed != "no"]
+        rows = [row for row in found if row.answer != "not sent" or row.filed != "no" or row.billed]
         totals = report.Totals()
         for row in rows:
             totals.add(row)
         told = [line for line in map(line_of, rows) if line]
-        return Done("".join(map(report.csv_line, rows)), totals, self.now, told, len(tasks))
+        part = _library.saved(self.words) if self.apart else b""
+        return Done("".join(map(report.csv_line, rows)), totals, self.now, told, len(tasks), part)
 
     def rows(self, tasks: List[Task]) -> List[Row]:
         """The rows of some tasks. They take each step together, which keeps what a step uses in the
         processor's caches."""
         read = [self.read(task) for task in tasks]
-        shortened = [form if isinstance(form, Row) else self.shorten(task, form) for task, form in zip(tasks, read)]
-        filed = [both if isinstance(both, Row) else self.file(task, both) for task, both in zip(tasks, shortened)]
-        return [
-            both if isinstance(both, Row) else described(names.quote(task.name), "accepted", "yes", both)
-            for task, both in zip(tasks, filed)
-        ]
+        shortened = self.shortened(tasks, read)
+        found: List[Row] = []
+        for at, task in enumerate(tasks):
+            both = shortened[at]
+            if isinstance(both, Both):
+                filed = self.file(task, both)
+                if isinstance(filed, Row) and both.before is not None:
+                    # It isn't billed after all. What comes after it was billed on top of it, and may have been refused.
+                    self.words.bytes[:] = both.before
+                    shortened[at + 1 :] = self.shortened(tasks[at + 1 :], read[at + 1 :])
+                shortened[at] = filed
+        for task, one in zip(tasks, shortened):
+            if isinstance(one, Both):
+                one = described(names.quote(task.name), "accepted", "yes", one, task.billed + cents(one))
+            found.append(one)
+        return found
+
+    def shortened(self, tasks: List[Task], read: List[Union[Row, Form]]) -> List[Union[Row, Both]]:
+        """What is to be filed of each, or its row."""
+        return [form if isinstance(form, Row) else self.shorten(task, form) for task, form in zip(tasks, read)]
 
     def read(self, task: Task) -> Union[Row, Form]:
         """The sent form, or the row of a file that isn't to be filed now."""
         if task.how == GONE:
-            return self.unfiled(task.name, "not sent")
+            return self.unfiled(task, "not sent")
         if task.how == TOLD:
-            return self.unfiled(task.name, "unreadable", task.reason)
+            return self.unfiled(task, "unreadable", task.reason)
         try:
             folder, base = self.source.at(task.name)
             form = filing.read(base, folder)
         except OSError as error:
-            return self.unfiled(task.name, "unreadable", filing.why(error))
+            return self.unfiled(task, "unreadable", filing.why(error))
         except Unreadable as error:
-            return self.unfiled(task.name, "unreadable", str(error))
+            return self.unfiled(task, "unreadable", str(error))
         if task.earlier is not None and self.stands(task.name, form.data, task.earlier):
-            return task.earlier
+            return self.priced(task.earlier, form.data)
         return form
 
+    @staticmethod
+    def priced(row: Row, sent: bytes) -> Row:
+        """The row of a file that stands, with its price if a version wrote it that had no prices."""
+        return row if row.price is not None else with_billed(row._replace(price=asked(sent).answer.price), 0)
+
     def shorten(self, task: Task, form: Form) -> Union[Row, Both]:
-        """What is to be filed, or the row of a file that is refused."""
-        both = asked(form.data, form.mode)
+        """What is to be filed, or the row of a file that is refused. Billed is only what is filed with a shortened
+        form; the others leave the accounts as they were."""
+        before = bytes(self.words.bytes)
+        both = asked(form.data, form.mode, self.words)
+        if both.answer.number == CEILING and not both.answer.tidy and not self.untidy:
+            both = asked(form.data, form.mode)
         if is_refused(both):
             number, record = both.answer.number, both.answer.record
-            return self.unfiled(task.name, "refused", reason(number, record), number, record)
+            return self.unfiled(task, "refused", reason(number, record), number, record)
         if both.answer.tidy or self.untidy:
-            return both
+            return both if both.short is None else both._replace(before=before)
+        self.words.bytes[:] = before
         if self.strict:
-            return self.unfiled(task.name, "refused", why_untidy(both) + " (--strict)")
+            return self.unfiled(task, "refused", why_untidy(both) + " (--strict)")
         return both._replace(short=None)
 
     def file(self, task: Task, both: Both) -> Union[Row, Both]:
@@ -286,7 +354,7 @@ class Filer:
             try:
                 self.put(task.name, both)
             except Unreadable as error:
-                return self.unfiled(task.name, "unreadable", str(error))
+                return self.unfiled(task, "unreadable", str(error))
         self.now += 1
         return both
 
@@ -326,10 +394,14 @@ class Filer:
             filing.write(((of_short, new_short, both.short), (base, new_sent, both.sent)), self.flush, folder, both.mode)
 
     def unfiled(
-        self, name: bytes, answer: str, why: str = "", number: Optional[int] = None, record: Optional[int] = None
+        self, task: Task, answer: str, why: str = "", number: Optional[int] = None, record: Optional[int] = None
     ) -> Row:
         """The row of a file that isn't filed now, with what an earlier run filed under its name."""
-        row = Row(name=names.quote(name), answer=answer, number=number, record=record, reason=why)
+        row = Row(name=names.quote(task.name), answer=answer, number=number, record=record, reason=why)
+        return with_billed(self.with_filed(row, task.name), task.billed)
+
+    def with_filed(self, row: Row, name: bytes) -> Row:
+        """The row of a file that isn't filed now, with what stands under its name."""
         if names.reserved(name):
             return row
         try:
@@ -341,4 +413,4 @@ class Filer:
         both = filed_as(sent, short)
         if both is None:
             return row._replace(filed="spoiled")
-        return described(row.name, answer, "earlier", both)._replace(number=number, record=record, reason=why)
+        return described(row.name, row.answer, "earlier", both)._replace(number=row.number, record=row.record, reason=row.reason)

@@ -5,7 +5,7 @@ from __future__ import annotations
 import os
 import secrets
 import stat
-from typing import Optional, Union
+from typing import Callable, Optional, Union
 
 from .filing import Failed, why
 
@@ -81,23 +81,28 @@ def _fill(fd: int, data: bytes) -> None:
         os.close(fd)
 
 
-def _replace(path: bytes, folder: int, data: bytes, mode: int) -> None:
+def _nothing() -> None:
+    pass
+
+
+def _replace(path: bytes, folder: int, data: bytes, mode: int, first: Callable[[], None]) -> None:
     """Writes and flushes a new file in the folder, under a name that nobody can guess, and renames it to the name."""
     base = os.path.basename(path)
     new = b"%s.%s.new" % (base[:_KEPT], secrets.token_hex(8).encode())
     fd = os.open(new, _NEW, mode, dir_fd=folder)
     try:
         _fill(fd, data)
+        first()
         os.replace(new, base, src_dir_fd=folder, dst_dir_fd=folder)
     except BaseException:
         os.unlink(new, dir_fd=folder)
         raise
 
 
-def replace(out: Path, data: bytes, mode: Optional[int] = None) -> None:
+def replace(out: Path, data: bytes, mode: Optional[int] = None, first: Callable[[], None] = _nothing) -> None:
     """Writes a file completely or not at all; raises `Failed`. A symbolic link, a device, a pipe or a
     folder isn't replaced, nor is a file that the user may not write. If no mode is given, a file that
-    exists keeps its own."""
+    exists keeps its own. `first` is called when the new file is written and flushed, before it takes the name."""
     path = os.fsencode(out)
     try:
         folder = _open_folder(path)
@@ -105,7 +110,7 @@ def replace(out: Path, data: bytes, mode: Optional[int] = None) -> None:
             old = _old(path, folder)
             if mode is None:
                 mode = stat.S_IMODE(old.st_mode) & 0o777 if old else 0o666
-            _replace(path, folder, data, mode)
+            _replace(path, folder, data, mode, first)
             try:
                 os.fsync(folder)
             except OSError:

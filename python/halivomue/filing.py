@@ -20,6 +20,9 @@ _READ = os.O_RDONLY | os.O_NOFOLLOW | os.O_NONBLOCK | os.O_CLOEXEC | getattr(os,
 _NEW = os.O_WRONLY | os.O_CREAT | os.O_EXCL | os.O_NOFOLLOW | os.O_CLOEXEC
 _FOLDER = os.O_RDONLY | os.O_DIRECTORY | os.O_CLOEXEC
 
+#: What the name of a new file has after that of the file that it replaces.
+_NEW_END = b".new"
+
 #: Bytes of the longest line of a report, in CSV or JSON: a name of 4,350 bytes, each quoted, and more.
 LINE = 1 << 17
 
@@ -226,7 +229,7 @@ def _create(name: bytes, at: int, mode: int = 0o666) -> int:
         return os.open(name, _NEW, mode, dir_fd=at)
 
 
-def _stage(temporary: bytes, data: bytes, flush: bool, at: int, mode: int) -> None:
+def stage(temporary: bytes, data: bytes, flush: bool, at: int, mode: int) -> None:
     """Writes a new file, flushed."""
     fd = _create(temporary, at, mode)
     try:
@@ -248,7 +251,7 @@ def write(
     at = folder.fd
     try:
         for name, temporary, data in files:
-            _stage(temporary, data, flush, at, mode)
+            stage(temporary, data, flush, at, mode)
         for name in gone:
             _unlink(name, at)
         for name, temporary, _ in files:
@@ -321,6 +324,22 @@ class File(NamedTuple):
         with self.folder() as folder:
             fd = _create(self.base, folder.fd)
         return io.TextIOWrapper(os.fdopen(fd, "wb"), encoding="utf-8", newline="\n")
+
+    def put(self, data: bytes, flush: bool) -> None:
+        """Replaces the file whole, with the mode that it has: writes a new file beside it, and renames that."""
+        with self.folder() as folder:
+            try:
+                mode = stat.S_IMODE(os.stat(self.base, dir_fd=folder.fd, follow_symlinks=False).st_mode) & 0o777
+            except FileNotFoundError:
+                mode = 0o666
+            stage(self.base + _NEW_END, data, flush, folder.fd, mode)
+            os.replace(self.base + _NEW_END, self.base, src_dir_fd=folder.fd, dst_dir_fd=folder.fd)
+            if flush:
+                folder.flush()
+
+    def new(self) -> "File":
+        """The new file beside it, which a killed run may have left."""
+        return File(self.top, self.name + _NEW_END)
 
     def exists(self) -> bool:
         """Is there anything of that name?"""

@@ -33,7 +33,7 @@ _WIDTH = 120
 #: The columns of the table; `answer` has a refusal's number in it.
 _COLUMNS = (
     "name", "answer", "record", "reason", "filed", "tidy", "instructions_sent", "instructions_short", "bytes_sent", "bytes_short",
-    "moved", "grown", "fresh", "rescued",
+    "moved", "grown", "fresh", "rescued", "price", "billed",
 )  # fmt: skip
 
 
@@ -239,6 +239,8 @@ def _cards(totals: report.Totals) -> str:
         card("grown", f"{s['grown']:,}", "instructions copied"),
         card("fresh", f"{s['fresh']:,}", "new registers"),
         card("rescued", f"{s['rescued']:,}", "constants"),
+        card("price", f"{s['price']:,}", "cents"),
+        card("billed", f"{s['billed']:,}", "cents, by the last run"),
     ]  # fmt: skip
     return "".join(cards)
 

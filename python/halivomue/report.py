@@ -8,7 +8,7 @@ import io
 import json
 from itertools import groupby
 from operator import attrgetter
-from typing import IO, Dict, Iterator, List, NamedTuple, Optional, Tuple
+from typing import IO, Dict, Iterator, List, NamedTuple, Optional, Sequence, Tuple
 
 from . import names
 from .filing import LINE, File, lines
@@ -23,7 +23,10 @@ class Row(NamedTuple):
     filed    yes, with its shortened form; as sent, without one; no; earlier (what an earlier run filed
              is still there); spoiled (something else is there)
 
-    The columns from `tidy` on describe what is filed.
+    price    what the shortened form costs, in cents
+    billed   the cents that this run has added to the tally for this file
+
+    The columns from `tidy` on, but for `billed`, describe what is filed.
     """
 
     name: str
@@ -42,17 +45,24 @@ class Row(NamedTuple):
     grown: Optional[int] = None
     fresh: Optional[int] = None
     rescued: Optional[int] = None
+    price: Optional[int] = None
+    billed: Optional[int] = None
     sha256_sent: str = ""
     sha256_short: str = ""
 
 
 COLUMNS = Row._fields
-SUMMED = ("instructions_sent", "instructions_short", "bytes_sent", "bytes_short", "moved", "grown", "fresh", "rescued")
+#: The columns that are summed; `billed` last, which files without a shortened form may have too.
+SUMMED = (
+    "instructions_sent", "instructions_short", "bytes_sent", "bytes_short", "moved", "grown", "fresh", "rescued", "price", "billed",
+)  # fmt: skip
 _summed = attrgetter(*SUMMED)
 _NUMBERS = frozenset(("number", "record", "reg", *SUMMED))
-_IS_NUMBER = tuple(name in _NUMBERS for name in COLUMNS)
 HEADER = ",".join(COLUMNS)
-_HEADER = (HEADER + "\n").encode()
+#: The columns up to version 0.5, which billed nothing.
+_UNBILLED = tuple(name for name in COLUMNS if name not in ("price", "billed"))
+_COLUMNS_OF = {(",".join(columns) + "\n").encode(): columns for columns in (COLUMNS, _UNBILLED)}
+_IS_NUMBER = {columns: tuple(name in _NUMBERS for name in columns) for columns in (COLUMNS, _UNBILLED)}
 #: Roughly the bytes of a row without its name.
 ROW_BYTES = 512
 #: The answer of the last row.
@@ -73,14 +83,23 @@ class TooLong(Damaged):
     """A line that is longer than any row."""
 
 
-def csv_line(row: Row) -> str:
-    """A row as a line of CSV; no field contains a line end."""
-    line = ",".join(["" if value is None else str(value) for value in row])
-    if line.count(",") == len(row) - 1 and '"' not in line:
+def with_billed(row: Row, cents: int) -> Row:
+    """A row with the cents that this run has billed; none for a file that costs nothing and was never billed."""
+    return row._replace(billed=None if row.price is None and not cents else cents)
+
+
+def _csv_text(values: Sequence[object]) -> str:
+    line = ",".join(["" if value is None else str(value) for value in values])
+    if line.count(",") == len(values) - 1 and '"' not in line:
         return line + "\n"
     out = io.StringIO()
-    csv.writer(out, lineterminator="\n").writerow(row)
+    csv.writer(out, lineterminator="\n").writerow(values)
     return out.getvalue()
+
+
+def csv_line(row: Row) -> str:
+    """A row as a line of CSV; no field contains a line end."""
+    return _csv_text(row)
 
 
 def json_line(row: Row) -> str:
@@ -88,22 +107,32 @@ def json_line(row: Row) -> str:
     return json.dumps({k: v for k, v in row._asdict().items() if v not in (None, "")}, ensure_ascii=False) + "\n"
 
 
-def parse_line(line: str) -> Row:
-    """The row of a line of CSV; raises `Damaged`."""
+def _fields(line: str) -> List[str]:
+    """The fields of a line of CSV; raises ValueError or csv.Error."""
+    if not line.endswith("\n"):
+        raise ValueError(line)
+    # Nearly every line has no quotes, and is split faster than csv reads it.
+    if '"' not in line and line[:-1].isprintable():
+        return line[:-1].split(",")
+    (fields,) = csv.reader([line], strict=True)
+    return fields
+
+
+def parse_line(line: str, columns: Tuple[str, ...] = COLUMNS) -> Row:
+    """The row of a line of CSV with these columns; raises `Damaged`."""
     try:
-        (fields,) = csv.reader([line], strict=True)
-        if not line.endswith("\n") or len(fields) != len(COLUMNS):
+        fields = _fields(line)
+        if len(fields) != len(columns):
             raise ValueError(line)
-        values = [(int(f) if f else None) if number else f for f, number in zip(fields, _IS_NUMBER)]
+        values = [(int(f) if f else None) if number else f for f, number in zip(fields, _IS_NUMBER[columns])]
     except (ValueError, csv.Error) as error:
         raise Damaged("no row of a report") from error
-    row = Row(**dict(zip(COLUMNS, values)))  # type: ignore[arg-type]
-    if csv_line(row) != line:
+    if _csv_text(values) != line:
         raise Damaged("no row of a report")
-    return row
+    return Row._make(values) if columns is COLUMNS else Row(**dict(zip(columns, values)))  # type: ignore[arg-type]
 
 
-def keyed(line: bytes) -> Tuple[bytes, Row]:
+def keyed(line: bytes, columns: Tuple[str, ...] = COLUMNS) -> Tuple[bytes, Row]:
     """The row of a report's line, and its name's key; raises `Damaged`."""
     if len(line) == LINE and not line.endswith(b"\n"):
         raise TooLong("longer than a row can be")
@@ -113,7 +142,7 @@ def keyed(line: bytes) -> Tuple[bytes, Row]:
         raise Damaged("no row of a report") from error
     if not text[:-1].isprintable() and names.UNSHOWN.search(text[:-1]):
         raise Damaged("no row of a report")
-    row = parse_line(text)
+    row = parse_line(text, columns)
     name = names.unquote(row.name)
     right = name == b"" if row.answer == TOTAL else names.proper(name) and names.quote(name) == row.name
     if not right:
@@ -122,7 +151,8 @@ def keyed(line: bytes) -> Tuple[bytes, Row]:
 
 
 class Totals:
-    """Sums over the rows of a report; the columns are summed over the files with a shortened form."""
+    """Sums over the rows of a report; the columns are summed over the files with a shortened form, but for
+    `billed`, which is summed over all."""
 
     def __init__(self) -> None:
         self.answers: Dict[str, int] = {"accepted": 0, "refused": 0, "unreadable": 0, "not sent": 0}
@@ -137,8 +167,9 @@ class Totals:
         self.as_sent += row.filed == "as sent"
         if row.filed == "yes":
             self._sums = [total + (value or 0) for total, value in zip(self._sums, _summed(row))]
-        elif row.filed == "spoiled":
-            self.spoiled += 1
+            return
+        self.spoiled += row.filed == "spoiled"
+        self._sums[-1] += row.billed or 0
 
     def join(self, other: "Totals") -> None:
         """Adds the sums over other rows."""
@@ -175,7 +206,8 @@ class Totals:
         return (
             f"instructions {s['instructions_sent']} to {s['instructions_short']}, "
             f"bytes {s['bytes_sent']} to {s['bytes_short']}, "
-            f"moved {s['moved']}, grown {s['grown']}, fresh {s['fresh']}, rescued {s['rescued']}"
+            f"moved {s['moved']}, grown {s['grown']}, fresh {s['fresh']}, rescued {s['rescued']}, "
+            f"price {s['price']}, billed {s['billed']}"
         )
 
     def row(self) -> Row:
@@ -183,19 +215,43 @@ class Totals:
         return Row(name="", answer=TOTAL, reason=self.answers_text(), filed="", **self.sums)  # type: ignore[arg-type]
 
 
-def entries(file: File) -> Iterator[Tuple[bytes, Row]]:
-    """The rows of a report or of a part of one that are whole and in order, with their names' keys."""
+def _header(file: File) -> bytes:
+    """A report's first line; nothing if there is no such file."""
+    try:
+        with file.open() as stream:
+            return stream.readline(LINE)
+    except FileNotFoundError:
+        return b""
+
+
+def is_billed(file: File) -> bool:
+    """Is this a report, or a part of one, with the columns of this version?"""
+    return _COLUMNS_OF.get(_header(file)) == COLUMNS
+
+
+def is_unbilled(file: File) -> bool:
+    """Is this a report, or a part of one, of a version that billed nothing?"""
+    return _COLUMNS_OF.get(_header(file)) == _UNBILLED
+
+
+def entries(file: File, most: Optional[int] = None) -> Iterator[Tuple[bytes, Row]]:
+    """The rows of a report or of a part of one that are whole and in order, with their names' keys; of a part,
+    those in its first bytes, if it is said how many."""
     try:
         stream = file.open()
     except FileNotFoundError:
         return
     with stream:
-        if stream.readline(LINE) != _HEADER:
+        header = stream.readline(LINE)
+        columns, last, read = _COLUMNS_OF.get(header), b"", len(header)
+        if columns is None:
             return
-        last = b""
         for line in lines(stream):
+            read += len(line)
+            if most is not None and read > most:
+                return
             try:
-                at, row = keyed(line)
+                at, row = keyed(line, columns)
             except TooLong:
                 return
             except Damaged:
@@ -207,15 +263,41 @@ def entries(file: File) -> Iterator[Tuple[bytes, Row]]:
                 yield at, row
 
 
-def _stream(file: File, number: int) -> Iterator[Tuple[bytes, int, Row]]:
-    for at, row in entries(file):
+def sound_length(file: File) -> int:
+    """How many bytes of a part of a report are its header and whole rows in order; 0 if it isn't of this version."""
+    try:
+        stream = file.open()
+    except FileNotFoundError:
+        return 0
+    with stream:
+        header = stream.readline(LINE)
+        if _COLUMNS_OF.get(header) != COLUMNS:
+            return 0
+        length, last = len(header), b""
+        for line in lines(stream):
+            try:
+                at, row = keyed(line)
+            except Damaged:
+                break
+            if row.answer == TOTAL or at <= last:
+                break
+            length, last = length + len(line), at
+    return length
+
+
+#: Rows with their names' keys, in order.
+Entries = Iterator[Tuple[bytes, Row]]
+
+
+def _numbered(entries: Entries, number: int) -> Iterator[Tuple[bytes, int, Row]]:
+    for at, row in entries:
         yield at, number, row
 
 
-def merged(*files: File) -> Iterator[Tuple[bytes, int, Row]]:
+def merged(*several: Entries) -> Iterator[Tuple[bytes, int, Row]]:
     """The rows of several reports in order, with their keys and which report has them; if several have a
     name, the row of the first."""
-    streams = [_stream(file, number) for number, file in enumerate(files)]
+    streams = [_numbered(entries, number) for number, entries in enumerate(several)]
     for _, same in groupby(heapq.merge(*streams), key=lambda item: item[0]):
         yield next(same)
 
@@ -231,16 +313,26 @@ def write_json(source: File, out: IO[str]) -> None:
 class Checked:
     """The rows of a complete report; what is found wrong with it on the way is added to `wrong`."""
 
-    def __init__(self, file: File) -> None:
-        self.file = file
+    def __init__(self, file: File, also_unbilled: bool = False) -> None:
+        self.file, self.also_unbilled = file, also_unbilled
         self.wrong: List[str] = []
         self.totals = Totals()
+        self._columns: Tuple[str, ...] = COLUMNS
         self._last, self._ended = b"", False
+
+    def _begin(self, header: bytes) -> bool:
+        """Are these columns that are read?"""
+        columns = _COLUMNS_OF.get(header)
+        if columns is None:
+            self.wrong.append("line 1: not the columns of a report")
+        elif columns == _UNBILLED and not self.also_unbilled:
+            self.wrong.append("line 1: the columns of version 0.5 or earlier; start the run again")
+        self._columns = columns or COLUMNS
+        return not self.wrong
 
     def __iter__(self) -> Iterator[Row]:
         with self.file.open() as stream:
-            if stream.readline(LINE) != _HEADER:
-                self.wrong.append("line 1: not the columns of a report")
+            if not self._begin(stream.readline(LINE)):
                 return
             for number, line in enumerate(lines(stream), 2):
                 try:
@@ -256,14 +348,18 @@ class Checked:
             if not self._ended:
                 self.wrong.append("the totals are missing")
 
+    def _total(self) -> Row:
+        due = self.totals.row()
+        return due if self._columns == COLUMNS else due._replace(price=None, billed=None)
+
     def _row(self, line: bytes) -> Row:
         """The row of the next line; raises `Damaged` if it can't come there."""
-        at, row = keyed(line)
+        at, row = keyed(line, self._columns)
         if self._ended:
             raise Damaged("after the totals")
         if row.answer == TOTAL:
             self._ended = True
-            if row != self.totals.row():
+            if row != self._total():
                 raise Damaged("the totals are not those of the rows")
         elif at <= self._last:
             raise Damaged("out of order, or a name twice")
@@ -274,8 +370,8 @@ class Checked:
 
 
 def sound(file: File) -> bool:
-    """Is this a whole report, with the totals of its rows?"""
-    checked = Checked(file)
+    """Is this a whole report, of this version or one that billed nothing, with the totals of its rows?"""
+    checked = Checked(file, also_unbilled=True)
     try:
         for _ in checked:
             pass

@@ -125,9 +125,14 @@ def ordered(
     tasks: Iterable[Any], make: Callable[[int], Worker], jobs: int, size: Callable[[Any], int], most: int = CHUNK
 ) -> Iterator[Any]:
     """The results of the tasks, chunk by chunk, in order."""
+    return ordered_chunks(chunks(tasks, size, most), make, jobs)
+
+
+def ordered_chunks(coming: Iterator[List[Any]], make: Callable[[int], Worker], jobs: int) -> Iterator[Any]:
+    """The results of the chunks, in order."""
     if jobs == 1:
         work = make(0)
-        for chunk in chunks(tasks, size, most):
+        for chunk in coming:
             yield work(chunk)
         return
     # Imported only here, so that a script that only shortens doesn't wait for it.
@@ -143,7 +148,7 @@ def ordered(
             process.start()
             there.close()
             started.append((process, here))
-        yield from _results([link for _, link in started], chunks(tasks, size, most))
+        yield from _results([link for _, link in started], coming)
     finally:
         for _, link in started:
             link.close()

@@ -5,7 +5,9 @@ import csv
 import hashlib
 import os
 import pathlib
+import re
 import shutil
+import struct
 import subprocess
 import sys
 import tempfile
@@ -61,6 +63,30 @@ def tree(folder):
                 with open(path, "rb") as file:
                     found[at] = hashlib.sha256(file.read()).hexdigest()
     return found
+
+
+def unbilled(folder):
+    """As `tree`, without what a run bills: the accounts, and what the reports say of it."""
+    found = tree(folder)
+    found.pop(b".halivomue/accounts", None)
+    if b"report.csv" in found:
+        rows = [[value for name, value in row.items() if name != "billed"] for row in rows_of(folder).values()]
+        found[b"report.csv"] = hashlib.sha256(repr(rows).encode()).hexdigest()
+    if b"report.jsonl" in found:
+        found[b"report.jsonl"] = hashlib.sha256(re.sub(', "billed": [0-9]+', "", "\n".join(lines_of(folder, "report.jsonl"))).encode()).hexdigest()
+    return found
+
+
+def accounts_of(folder):
+    """The accounts that a run keeps under FILED."""
+    with open(os.path.join(folder, ".halivomue", "accounts"), "rb") as file:
+        return halivomue.Accounts.load(file.read())
+
+
+def accounts_with(tally):
+    """Accounts with that tally, by their saved form as the documents say it."""
+    form = (b"HALIVACC" + struct.pack("<III", 1, 0, tally)).ljust(208, b"\0")
+    return halivomue.Accounts.load(form + bytes(255 - byte for byte in form))
 
 
 def lines_of(folder, name="report.csv"):
@@ -131,5 +157,5 @@ def in_child(work):
     return os.waitpid(child, 0)[1]
 
 
-__all__ = ["Case", "HERE", "PROGRAM", "REFERENCE", "ROOT", "SAMPLES", "halivomue", "in_child", "lines_of", "provision_here",
-           "provisioning", "replaced", "rows_of", "run", "sample", "tree", "unittest"]
+__all__ = ["Case", "HERE", "PROGRAM", "REFERENCE", "ROOT", "SAMPLES", "accounts_of", "accounts_with", "halivomue", "in_child", "lines_of",
+           "provision_here", "provisioning", "replaced", "rows_of", "run", "sample", "tree", "unbilled", "unittest"]

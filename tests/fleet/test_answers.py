@@ -85,7 +85,7 @@ class Program(Case):
             except Refused as refused:
                 self.assertIn(f"refused {refused.number} {refused.record}", said)
                 continue
-            self.assertIn(due.counts, said)
+            self.assertTrue(said.endswith(f": {due.counts} price {due.price}\n"), said)
             with open(out, "rb") as file:
                 self.assertEqual(file.read(), due.data)
 

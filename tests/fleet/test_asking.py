@@ -88,8 +88,8 @@ class Shortened(Case):
         paths = [str(path) for path in sorted(SAMPLES.glob("*.call"))]
         out, _ = run("shorten", *paths, self.out + "/", status=1)
         self.assertEqual([line.rsplit("/", 1)[1] for line in out.splitlines()],
-                         ["forwarding.call: moved 0 grown 0 fresh 0 rescued 0", "printed.call: moved 1 grown 2 fresh 0 rescued 0",
-                          "refused.call: refused 7 9", "untidy.call: moved 0 grown 0 fresh 0 rescued 0"])
+                         ["forwarding.call: moved 0 grown 0 fresh 0 rescued 0 price 11", "printed.call: moved 1 grown 2 fresh 0 rescued 0 price 3",
+                          "refused.call: refused 7 9", "untidy.call: moved 0 grown 0 fresh 0 rescued 0 price 12"])
         self.assertEqual(sorted(os.listdir(self.out)), ["forwarding.call", "printed.call", "untidy.call"])
         for name in ("forwarding", "printed", "untidy"):
             self.assertEqual(open_bytes(os.path.join(self.out, name + ".call")), halivomue.shorten(sample(name)).data)
@@ -97,7 +97,7 @@ class Shortened(Case):
     def test_json(self):
         name, out = os.path.join(self.sent, "printed.call"), os.path.join(self.out, "x")
         told = json.loads(run("shorten", "--json", name, out)[0])
-        self.assertEqual(told, {"name": name, "answer": "accepted", "moved": 1, "grown": 2, "fresh": 0, "rescued": 0, "out": out})
+        self.assertEqual(told, {"name": name, "answer": "accepted", "moved": 1, "grown": 2, "fresh": 0, "rescued": 0, "price": 3, "out": out})
 
     def test_over_themselves(self):
         """IN's own folder may be OUT; modes stay."""

@@ -5,7 +5,7 @@ import io
 import os
 import shutil
 
-from common import Case, halivomue, provision_here, run, sample, tree, unittest
+from common import Case, halivomue, provision_here, run, sample, unbilled, unittest
 
 import fleet
 from halivomue import names, report
@@ -23,7 +23,7 @@ class Tampered(Case):
         self.put("refused.call", sample("refused"))
         self.put("untidy.call", sample("untidy"))
         provision_here(self.sent, self.filed, json=False)
-        self.before = tree(self.filed)
+        self.before = unbilled(self.filed)
         self.assertEqual(self.audit(0), ["6 files compared: all as filed"])
 
     def audit(self, status=1, jobs="1"):
@@ -134,7 +134,7 @@ class Tampered(Case):
         self.assertEqual(found[:2], ["b.call: foreign: no report has it", "b.call.short: foreign: no report has it"])
         os.unlink(self.at("report.csv"))
         provision_here(self.sent, self.filed)
-        self.assertEqual(tree(self.filed), self.before)
+        self.assertEqual(unbilled(self.filed), self.before)
         self.report(lambda lines: [*lines[:-1], ["z.call", *lines[1][1:]], lines[-1]])
         self.assertIn("z.call: missing: the sent form", self.audit())
 
@@ -183,7 +183,7 @@ class Tampered(Case):
         lines = data.splitlines(keepends=True)
         self.write("report.csv", b"".join([*lines[:2], lines[3], lines[2], *lines[4:]]))
         self.assertTrue(any("out of order, or a name twice" in line for line in self.audit()))
-        self.write("report.csv", data + b"x.call" + b"," * 17 + b"\n")
+        self.write("report.csv", data + b"x.call" + b"," * 19 + b"\n")
         self.assertIn("report.csv: report: line 10: after the totals", self.audit())
         os.unlink(self.at("report.csv"))
         self.assertEqual(self.audit()[0], "report.csv: missing: the report; start the run again")
@@ -201,13 +201,13 @@ class Tampered(Case):
     def test_19_a_name_that_leads_out_of_the_folder(self):
         outside = self.put("outside.call", sample("printed"), self.folder)
         self.put("outside.call.short", halivomue.shorten(sample("printed")).data, self.folder)
-        before = tree(self.filed)
+        before = unbilled(self.filed)
         for name in ("../outside.call", os.fsdecode(outside), "a/../b.call", "\\x41"):
             self.column("b.call", "name", name)
             told = [line for line in self.audit() if "no name of a file" in line or "out of order" in line]
             self.assertEqual(len(told), 1, name)
             provision_here(self.sent, self.filed)
-            self.assertEqual(tree(self.filed), before)
+            self.assertEqual(unbilled(self.filed), before)
 
     def test_20_a_file_that_is_filed_without_a_shortened_form(self):
         short = halivomue.shorten(sample("untidy")).data
@@ -229,7 +229,7 @@ class Tampered(Case):
         self.column("b.call", "filed", "as sent")
         self.assertIn("b.call: report: it has no shortened form in the report and has one by the library", self.audit())
         provision_here(self.sent, self.filed)
-        self.assertEqual(tree(self.filed), self.before)
+        self.assertEqual(unbilled(self.filed), self.before)
 
     def test_17_the_report_in_json(self):
         provision_here(self.sent, self.filed, json=True)
@@ -243,14 +243,14 @@ class Tampered(Case):
         self.named(".halivomue/part.csv: foreign: left over by a run that was interrupted; start it again",
                    "a/.halivomue.0.sent.tmp: foreign: left over by a run that was interrupted; start it again")
         provision_here(self.sent, self.filed)
-        self.assertEqual(tree(self.filed), self.before)
+        self.assertEqual(unbilled(self.filed), self.before)
 
     def test_the_run_mends_it(self):
         for name in ("b.call", "a/one.call.short"):
             self.write(name, b"")
         os.unlink(self.at("a/two.call"))
         provision_here(self.sent, self.filed)
-        self.assertEqual(tree(self.filed), self.before)
+        self.assertEqual(unbilled(self.filed), self.before)
 
     def test_any_change_is_noticed(self):
         """Of every file under FILED, some bytes changed one by one."""

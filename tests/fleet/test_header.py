@@ -1,4 +1,4 @@
-"""The C header: its version, constants and words, halivomue_version and halivomue_provision, and a library of another version."""
+"""The C header: its version, constants, words and structs, halivomue_version and halivomue_provision, and a library of another version."""
 
 import os
 import re
@@ -27,7 +27,9 @@ int main(void)
 
     printf("%s\\n%d %d\\n%lu\\n", HALIVOMUE_VERSION, HALIVOMUE_VERSION_MAJOR, HALIVOMUE_VERSION_MINOR, (unsigned long)halivomue_version());
     printf("%d %d\\n", HALIVOMUE_LONGEST, HALIVOMUE_ROOM);
-    for (number = 0; number < 11; number++) {
+    printf("%d %d\\n", HALIVOMUE_CEILING_CENTS, HALIVOMUE_DEAREST);
+    printf("%lu %d\\n", (unsigned long)sizeof(struct halivomue_accounts), HALIVOMUE_ACCOUNTS_SAVED);
+    for (number = 0; number < 12; number++) {
         const char *reason = halivomue_reason(number);
 
         printf("%s\\n", reason ? reason : "none");
@@ -55,8 +57,9 @@ class Header(Case):
         self.assertEqual(f"{major}.{minor}", lines[0])
         self.assertEqual(int(lines[2]), 65536 * major + minor)
         self.assertEqual(lines[3], f"{halivomue.LONGEST} {halivomue.ROOM}")
-        due = [as_in_c(words._REASONS[number]) for number in range(1, 10)]
-        self.assertEqual(lines[4:], ["", *due, "none"])
+        self.assertEqual(lines[4:6], [f"{words.CEILING_CENTS} {words.DEAREST}", f"512 {words.ACCOUNTS_SAVED}"])
+        due = [as_in_c(words._REASONS[number]) for number in range(1, 11)]
+        self.assertEqual(lines[6:], ["", *due, "none"])
         for reason in due:
             self.assertNotIn("{", reason)
 

@@ -2,35 +2,64 @@
 
 import os
 
-from common import Case, sample, tree, unittest
+from common import Case, rows_of, sample, tree, unittest
 
 import fleet
 import killed
+from halivomue.answers import CEILING_CENTS
 
 POINTS = int(os.environ.get("FLEET_KILLS", "24"))
+#: A small run is killed every so many calls, and at each of its last ones, where the accounts and the report are put.
+STEP, END = int(os.environ.get("FLEET_STEP", "7")), 50
 
 
 class Killed(Case):
-    def make(self, count):
+    def make(self, count, **more):
         fleet.write(self.sent, count, 40)
         self.put("refused.call", sample("refused"))
         self.put(b"odd \xff\n name/x.call", sample("untidy"))
         os.symlink("refused.call", os.path.join(self.sent, "link.call"))
-        return killed.Trial(self.folder, self.sent)
+        return killed.Trial(self.folder, self.sent, **more)
+
+    def tried(self, trial, points):
+        tally, faults = killed.campaign(trial, points)
+        self.assertEqual(faults, [])
+        self.assertGreater(tally["killed"], points * 0.7)
+        self.assertGreater(tally["killed twice"], 0)
+        self.assertGreater(tally["files not done again"], points)
 
     def test_killed_and_taken_up_again(self):
-        trial = self.make(60)
-        tally, faults = killed.campaign(trial, POINTS)
-        self.assertEqual(faults, [])
-        self.assertGreater(tally["killed"], POINTS * 0.7)
-        self.assertGreater(tally["killed twice"], 0)
-        self.assertGreater(tally["files not done again"], POINTS)
+        self.tried(self.make(60), POINTS)
+
+    def test_near_the_ceiling(self):
+        """The tally has room for half of the files: 10 is met in the middle."""
+        trial = self.make(60, start=CEILING_CENTS - 500)
+        numbers = [row["number"] for row in rows_of(trial.due_folder).values()]
+        self.assertGreater(numbers.count("10"), 5)
+        self.assertGreater(trial.after, CEILING_CENTS - 30)
+        self.tried(trial, POINTS // 2)
+
+    def test_at_every_call_of_a_small_run(self):
+        """Its start and its end are killed between each two steps; the accounts stand beside FILED."""
+        self.put("a.call", sample("printed"))
+        self.put("b.call", sample("forwarding"))
+        for beside in (False, True):
+            folder = os.path.join(self.folder, f"trials{beside:d}")
+            os.mkdir(folder)
+            trial = killed.Trial(folder, self.sent, start=7, beside=beside)
+            self.assertEqual((trial.after, trial.billed), (21, (14, 14)))
+            calls = trial.calls()
+            for at in sorted({*range(1 + beside, calls, STEP), *range(calls - (END if beside else 0), calls + 1)}):
+                filed, moment = trial.fresh(), "half" if at % 2 else "before"
+                self.assertTrue(trial.kill_at(filed, at, moment, jobs=1))
+                self.assertEqual(trial.half_written(filed), [], (at, moment))
+                self.assertEqual(trial.taken_up(filed)[0], [], (at, moment))
 
     def test_a_fault_would_be_noticed(self):
         """A run that writes files in place is seen half-written by the same trial."""
         trial = self.make(3)
         seen = 0
-        for at in range(1, trial.calls()):
+        for at in range(1, trial.calls(), 3):
             filed = trial.fresh()
 
             def in_place(files, flush, folder, *_):

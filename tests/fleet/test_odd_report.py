@@ -8,7 +8,7 @@ import shutil
 import subprocess
 import sys
 
-from common import ROOT, Case, halivomue, lines_of, provision_here, run, sample, tree, unittest
+from common import ROOT, Case, halivomue, lines_of, provision_here, run, sample, unbilled, unittest
 
 
 class Odd(Case):
@@ -17,7 +17,7 @@ class Odd(Case):
         self.put("a.call", sample("printed"))
         self.put("b.call", sample("printed"))
         provision_here(self.sent, self.filed)
-        self.before = tree(self.filed)
+        self.before = unbilled(self.filed)
         self.out = os.path.join(self.folder, "page.html")
 
     def at(self, name):
@@ -62,7 +62,7 @@ class Names(Odd):
             self.assertFalse(os.path.exists(self.out))
             status, _, said = self.started("provision", self.sent, self.filed)
             self.assertEqual((status, said), (0, ""))
-            self.assertEqual(tree(self.filed), self.before)
+            self.assertEqual(unbilled(self.filed), self.before)
 
     def test_control_characters_in_a_row(self):
         """They don't come into the next report, nor to a terminal."""
@@ -72,7 +72,7 @@ class Names(Odd):
             file.write(text.replace(b"b.call,accepted,,,,", b"b.call,accepted,,,\x1b[31m,"))
         self.assertIn("line 3: no row of a report", self.started("audit", self.filed)[1])
         self.started("provision", self.sent, self.filed)
-        self.assertEqual(tree(self.filed), self.before)
+        self.assertEqual(unbilled(self.filed), self.before)
 
     def test_what_follows_a_damaged_line_is_still_known(self):
         """A file that isn't sent any more stays in the report."""
@@ -106,7 +106,7 @@ class Places(Odd):
                     self.assertTrue(out.startswith(f"{name}: "), out)
             os.unlink(self.at(name))
             provision_here(self.sent, self.filed)
-            self.assertEqual(tree(self.filed), self.before)
+            self.assertEqual(unbilled(self.filed), self.before)
 
     def test_a_link(self):
         """None is followed, to be read or to be written."""
@@ -120,7 +120,7 @@ class Places(Odd):
             self.assertEqual((status, out, said), (2, "", f"halivomue provision: {self.at(name)}: a symbolic link, not followed\n"))
             os.unlink(self.at(name))
             provision_here(self.sent, self.filed)
-            self.assertEqual(tree(self.filed), self.before)
+            self.assertEqual(unbilled(self.filed), self.before)
         with open(victim) as file:
             self.assertEqual(file.read(), "victim")
 
@@ -147,7 +147,7 @@ class Places(Odd):
         with open(victim) as file:
             self.assertEqual(file.read(), "victim")
         provision_here(self.sent, self.filed)
-        self.assertEqual(tree(self.filed), self.before)
+        self.assertEqual(unbilled(self.filed), self.before)
 
 
 class Long(Odd):

@@ -79,6 +79,12 @@ class Samples(unittest.TestCase):
             self.assertEqual(halivomue.read(bytes(length)).number, 2 if length == 65_536 else 1)
 
 
+def price(data, grown):
+    """What a file costs: 40 hundredths of a cent for each instruction and 15 for each appended one, half a cent up."""
+    hundredths = 40 * data[::32].count(4) + 15 * grown
+    return hundredths // 100 + (hundredths % 100 >= 50)
+
+
 class Stored(unittest.TestCase):
     """The vectors and the stored answers of the published Rust, through the package."""
 
@@ -101,7 +107,7 @@ class Stored(unittest.TestCase):
             except Refused as refused:
                 self.assertEqual((refused.number, refused.record), (due.number, due.record), due.name)
             else:
-                self.assertEqual(got, Shortening(due.output, due.moved, due.grown, due.fresh, due.rescued), due.name)
+                self.assertEqual(got, Shortening(due.output, due.moved, due.grown, due.fresh, due.rescued, price(due.input, due.grown)), due.name)
                 self.assertEqual(due.number, 0)
         self.assertGreater(tried, 700)
 
@@ -186,16 +192,17 @@ class Types(Case):
         asked = []
 
         class Spy:
-            number = record = tidy = reg = length = moved = grown = fresh = rescued = 0
+            number = record = tidy = reg = length = moved = grown = fresh = rescued = price = 0
 
-            def __call__(self, data, length, *room):
+            def __call__(self, *words):
+                data, length = words[-4:-2] if len(words) == 5 else words
                 asked.append((data if isinstance(data, int) else id(data), length))
                 return self
 
         data = bytearray(sample("printed"))
         address = ctypes.addressof(ctypes.c_char.from_buffer(data))
         functions = _library.functions()
-        for name, call in (("read", halivomue.read), ("tidy", halivomue.tidy), ("shorten", halivomue.shorten)):
+        for name, call in (("read", halivomue.read), ("tidy", halivomue.tidy), ("shorten_for", halivomue.shorten)):
             before = getattr(functions, name)
             setattr(functions, name, Spy())
             try:
@@ -258,7 +265,7 @@ class Answers(unittest.TestCase):
         self.assertTrue(halivomue.shorten(sample("forwarding")))
 
     def test_frozen(self):
-        made = (Reading(0, 0), Tidiness(0, 0, True, 0), Shortening(b"", 0, 0, 0, 0))
+        made = (Reading(0, 0), Tidiness(0, 0, True, 0), Shortening(b"", 0, 0, 0, 0, 0))
         for answer in made:
             with self.assertRaises(AttributeError):
                 answer.number = 1
@@ -270,7 +277,7 @@ class Answers(unittest.TestCase):
         self.assertEqual(repr(made[1]), "Tidiness(number=0, record=0, tidy=True, reg=0)")
 
     def test_every_refusal_has_words(self):
-        for number in range(1, 10):
+        for number in range(1, 11):
             self.assertGreater(len(Refused(number, 3).reason), 20)
             self.assertEqual("record 3" in Refused(number, 3).reason, number in (2, 4, 5, 6, 7))
             self.assertEqual(pickle.loads(pickle.dumps(Refused(number, 3))).reason, Refused(number, 3).reason)
@@ -322,21 +329,21 @@ class Threads(unittest.TestCase):
     def test_a_call_within_a_call_keeps_its_bytes(self):
         """A call that a signal handler makes, in the same thread, takes another buffer."""
         functions = _library.functions()
-        before, other = functions.shorten, bytes(fleet.procedure(3, 100))
+        before, other = functions.shorten_for, bytes(fleet.procedure(3, 100))
         due = halivomue.shorten(sample("printed"))
         within = []
 
         def interrupted(*arguments):
             answer = before(*arguments)
-            functions.shorten = before
+            functions.shorten_for = before
             within.append(halivomue.shorten(other))
             return answer
 
-        functions.shorten = interrupted
+        functions.shorten_for = interrupted
         try:
             self.assertEqual(halivomue.shorten(sample("printed")), due)
         finally:
-            functions.shorten = before
+            functions.shorten_for = before
         self.assertEqual(within, [halivomue.shorten(other)])
 
     def test_the_interpreters_lock_is_let_go(self):
@@ -345,7 +352,9 @@ class Threads(unittest.TestCase):
             struct reading { unsigned number, record; };
             struct reading halivomue_read(const void *b, unsigned long n) { usleep(200000); return (struct reading){0, 0}; }
             unsigned halivomue_version(void) { return 65536 * %d + %d; }
-            void halivomue_tidy(void) {} void halivomue_shorten(void) {} void halivomue_provision(void) {}"""
+            void halivomue_tidy(void) {} void halivomue_shorten_for(void) {} void halivomue_provision_for(void) {}
+            void halivomue_tally(void) {} void halivomue_accounts_make(void) {} void halivomue_accounts_save(void) {}
+            void halivomue_accounts_load(void) {} void halivomue_accounts_join(void) {}"""
         source %= tuple(map(int, halivomue.__version__.split(".")))
         with tempfile.TemporaryDirectory() as folder:
             stub = os.path.join(folder, "libstub.so")

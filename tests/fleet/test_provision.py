@@ -13,7 +13,9 @@ import subprocess
 import sys
 import time
 
-from common import Case, ROOT, halivomue, in_child, lines_of, provision_here, provisioning, replaced, rows_of, run, sample, tree, unittest
+from common import (
+    Case, ROOT, accounts_of, halivomue, in_child, lines_of, provision_here, provisioning, replaced, rows_of, run, sample, tree, unbilled, unittest,
+)  # fmt: skip
 
 import fleet
 from halivomue import filer, filing, names, report
@@ -31,10 +33,11 @@ class Samples(Case):
             "refused.call: refused 7 9 (record 9 names a register, block, table or list that does not exist)",
             "untidy.call: filed without a shortened form (register 5 is written once, and read elsewhere than later in the same block)",
             "4 files: 3 accepted, 1 refused, 0 unreadable, 1 untidy, 1 without a shortened form",
-            "instructions 34 to 34, bytes 2336 to 2336, moved 1, grown 2, fresh 0, rescued 0",
+            "instructions 34 to 34, bytes 2336 to 2336, moved 1, grown 2, fresh 0, rescued 0, price 14, billed 14",
+            f"the tally is 14 cents: {self.filed}/.halivomue/accounts",
             f"3 filed; report: {self.filed}/report.csv",
         ])
-        due = {".halivomue", ".halivomue/lock", "report.csv"}
+        due = {".halivomue", ".halivomue/lock", ".halivomue/accounts", "report.csv"}
         for name in ("forwarding", "printed", "untidy"):
             due |= {f"{name}.call"}
             with open(os.path.join(self.filed, f"{name}.call"), "rb") as file:
@@ -53,8 +56,8 @@ class Samples(Case):
         self.assertEqual(list(rows), ["forwarding.call", "printed.call", "refused.call", "untidy.call", ""])
         printed = rows["printed.call"]
         self.assertEqual([printed[k] for k in ("answer", "tidy", "reg", "instructions_sent", "instructions_short", "bytes_sent",
-                                               "bytes_short", "moved", "grown", "fresh", "rescued", "filed")],
-                         ["accepted", "yes", "", "6", "6", "352", "352", "1", "2", "0", "0", "yes"])
+                                               "bytes_short", "moved", "grown", "fresh", "rescued", "price", "billed", "filed")],
+                         ["accepted", "yes", "", "6", "6", "352", "352", "1", "2", "0", "0", "3", "3", "yes"])
         self.assertEqual(len(printed["sha256_sent"]), 64)
         self.assertNotEqual(printed["sha256_sent"], printed["sha256_short"])
         self.assertEqual((rows["untidy.call"]["tidy"], rows["untidy.call"]["reg"]), ("no", "5"))
@@ -79,17 +82,17 @@ class Samples(Case):
         self.samples()
         run("provision", self.sent, self.filed, status=1)
         before = {name: os.stat(os.path.join(os.fsencode(self.filed), name)).st_mtime_ns for name in tree(self.filed) if b".call" in name}
-        first = tree(self.filed)
+        first = unbilled(self.filed)
 
-        def not_filed_with_short(data, before=provisioning._library.provisioned):
+        def not_filed_with_short(data, *words, before=provisioning._library.provisioned):
             """What is refused, or filed without a shortened form, is asked for the reason again."""
             self.assertIn(data, (sample("refused"), sample("untidy")))
-            return before(data)
+            return before(data, *words)
 
         with replaced(provisioning._library, "provisioned", not_filed_with_short):
             outcome, _ = provision_here(self.sent, self.filed)
         self.assertEqual((outcome.done, outcome.kept), (0, 3))
-        self.assertEqual(tree(self.filed), first)
+        self.assertEqual(unbilled(self.filed), first)
         after = {name: os.stat(os.path.join(os.fsencode(self.filed), name)).st_mtime_ns for name in before}
         self.assertEqual(after, before)
 
@@ -255,11 +258,11 @@ class Odd(Case):
         self.assertEqual(outcome.kept, len(self.NAMES))
         plain = {"LC_ALL": "C", "PYTHONUTF8": "0", "PYTHONCOERCECLOCALE": "0"}
         run("provision", "--json", self.sent, self.filed + "C", env=plain)
-        self.assertEqual(tree(self.filed + "C"), tree(self.filed))
+        self.assertEqual(unbilled(self.filed + "C"), unbilled(self.filed))
         for name in self.NAMES:
             self.put(name, sample("refused"))
         out, _ = run("provision", self.sent, self.filed + "C", env=plain, status=1)
-        self.assertEqual(len(out.splitlines()), len(self.NAMES) + 3)
+        self.assertEqual(len(out.splitlines()), len(self.NAMES) + 4)
         self.assertIn("größe-電話.call: refused 7 9", out)
 
     def test_quoting_can_be_undone(self):
@@ -291,7 +294,7 @@ class Odd(Case):
             self.put(f"a{character}llac.call", sample("refused"))
         out, _ = run("provision", self.sent, self.filed, status=1)
         self.assertIn("a\\xe2\\x80\\xaellac.call: refused 7 9", out)
-        self.assertEqual(len(out.splitlines()), len(hidden) + 3)
+        self.assertEqual(len(out.splitlines()), len(hidden) + 4)
         with open(os.path.join(self.filed, "report.csv"), encoding="utf-8") as file:
             self.assertEqual(set(file.read()) & set(hidden), set())
         self.assertEqual({os.fsdecode(names.unquote(name)) for name in rows_of(self.filed) if name},
@@ -460,7 +463,7 @@ class Changing(Case):
         outcome, _ = provision_here(self.sent, self.filed)
         self.assertEqual(outcome.done, 1)
         provision_here(self.sent, self.filed + "2")
-        self.assertEqual(tree(self.filed), tree(self.filed + "2"))
+        self.assertEqual(unbilled(self.filed), unbilled(self.filed + "2"))
 
     def test_refused_later(self):
         """What an earlier run filed stays, is reported, and is audited."""
@@ -505,14 +508,14 @@ class Changing(Case):
     def test_altered_forms_are_filed_again(self):
         self.put("a.call", sample("printed"))
         provision_here(self.sent, self.filed)
-        before = tree(self.filed)
+        before = unbilled(self.filed)
         for name in ("a.call", "a.call.short"):
             self.put(name, b"#", self.filed)
             outcome, _ = provision_here(self.sent, self.filed)
-            self.assertEqual((outcome.done, tree(self.filed)), (1, before))
+            self.assertEqual((outcome.done, unbilled(self.filed)), (1, before))
             os.unlink(os.path.join(self.filed, name))
             outcome, _ = provision_here(self.sent, self.filed)
-            self.assertEqual((outcome.done, tree(self.filed)), (1, before))
+            self.assertEqual((outcome.done, unbilled(self.filed)), (1, before))
 
 
 class Folders(Case):
@@ -728,7 +731,9 @@ class Together(Case):
         for said, status in ended:
             self.assertIn(status, (1, 2))
             self.assertEqual(b"another run" in said, status == 2, said)
-        self.assertEqual(tree(self.filed), tree(self.filed + "2"))
+        # A run that began when another was over billed nothing.
+        self.assertEqual(unbilled(self.filed), unbilled(self.filed + "2"))
+        self.assertEqual(accounts_of(self.filed), accounts_of(self.filed + "2"))
 
 
 class Parts(Case):
@@ -737,7 +742,7 @@ class Parts(Case):
     def test_lines_are_those_of_the_csv_module(self):
         texts = ("", "plain", "a,b", 'a"b', '"', ",", " a ", "größe", "\\x0a", "None", "'", "=1")
         for number, text in enumerate(texts):
-            for row in (report.Row(text, "accepted", None, 0, text, bytes_sent=number), report.Row(text, text, *[text] * 16)):
+            for row in (report.Row(text, "accepted", None, 0, text, bytes_sent=number), report.Row(text, text, *[text] * 18)):
                 out = io.StringIO()
                 csv.writer(out, lineterminator="\n").writerow(row)
                 self.assertEqual(report.csv_line(row), out.getvalue())
@@ -779,7 +784,7 @@ class Parts(Case):
         """The audit reports it, and a run files everything again and replaces it."""
         self.samples()
         provision_here(self.sent, self.filed)
-        due = tree(self.filed)
+        due = unbilled(self.filed)
         path = os.path.join(self.filed, "report.csv")
         with open(path) as file:
             lines = file.read().splitlines()
@@ -789,7 +794,7 @@ class Parts(Case):
             self.assertIn("line 1: not the columns of a report", run("audit", self.filed, status=1)[0])
             outcome, _ = provision_here(self.sent, self.filed)
             self.assertEqual((outcome.done, outcome.kept), (3, 0))
-            self.assertEqual(tree(self.filed), due)
+            self.assertEqual(unbilled(self.filed), due)
 
     def modes(self, name, umask):
         before = os.umask(umask)

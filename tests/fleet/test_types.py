@@ -19,9 +19,15 @@ def each(row: halivomue.Row) -> None:
 data = pathlib.Path("x").read_bytes()
 if halivomue.tidy(data):
     short: bytes = halivomue.shorten(data).data
+    cents: int = halivomue.shorten(data).price
+accounts: halivomue.Accounts = halivomue.Accounts.load(bytes(halivomue.Accounts()))
+joined: bool = accounts.join(halivomue.Accounts())
+print(accounts.shorten(data).price, accounts.tally, joined)
+with halivomue.AccountsFile("shop") as kept:
+    kept.shorten(memoryview(data))
 p: halivomue.Procedure = halivomue.Procedure.parse(memoryview(data))
 print(p.code[0].shape.number, [i.targets for i in p.code])
-outcome: halivomue.Outcome = halivomue.provision("sent", pathlib.Path("filed"), jobs=2, each=each)
+outcome: halivomue.Outcome = halivomue.provision("sent", pathlib.Path("filed"), jobs=2, accounts="shop", each=each)
 print(outcome.totals.answers["accepted"] + outcome.done)
 """
 

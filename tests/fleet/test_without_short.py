@@ -2,7 +2,7 @@
 
 import os
 
-from common import Case, halivomue, provision_here, rows_of, run, sample, tree, unittest
+from common import Case, halivomue, provision_here, rows_of, run, sample, tree, unbilled, unittest
 
 
 class WithoutShort(Case):
@@ -37,9 +37,9 @@ class WithoutShort(Case):
             self.assertEqual([row[column] for column in ("instructions_short", "bytes_short", "moved", "grown", "sha256_short")], [""] * 5)
         self.assertEqual(rows[""]["instructions_sent"], "6")
         run("audit", self.filed)
-        before = tree(self.filed)
+        before = unbilled(self.filed)
         outcome, _ = provision_here(self.sent, self.filed)
-        self.assertEqual((outcome.done, outcome.kept, tree(self.filed)), (0, 3, before))
+        self.assertEqual((outcome.done, outcome.kept, unbilled(self.filed)), (0, 3, before))
         _, lines = provision_here(self.sent, self.filed + "2", strict=True)
         self.assertEqual([line.split(" (")[0] for line in lines], ["large.call: filed without a shortened form, refused 8 0", "wide.call: refused"])
 

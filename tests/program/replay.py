@@ -5,8 +5,8 @@ usage: replay.py [--write] TEXT..
 
 A TEXT is a file of runs (.txt), or a page whose indented blocks are runs (.md). All runs of a TEXT
 are made in one new folder, where `halivomue` is a symbolic link to the script of that name,
-`program` one to the program itself, `tree`, `other`, `disk` and `stored` are the scripts here, and `samples` the samples. There are
-three kinds of block:
+`program` one to the program itself, `tree`, `other`, `disk`, `stored` and `account` are the scripts here, and `samples` the
+samples. There are three kinds of block:
 
   NAME.call:        makes a file: a record on each line, in decimal: class kind op statement p1 .. p6;
                     what is missing is 0, and a ; starts a comment
@@ -73,7 +73,7 @@ def replay(path, write):
         for name, target in (("bin/halivomue", "halivomue"), ("halivomue", "halivomue"), ("samples", "samples"),
                              ("bin/program", "crates/halivomue/out/halivomue"), ("bin/tree", "tests/program/tree"),
                              ("bin/other", "tests/program/other"), ("bin/disk", "tests/program/disk"),
-                             ("bin/stored", "tests/program/stored.py")):
+                             ("bin/stored", "tests/program/stored.py"), ("bin/account", "tests/program/account.py")):
             os.symlink(os.path.join(ROOT, target), os.path.join(folder, name))
         for block in blocks_of(path):
             if path.endswith(".md") and any(line.startswith("$ python3 -m halivomue") for line in block):

@@ -48,16 +48,60 @@ static void call_provision(const uint8_t *bytes, size_t length)
     (void)halivomue_provision(bytes, length, out, sizeof out);
 }
 
+static struct halivomue_accounts accounts;
+
+/* The tally is set to this before each call. */
+static uint32_t tally;
+
+static void call_shorten_for(const uint8_t *bytes, size_t length)
+{
+    static uint8_t out[HALIVOMUE_ROOM];
+
+    accounts.words[0] = tally;
+    (void)halivomue_shorten_for(&accounts, bytes, length, out, sizeof out);
+}
+
+static void call_provision_for(const uint8_t *bytes, size_t length)
+{
+    static uint8_t out[HALIVOMUE_ROOM];
+
+    accounts.words[0] = tally;
+    (void)halivomue_provision_for(&accounts, bytes, length, out, sizeof out);
+}
+
+/* All functions that only handle accounts: the header has one number for them. A saved form and the file are loaded. */
+static void call_accounts(const uint8_t *bytes, size_t length)
+{
+    static struct halivomue_accounts part;
+    static uint8_t saved[HALIVOMUE_ACCOUNTS_SAVED];
+
+    halivomue_accounts_make(&part);
+    halivomue_accounts_save(&part, saved);
+    (void)halivomue_accounts_load(&part, saved, sizeof saved);
+    (void)halivomue_accounts_load(&part, bytes, length);
+    (void)halivomue_accounts_join(&accounts, &part);
+    (void)halivomue_tally(&accounts);
+}
+
+/* Above this tally a result may have to be written to the stack first. */
+enum { FAR = HALIVOMUE_CEILING_CENTS - HALIVOMUE_DEAREST };
+
 static struct {
     const char *name;
     caller call;
     size_t stated;
+    uint32_t tally;
     size_t most;
 } functions[] = {
-    {"halivomue_read", call_read, HALIVOMUE_READ_STACK, 0},
-    {"halivomue_tidy", call_tidy, HALIVOMUE_TIDY_STACK, 0},
-    {"halivomue_shorten", call_shorten, HALIVOMUE_SHORTEN_STACK, 0},
-    {"halivomue_provision", call_provision, HALIVOMUE_PROVISION_STACK, 0},
+    {"halivomue_read", call_read, HALIVOMUE_READ_STACK, 0, 0},
+    {"halivomue_tidy", call_tidy, HALIVOMUE_TIDY_STACK, 0, 0},
+    {"halivomue_shorten", call_shorten, HALIVOMUE_SHORTEN_STACK, 0, 0},
+    {"halivomue_provision", call_provision, HALIVOMUE_PROVISION_STACK, 0, 0},
+    {"halivomue_shorten_for, far from the ceiling", call_shorten_for, HALIVOMUE_SHORTEN_STACK, FAR, 0},
+    {"halivomue_shorten_for, near it", call_shorten_for, HALIVOMUE_SHORTEN_FOR_STACK, FAR + 1, 0},
+    {"halivomue_provision_for, far from the ceiling", call_provision_for, HALIVOMUE_PROVISION_STACK, FAR, 0},
+    {"halivomue_provision_for, near it", call_provision_for, HALIVOMUE_PROVISION_FOR_STACK, FAR + 1, 0},
+    {"the functions of accounts", call_accounts, HALIVOMUE_ACCOUNTS_STACK, 0, 0},
 };
 
 enum { FUNCTIONS = sizeof functions / sizeof functions[0] };
@@ -116,8 +160,10 @@ int main(void)
     for (length = next_file(bytes, &more); more; length = next_file(bytes, &more)) {
         files++;
         for (i = 0; i < FUNCTIONS; i++) {
-            size_t now = used(functions[i].call, bytes, length);
+            size_t now;
 
+            tally = functions[i].tally;
+            now = used(functions[i].call, bytes, length);
             if (now > functions[i].most)
                 functions[i].most = now;
         }

@@ -1,14 +1,17 @@
-// Reading whole files, replacing whole files, and standard output.
+// Reading whole files, replacing whole files, locks, and standard output.
 #![tactic(auto)]
 
 mod input;
+mod lock;
 mod name;
 mod reason;
 mod replacement;
 
 pub use input::{Cut, open, read_whole};
+pub use lock::{make_lock, remove_lock};
+pub use name::{are_same, must_be_free};
 pub use reason::fail;
-pub use replacement::replace;
+pub use replacement::{NAME_ROOM, Staged, must_be_plain, replace, stage, update};
 use std::io::ErrorKind;
 
 // Why a text for standard output wasn't written.

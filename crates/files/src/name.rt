@@ -1,11 +1,16 @@
 // Files' names as std takes them, which is as text.
 ghost use Rattle.io.specs.Counts.{IsPrefixLen};
 
+use std::fs;
+use std::fs::Metadata;
 use std::io::{Error, ErrorKind, Read};
+use std::os::unix::fs::MetadataExt;
 use std::rt::Files;
 
-// The system's number for "No such file or directory".
+// The system's numbers for "No such file or directory" and "File exists".
 const ENOENT: i32 = 2;
+
+const EEXIST: i32 = 17;
 
 // A name that is not UTF-8 can't be passed on.
 pub fn text_of(path: &[u8]) -> Result<&str, Error> {
@@ -60,4 +65,25 @@ pub fn find(rt: &impl Files, path: &[u8]) -> Result<(), Error> {
         return Ok(());
     }
     Err(Error::from_raw_os_error(ENOENT))
+}
+
+// Whether no file has the name.
+pub fn must_be_free(rt: &impl Files, path: &[u8]) -> Result<(), Error> {
+    match fs::symlink_metadata(rt, text_of(path)?) {
+        Ok(_) => Err(Error::from_raw_os_error(EEXIST)),
+        Err(why) if why.kind() == ErrorKind::NotFound => Ok(()),
+        Err(why) => Err(why),
+    }
+}
+
+fn about(rt: &impl Files, path: &[u8]) -> Result<Metadata, Error> {
+    fs::metadata(rt, text_of(path)?)
+}
+
+// Whether both names are of one file, however they are written.
+pub fn are_same(rt: &impl Files, one: &[u8], other: &[u8]) -> bool {
+    match (about(rt, one), about(rt, other)) {
+        (Ok(a), Ok(b)) => a.dev() == b.dev() && a.ino() == b.ino(),
+        _ => false,
+    }
 }

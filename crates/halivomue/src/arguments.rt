@@ -46,9 +46,10 @@ impl<R: Env> Iterator for Words<'_, R> {
     }
 }
 
-// What `--only` says, so far.
+// An option with a value, so far.
 #[derive(Clone, Copy, Debug, Default, PartialEq, Eq)]
-pub enum Only {
+pub enum Value {
+    // The option isn't there.
     #[default]
     Nothing,
     // Its value is still to come.
@@ -57,13 +58,29 @@ pub enum Only {
     Given { at: usize, from: usize },
 }
 
+impl Value {
+    // The value of an option that is argument i.
+    fn of(i: usize, word: Word) -> Value {
+        word.value
+            .map_or(Value::Waiting, |from| Value::Given { at: i, from })
+    }
+
+    // Takes argument i as the value, if one is still to come.
+    fn fill(&mut self, i: usize) {
+        if *self == Value::Waiting {
+            *self = Value::Given { at: i, from: 0 };
+        }
+    }
+}
+
 #[derive(Default, Drop)]
 pub struct Options {
     pub words: bool,
     pub status: bool,
     pub help: bool,
     pub version: bool,
-    pub only: Only,
+    pub only: Value,
+    pub accounts: Value,
     // The place of the first unknown option.
     pub unknown: Option<usize>,
     // The place of the command.
@@ -77,12 +94,12 @@ impl Options {
         match word.role {
             Role::Name => drop(self.names.try_push(i)),
             Role::Unknown => self.unknown = self.unknown.or(Some(i)),
-            Role::Value => self.only = Only::Given { at: i, from: 0 },
-            Role::Only => {
-                self.only = word
-                    .value
-                    .map_or(Only::Waiting, |from| Only::Given { at: i, from })
+            Role::Value => {
+                self.only.fill(i);
+                self.accounts.fill(i);
             }
+            Role::Only => self.only = Value::of(i, word),
+            Role::Accounts => self.accounts = Value::of(i, word),
             Role::Command => self.command = Some(i),
             Role::Words => self.words = true,
             Role::Status => self.status = true,
@@ -107,6 +124,12 @@ pub fn text<'a>(rt: &impl Env, i: usize, room: &'a mut [u8]) -> &'a [u8] {
         Ok(n) => &room[..n],
         Err(_) => b"",
     }
+}
+
+// What a value says, in this room; nothing of an argument that is longer than the room.
+pub fn value_text<'a>(rt: &impl Env, at: usize, from: usize, room: &'a mut [u8]) -> &'a [u8] {
+    let word = text(rt, at, room);
+    &word[from.min(word.len())..]
 }
 
 // The number of argument i as the user counts: without the words that the script adds.

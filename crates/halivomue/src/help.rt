@@ -10,7 +10,8 @@ pub const STDERR: i32 = 2;
 
 const USAGE: &[u8] = b"usage: halivomue read|tidy [--words] [--] [FILE..]
        halivomue list [--words] [--only PART] [--] [FILE..]
-       halivomue shorten [--words] [--] IN OUT
+       halivomue shorten [--words] [--accounts FILE] [--] IN OUT
+       halivomue accounts make|show [--] FILE
        halivomue --help|--version
 ";
 
@@ -20,21 +21,23 @@ pub fn usage() -> Status {
 }
 
 pub fn version(rt: &impl Print) -> Status {
-    Status::from(files::say(rt, b"halivomue 0.5\n").map(|()| true))
+    Status::from(files::say(rt, b"halivomue 0.6\n").map(|()| true))
 }
 
 pub fn help(rt: &impl Print) -> Result<bool, Unsaid> {
     files::say(rt, USAGE)?;
     files::say(
         rt,
-        b"  read      of each file: accepted, or refused, number and record
-  tidy      of each file: yes, or no and the lowest offending register, or refused
-  list      of each file: counts, registers, blocks and code of its shortened form, or refused
-  shorten   writes the shortened form of IN to OUT, whole or not at all, and prints the counts
-  --words   what the numbers mean, beside them
-  --only    the part of the listing: counts, registers, blocks or code; also --only=PART
-  --status  writes 0, 1 (a file was refused or failed) or 2 (usage) to descriptor 3
-  --        what follows are names, even with a dash in front
+        b"  read        of each file: accepted, or refused, number and record
+  tidy        of each file: yes, or no and the lowest offending register, or refused
+  list        of each file: counts, registers, blocks and code of its shortened form, or refused
+  shorten     writes the shortened form of IN to OUT, whole or not at all, and prints counts and price
+  accounts    makes a FILE with the tally 0, or shows the tally of a FILE, in cents
+  --words     what the numbers mean, beside them
+  --only      the part of the listing: counts, registers, blocks or code; also --only=PART
+  --accounts  the FILE whose tally the price is added to; also --accounts=FILE
+  --status    writes 0, 1 (a file was refused or failed) or 2 (usage) to descriptor 3
+  --          what follows are names, even with a dash in front
 Without a name the bare answer of standard input; the name - is standard input. OUT is a file.
 ",
     )?;
@@ -51,10 +54,24 @@ pub fn wrong_names() -> Status {
     usage()
 }
 
-// Says what is wrong with `--only`.
-pub fn wrong_only(text: &[u8]) -> Status {
+// `accounts` with anything but what to do and one name.
+pub fn wrong_action() -> Status {
+    io::write_all(
+        STDERR,
+        b"halivomue: accounts takes make or show, and a file's name
+",
+    );
+    usage()
+}
+
+// Says what is wrong with an option's value, or with its command.
+pub fn wrong_value(text: &[u8]) -> Status {
     io::write_all(STDERR, text);
     Status::Usage
+}
+
+pub fn wrong_accounts() -> Status {
+    wrong_value(b"halivomue: --accounts wants a file's name\n")
 }
 
 pub fn wrong_part(word: &[u8]) -> Status {

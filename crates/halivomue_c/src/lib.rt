@@ -4,7 +4,7 @@
 // into them at each use.
 #![tactic(auto)]
 
-ghost use Rattle.std.specs.Prelude.{◌≡◌, ◌++◌, ◌+◌, ◌/◌, ◌≤◌, false, length, take, drop};
+ghost use Rattle.std.specs.Prelude.{◌≡◌, ◌++◌, ◌+◌, ◌/◌, ◌≤◌, eqb, false, length, take, drop};
 ghost use Rattle.read.specs.Reading.{reading, answer};
 ghost use Rattle.tidy.specs.Tidy.{tidiness, Tidy};
 ghost use Rattle.tidy.specs.Told.{tidiness_of};
@@ -15,19 +15,26 @@ ghost use Rattle.steps.specs.Run.{sliced_form};
 ghost use Rattle.machine.specs.Demand.{Demand3};
 ghost use Rattle.demand.specs.Lengths.{Demand3Where};
 ghost use Rattle.promise.specs.Promise.{held};
+ghost use Rattle.word.specs.Word.{bit};
+ghost use Rattle.accounts.specs.Accounts.{made, tally_in, joins, joined};
+ghost use Rattle.accounts.specs.Saved.{saved as saved_of, Loaded};
+ghost use Rattle.accounts.specs.History.{serve};
+ghost use Rattle.halivomue_c.specs.Unpriced.{unpriced, price_in};
 
+use accounts::{SAVED, WORDS};
+use billing::Priced;
 use inst::Reg;
 use read::Refusal;
 use steps::Shortening;
 
-// The version is 0.5.
+// The version is 0.6.
 const MAJOR: u32 = 0;
 
-const MINOR: u32 = 5;
+const MINOR: u32 = 6;
 
 #[unsafe(no_mangle)]
 pub extern "C" fn halivomue_version() -> u32
-    ensures { result ≡ 5 }
+    ensures { result ≡ 6 }
 {
     MAJOR * 65536 + MINOR
 }
@@ -225,5 +232,190 @@ pub extern "C" fn halivomue_provision(bytes: &[u8], out: &mut [u8]) -> Halivomue
         grown: a.grown,
         fresh: a.fresh,
         rescued: a.rescued,
+    }
+}
+
+#[unsafe(no_mangle)]
+pub extern "C" fn halivomue_accounts_make(accounts: &mut [u32; WORDS])
+    ensures { accounts.new ≡ made }
+{
+    accounts::make(accounts)
+}
+
+#[unsafe(no_mangle)]
+pub extern "C" fn halivomue_accounts_save(accounts: &[u32; WORDS], saved: &mut [u8; SAVED])
+    ensures { saved.new ≡ saved_of (tally_in accounts.now) }
+{
+    accounts::save(accounts, saved)
+}
+
+#[unsafe(no_mangle)]
+pub extern "C" fn halivomue_accounts_load(accounts: &mut [u32; WORDS], saved: &[u8]) -> u32
+    ensures answer { result ≤ 1 }
+    ensures is { Loaded saved.now accounts.old (eqb result 1) accounts.new }
+{
+    accounts::load(accounts, saved) as u32
+}
+
+#[unsafe(no_mangle)]
+pub extern "C" fn halivomue_tally(accounts: &[u32; WORDS]) -> u32
+    ensures { result ≡ tally_in accounts.now }
+{
+    accounts::tally(accounts)
+}
+
+#[unsafe(no_mangle)]
+pub extern "C" fn halivomue_accounts_join(accounts: &mut [u32; WORDS], part: &[u32; WORDS]) -> u32
+    ensures whether { result ≡ bit (joins accounts.old part.now) }
+    ensures is { accounts.new ≡ joined accounts.old part.now }
+{
+    accounts::join(accounts, part) as u32
+}
+
+// struct halivomue_billing of include/halivomue.h: `place` is its member `record`.
+#[repr(C)]
+#[derive(Clone, Copy)]
+pub struct HalivomueBilling {
+    pub number: u32,
+    pub place: u32,
+    pub length: usize,
+    pub moved: u32,
+    pub grown: u32,
+    pub fresh: u32,
+    pub rescued: u32,
+    pub price: u32,
+}
+
+// An answer of Shorten with its price.
+fn billing_with(answer: HalivomueShortening, price: u32) -> HalivomueBilling
+    ensures number { result.number ≡ answer.number }
+    ensures place { result.place ≡ answer.place }
+    ensures length { result.length ≡ answer.length }
+    ensures moved { result.moved ≡ answer.moved }
+    ensures grown { result.grown ≡ answer.grown }
+    ensures fresh { result.fresh ≡ answer.fresh }
+    ensures rescued { result.rescued ≡ answer.rescued }
+    ensures price { result.price ≡ price }
+{
+    HalivomueBilling {
+        number: answer.number,
+        place: answer.place,
+        length: answer.length,
+        moved: answer.moved,
+        grown: answer.grown,
+        fresh: answer.fresh,
+        rescued: answer.rescued,
+        price,
+    }
+}
+
+// The members that tell a result of Shorten with accounts.
+fn billing_of(r: Result<Priced, Refusal>) -> HalivomueBilling
+    ensures number { result.number ≡ (told (unpriced r)).number }
+    ensures place { result.place ≡ (told (unpriced r)).place }
+    ensures length { result.length ≡ (told (unpriced r)).length }
+    ensures moved { result.moved ≡ (told (unpriced r)).moved }
+    ensures grown { result.grown ≡ (told (unpriced r)).grown }
+    ensures fresh { result.fresh ≡ (told (unpriced r)).fresh }
+    ensures rescued { result.rescued ≡ (told (unpriced r)).rescued }
+    ensures price { result.price ≡ price_in r }
+{
+    match r {
+        Ok(p) => billing_with(answer_of(Ok(p.shortening)), p.price),
+        Err(e) => billing_with(answer_of(Err(e)), 0),
+    }
+}
+
+#[unsafe(no_mangle)]
+pub extern "C" fn halivomue_shorten_for(
+    accounts: &mut [u32; WORDS],
+    bytes: &[u8],
+    out: &mut [u8],
+) -> HalivomueBilling
+    ensures number { result.number ≡ (serve accounts.old (record { bytes = bytes.now; out = out.old })).reply.outcome.answer.number }
+    ensures place { result.place ≡ (serve accounts.old (record { bytes = bytes.now; out = out.old })).reply.outcome.answer.place }
+    ensures length { result.length ≡ (serve accounts.old (record { bytes = bytes.now; out = out.old })).reply.outcome.answer.length }
+    ensures moved { result.moved ≡ (serve accounts.old (record { bytes = bytes.now; out = out.old })).reply.outcome.answer.moved }
+    ensures grown { result.grown ≡ (serve accounts.old (record { bytes = bytes.now; out = out.old })).reply.outcome.answer.grown }
+    ensures fresh { result.fresh ≡ (serve accounts.old (record { bytes = bytes.now; out = out.old })).reply.outcome.answer.fresh }
+    ensures rescued { result.rescued ≡ (serve accounts.old (record { bytes = bytes.now; out = out.old })).reply.outcome.answer.rescued }
+    ensures price { result.price ≡ (serve accounts.old (record { bytes = bytes.now; out = out.old })).reply.price }
+    ensures accounts { accounts.new ≡ (serve accounts.old (record { bytes = bytes.now; out = out.old })).accounts }
+    ensures output { out.new ≡ (serve accounts.old (record { bytes = bytes.now; out = out.old })).reply.outcome.output }
+    ensures accepted { result.number ≡ 0 → reading (take result.length out.new) ≡ answer 0 0 }
+    ensures room { 61728 ≤ length out.old → result.number ≡ 9 → ⊥ }
+    ensures unmoved { result.number ≡ 0 → result.moved ≡ 0
+        → out.new ≡ bytes.now ++ drop (length bytes.now) out.old }
+    ensures bound { result.number ≡ 0 → instructions (take result.length out.new)
+        ≤ instructions bytes.now + instructions bytes.now / 2 + 36 }
+    ensures demand3 { result.number ≡ 0 → Tidy (held bytes.now)
+        → Demand3Where (held bytes.now) (sliced_form (held bytes.now)) (held (take result.length out.new)) result.rescued }
+    ensures unsliced { result.number ≡ 0 → Tidy (held bytes.now) → some_test (sliced_form (held bytes.now)).tests ≡ false
+        → Demand3 (held bytes.now) (held (take result.length out.new)) result.rescued }
+{
+    billing_of(accounts::shorten_for(accounts, bytes, out))
+}
+
+// struct halivomue_billed_provisioning of include/halivomue.h: `place` is its member `record`.
+#[repr(C)]
+#[derive(Clone, Copy)]
+pub struct HalivomueBilledProvisioning {
+    pub number: u32,
+    pub place: u32,
+    pub tidy: u32,
+    pub reg: u32,
+    pub length: usize,
+    pub moved: u32,
+    pub grown: u32,
+    pub fresh: u32,
+    pub rescued: u32,
+    pub price: u32,
+}
+
+#[unsafe(no_mangle)]
+pub extern "C" fn halivomue_provision_for(
+    accounts: &mut [u32; WORDS],
+    bytes: &[u8],
+    out: &mut [u8],
+) -> HalivomueBilledProvisioning
+    ensures number { result.number ≡ (serve accounts.old (record { bytes = bytes.now; out = out.old })).reply.outcome.answer.number }
+    ensures place { result.place ≡ (serve accounts.old (record { bytes = bytes.now; out = out.old })).reply.outcome.answer.place }
+    ensures tidy { result.tidy ≡ (tidiness bytes.now).tidy }
+    ensures reg { result.reg ≡ (tidiness bytes.now).reg }
+    ensures length { result.length ≡ (serve accounts.old (record { bytes = bytes.now; out = out.old })).reply.outcome.answer.length }
+    ensures moved { result.moved ≡ (serve accounts.old (record { bytes = bytes.now; out = out.old })).reply.outcome.answer.moved }
+    ensures grown { result.grown ≡ (serve accounts.old (record { bytes = bytes.now; out = out.old })).reply.outcome.answer.grown }
+    ensures fresh { result.fresh ≡ (serve accounts.old (record { bytes = bytes.now; out = out.old })).reply.outcome.answer.fresh }
+    ensures rescued { result.rescued ≡ (serve accounts.old (record { bytes = bytes.now; out = out.old })).reply.outcome.answer.rescued }
+    ensures price { result.price ≡ (serve accounts.old (record { bytes = bytes.now; out = out.old })).reply.price }
+    ensures accounts { accounts.new ≡ (serve accounts.old (record { bytes = bytes.now; out = out.old })).accounts }
+    ensures output { out.new ≡ (serve accounts.old (record { bytes = bytes.now; out = out.old })).reply.outcome.output }
+    ensures accepted { result.number ≡ 0 → reading (take result.length out.new) ≡ answer 0 0 }
+    ensures room { 61728 ≤ length out.old → result.number ≡ 9 → ⊥ }
+    ensures unmoved { result.number ≡ 0 → result.moved ≡ 0
+        → out.new ≡ bytes.now ++ drop (length bytes.now) out.old }
+    ensures bound { result.number ≡ 0 → instructions (take result.length out.new)
+        ≤ instructions bytes.now + instructions bytes.now / 2 + 36 }
+    ensures demand3 { result.number ≡ 0 → Tidy (held bytes.now)
+        → Demand3Where (held bytes.now) (sliced_form (held bytes.now)) (held (take result.length out.new)) result.rescued }
+    ensures unsliced { result.number ≡ 0 → Tidy (held bytes.now) → some_test (sliced_form (held bytes.now)).tests ≡ false
+        → Demand3 (held bytes.now) (held (take result.length out.new)) result.rescued }
+    ensures promised { result.number ≡ 0 → result.tidy ≡ 1
+        → Demand3Where (held bytes.now) (sliced_form (held bytes.now)) (held (take result.length out.new)) result.rescued }
+{
+    let p = accounts::provision_for(accounts, bytes, out);
+    let tidy = members(p.tidiness);
+    let bill = billing_of(p.priced);
+    HalivomueBilledProvisioning {
+        number: bill.number,
+        place: bill.place,
+        tidy: tidy.tidy,
+        reg: tidy.reg,
+        length: bill.length,
+        moved: bill.moved,
+        grown: bill.grown,
+        fresh: bill.fresh,
+        rescued: bill.rescued,
+        price: bill.price,
     }
 }

@@ -25,6 +25,10 @@ fresh_text a = counted (32 ∷ 102 ∷ 114 ∷ 101 ∷ 115 ∷ 104 ∷ 32 ∷ []
 unfoldable pub counts_line : Answer → List ℕ
 counts_line a = (moved_text a ++ fresh_text a) ++ (10 ∷ [])
 
+-- 'moved 1 grown 2 fresh 0 rescued 0 price 3'
+unfoldable pub priced_line : Answer → ℕ → List ℕ
+priced_line a price = ((moved_text a ++ fresh_text a) ++ counted (32 ∷ 112 ∷ 114 ∷ 105 ∷ 99 ∷ 101 ∷ 32 ∷ []) price) ++ (10 ∷ [])
+
 -- 'reg 0 2'
 unfoldable pub reg_line : ℕ → ℕ → List ℕ
 reg_line i kind = (counted (114 ∷ 101 ∷ 103 ∷ 32 ∷ []) i ++ field kind) ++ (10 ∷ [])

@@ -1,10 +1,11 @@
-// The lines of document 01's listing: counts, registers, blocks and code of a shortened form.
+// The lines of document 01's listing: counts, registers, blocks and code of a shortened form. And the line of the command
+// `shorten`, which has the price too.
 #![tactic(auto)]
 
 ghost use Rattle.std.specs.Prelude.{◌≡◌, ◌++◌};
 ghost use Rattle.steps.specs.Told.{told};
 ghost use Rattle.line.specs.Line.{Put};
-ghost use Rattle.listing.specs.Listing.{pair, counts_line, moved_text, fresh_text, reg_line, block_line, code_line, code_text, places_text};
+ghost use Rattle.listing.specs.Listing.{pair, counts_line, priced_line, moved_text, fresh_text, reg_line, block_line, code_line, code_text, places_text};
 
 use inst::Block;
 use line::Line;
@@ -37,6 +38,16 @@ pub fn put_counts(line: &mut Line<'_>, s: Shortening)
 {
     put_moved(line, s);
     put_fresh(line, s);
+    line.put_byte(b'\n');
+}
+
+// The counts, and behind them the price in cents.
+pub fn put_priced(line: &mut Line<'_>, s: Shortening, price: u32)
+    ensures { Put line.old (priced_line (told (Ok s)) price) line.new }
+{
+    put_moved(line, s);
+    put_fresh(line, s);
+    line.put_numbered(b" price ", price as usize);
     line.put_byte(b'\n');
 }
 

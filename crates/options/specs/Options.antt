@@ -1,5 +1,5 @@
 -- Which words are options, values, commands and names.
-use Rattle.std.specs.Prelude.{ℕ, ◌≤◌, ◌≡◌, Bool, true, false, not, cond, ◌&&◌, List, ltb, eqb, length, get_or, Option, IfSome}
+use Rattle.std.specs.Prelude.{ℕ, ◌≤◌, ◌≡◌, Bool, true, false, not, cond, ◌&&◌, List, ltb, eqb, length, get_or, Option, None, Some, IfSome}
 use Rattle.options.specs.declared.Before.{Before}
 use Rattle.options.specs.declared.Word.{Word}
 use Rattle.options.specs.declared.Role.{Role}
@@ -27,6 +27,17 @@ is_command _ = false
 abbrev pub is_end : Role → Bool
 is_end r.End = true
 is_end _ = false
+
+-- the options that have a value
+abbrev pub has_value : Role → Bool
+has_value r.Only = true
+has_value r.Accounts = true
+has_value _ = false
+
+-- no value is in the word itself
+abbrev pub lacks : Option ℕ → Bool
+lacks None = true
+lacks (Some k) = false
 
 -- where a word's value starts, if it has one, is in the word
 abbrev pub Within : Option ℕ → List ℕ → Type 0

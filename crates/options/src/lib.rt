@@ -3,8 +3,8 @@
 // follows a `=` in the same word.
 #![tactic(auto)]
 
-ghost use Rattle.std.specs.Prelude.{◌≡◌, true, ◌||◌, length};
-ghost use Rattle.options.specs.Options.{Taken, Within, plain_role, is_none, is_command, is_end};
+ghost use Rattle.std.specs.Prelude.{◌≡◌, true, ◌||◌, ◌&&◌, length};
+ghost use Rattle.options.specs.Options.{Taken, Within, plain_role, is_none, is_command, is_end, has_value, lacks};
 
 #[derive(Clone, Copy, Debug, PartialEq, Eq)]
 pub enum Role {
@@ -17,6 +17,7 @@ pub enum Role {
     Help,
     Version,
     Only,
+    Accounts,
     Unknown,
 }
 
@@ -63,6 +64,7 @@ fn named(name: &[u8]) -> Role
         b"--" => Role::End,
         b"--words" => Role::Words,
         b"--only" => Role::Only,
+        b"--accounts" => Role::Accounts,
         b"--status" => Role::Status,
         b"--help" => Role::Help,
         b"--version" => Role::Version,
@@ -70,7 +72,14 @@ fn named(name: &[u8]) -> Role
     }
 }
 
-// A word that starts with a dash and has more than that. Only `--only` has a value.
+// Whether an option has a value.
+fn takes_value(role: Role) -> bool
+    ensures { result ≡ has_value role }
+{
+    matches!(role, Role::Only | Role::Accounts)
+}
+
+// A word that starts with a dash and has more than that.
 fn option(word: &[u8]) -> Word
     ensures role_value { is_none result.role ≡ true }
     ensures value_in_bounds { Within result.value word.now }
@@ -78,9 +87,10 @@ fn option(word: &[u8]) -> Word
     let Some(n) = word.iter().position(|b| *b == b'=') else {
         return bare(named(word));
     };
-    if named(&word[..n]) == Role::Only {
+    let role = named(&word[..n]);
+    if takes_value(role) {
         return Word {
-            role: Role::Only,
+            role,
             value: Some(n + 1),
         };
     }
@@ -104,10 +114,11 @@ pub fn word_of(before: Before, word: &[u8]) -> Word
 pub fn after(before: Before, word: Word) -> Before
     ensures command_value { result.command ≡ (before.command || is_command word.role) }
     ensures ended_value { result.ended ≡ (before.ended || is_end word.role) }
+    ensures wants_value { result.wants ≡ (has_value word.role && lacks word.value) }
 {
     Before {
         command: before.command || word.role == Role::Command,
         ended: before.ended || word.role == Role::End,
-        wants: word.role == Role::Only && word.value.is_none(),
+        wants: takes_value(word.role) && word.value.is_none(),
     }
 }

@@ -2,7 +2,7 @@
 use native.Mathlib.Omega.{arith}
 use mathlib.Core.Path.{◌≡◌}
 use Rattle.read.specs.declared.Reason.{Reason}
-use Rattle.read.specs.declared.Reason.TheVariants.{Length, Record, Limit, Tiling, Terminator, Table, Name, ShorteningLimit, Output}
+use Rattle.read.specs.declared.Reason.TheVariants.{Length, Record, Limit, Tiling, Terminator, Table, Name, ShorteningLimit, Output, Ceiling}
 use Rattle.read.specs.Refusal.{number_of}
 
 pub no_zero : (r : Reason) → number_of r ≡ 0 → ⊥
@@ -15,3 +15,4 @@ no_zero Table e = omega arith
 no_zero Name e = omega arith
 no_zero ShorteningLimit e = omega arith
 no_zero Output e = omega arith
+no_zero Ceiling e = omega arith

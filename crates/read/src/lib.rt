@@ -17,7 +17,7 @@ mod file;
 mod names;
 mod span;
 
-// Why a file is refused. Read gives the first seven, and Shorten the last two.
+// Why a file is refused. Read gives the first seven, Shorten the next two, and Shorten for an account the last.
 #[derive(Clone, Copy, Debug, PartialEq, Eq)]
 pub enum Reason {
     Length = 1,
@@ -29,6 +29,7 @@ pub enum Reason {
     Name = 7,
     ShorteningLimit = 8,
     Output = 9,
+    Ceiling = 10,
 }
 
 // Its number in document 01.

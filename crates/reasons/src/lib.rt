@@ -33,6 +33,7 @@ fn words_of(reason: Reason) -> &'static [u8]
         Reason::ShorteningLimit =>
             b"the file has more than 480 registers or 480 instructions, the most that are shortened",
         Reason::Output => b"the buffer is too short for the shortened form",
+        Reason::Ceiling => b"the tally would pass 9999999 cents",
     }
 }
 

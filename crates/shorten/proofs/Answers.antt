@@ -41,12 +41,21 @@ use Rattle.parts.specs.Parts.{starts_in, parts_in}
 use Rattle.procedure_parts.specs.Opened.{Parts, parts_of}
 use Rattle.procedure_parts.proofs.Laws.{registers_are, code_is, opened}
 use Rattle.output.specs.Filed.{outcome}
-use Rattle.shorten.specs.Storage.{Done}
+use Rattle.shorten.specs.Storage.{Done, Accepted}
 use Rattle.shorten.proofs.Tidied.{refused_too, yes_tidy}
 
 -- the parts of a file that is opened
 pub parts-open : (b : List ℕ) (file : File) → file.bytes.now ≡ b → file.layout ≡ starts_in (records_of b) → parts_in file ≡ parts_of b (starts_in (records_of b))
 parts-open b file e h = ap (λ (d : List ℕ). parts_of d file.layout) e ∙ ap (parts_of b) h
+
+-- a file that is opened, and that Read has accepted
+pub accepted-open : (b : List ℕ) (file : File) → Bytes b → (reading b).number ≡ 0 → file.bytes.now ≡ b → file.layout ≡ starts_in (records_of b) → Accepted file
+accepted-open b file h read e l =
+    record {
+      bytes = subst Bytes (sym e) h;
+      number = ap (λ (d : List ℕ). (reading d).number) e ∙ read;
+      layout = l ∙ ap (λ (d : List ℕ). starts_in (records_of d)) (sym e);
+    }
 
 -- a test of a part's length, by the part that was cut
 pub by_part : (f : Parts → List ℕ) {x z : Parts} {y : List ℕ} → x ≡ z → y ≡ f x → (P : ℕ → Type 0) → P (length y) → P (length (f z))
@@ -127,7 +136,7 @@ module _ (registers code : ℕ) (b out : List ℕ) where
       by false = inl refl
 
 -- what the contract says of a result and a buffer, with the clause that gives the answer
-abbrev Clauses : Type 0 → List ℕ → List ℕ → Result Shortening Refusal → List ℕ → Type 0
+abbrev pub Clauses : Type 0 → List ℕ → List ℕ → Result Shortening Refusal → List ℕ → Type 0
 Clauses E b out r out' = record {
   is : E;
   accepted : IfOk r (λ s. reading (take s.length out') ≡ answer 0 0);
@@ -171,7 +180,7 @@ module _ (b out : List ℕ) (h : Bytes b) (a : Answer) (out' : List ℕ) (e : ou
       ((promise b out h (sym number ∙ z) t).1 u)
 
 -- all of them, of a result that tells it
-all : (b out : List ℕ) → Bytes b → (r : Result Shortening Refusal) (out' : List ℕ) → outcome (told r) out' ≡ shorten b out → {E : Type 0} → E → Clauses E b out r out'
+pub all : (b out : List ℕ) → Bytes b → (r : Result Shortening Refusal) (out' : List ℕ) → outcome (told r) out' ≡ shorten b out → {E : Type 0} → E → Clauses E b out r out'
 all b out h (Ok s) out' e f =
     let a = told (Ok s) in
     record {
@@ -194,12 +203,13 @@ all b out h (Err x) out' e f =
       unsliced = tt;
     }
 
--- the clauses behind the equation hold of a refusal
-refused-clauses : (b out : List ℕ) (r : Result Shortening Refusal) (out' : List ℕ) → outcome (told r) out' ≡ refusal 8 0 out → {E : Type 0} → E → Clauses E b out r out'
-refused-clauses b out (Ok s) out' e f = absurd (let n = ap (λ (o : Outcome). o.answer.number) e in omega arith)
-refused-clauses b out (Err x) out' e f =
-    let n : number_of x.reason ≡ 8 = ap (λ (o : Outcome). o.answer.number) e in
-    let nine : x.reason ≡ Output → ⊥ = λ z. let y = ap number_of z in omega arith in
+-- the clauses behind the equation hold of a refusal with another number than 9
+pub refused-clauses : (n : ℕ) → (n ≡ 0 → ⊥) → (n ≡ 9 → ⊥) → (b out : List ℕ) (r : Result Shortening Refusal) (out' : List ℕ)
+    → outcome (told r) out' ≡ refusal n 0 out → {E : Type 0} → E → Clauses E b out r out'
+refused-clauses n some other b out (Ok s) out' e f = absurd (some (sym (ap (λ (o : Outcome). o.answer.number) e)))
+refused-clauses n some other b out (Err x) out' e f =
+    let is : number_of x.reason ≡ n = ap (λ (o : Outcome). o.answer.number) e in
+    let nine : x.reason ≡ Output → ⊥ = λ z. other (sym is ∙ ap number_of z) in
     record { is = f; accepted = tt; room = λ i. nine; unmoved = tt; bound = tt; demand3 = tt; unsliced = tt }
 
 -- and so of every result within limits of at most 480
@@ -210,13 +220,17 @@ clauses registers code b out h few less r out' e = by (within registers code b o
     by : (shorten_within registers code b out ≡ shorten b out) ⊎ (shorten_within registers code b out ≡ refusal 8 0 out)
         → Clauses (outcome (told r) out' ≡ shorten_within registers code b out) b out r out'
     by (inl s) = all b out h r out' (e ∙ s) e
-    by (inr s) = refused-clauses b out r out' (e ∙ s) e
+    by (inr s) = refused-clauses 8 (λ z. omega arith) (λ z. omega arith) b out r out' (e ∙ s) e
 
 -- a file that Tidy refuses
 pub refused-by-tidy : (b out : List ℕ) (x : Refusal) → tidiness_of (Err x) ≡ tidiness b → refusal (number_of x.reason) x.place out ≡ shorten b out
 refused-by-tidy b out x e =
     let m : (tidiness b).number ≡ 0 → ⊥ = λ z. no_zero x.reason (ap (λ (t : Tidiness). t.number) e ∙ z) in
     ap (λ (t : Tidiness). refusal t.number t.place out) e ∙ refused_is 480 480 b out (refused_too b m) m
+
+-- a file of which Tidy says yes
+pub yes-told : (b : List ℕ) (t : Result (Option Reg) Refusal) → tidiness_of t ≡ tidiness b → t ≡ Ok None → Tidy (held b)
+yes-told b t f y = yes_tidy b (ap (λ (x : Tidiness). x.tidy) (sym f) ∙ ap (λ (r : Result (Option Reg) Refusal). (tidiness_of r).tidy) y)
 
 -- the answers of Tidy and Shorten together
 pub provisioned : (b out : List ℕ) → Bytes b → (t : Result (Option Reg) Refusal) → tidiness_of t ≡ tidiness b
@@ -246,10 +260,7 @@ provisioned b out h t f r out' e =
       promised = yes r c.demand3;
     }
   where
-    tidy : t ≡ Ok None → Tidy (held b)
-    tidy y = yes_tidy b (ap (λ (x : Tidiness). x.tidy) (sym f) ∙ ap (λ (r : Result (Option Reg) Refusal). (tidiness_of r).tidy) y)
-
     yes : (r : Result Shortening Refusal) → IfOk r (λ s. Tidy (held b) → Demand3Where (held b) (sliced_form (held b)) (held (take s.length out')) s.rescued)
         → IfOk r (λ s. t ≡ Ok None → Demand3Where (held b) (sliced_form (held b)) (held (take s.length out')) s.rescued)
-    yes (Ok s) d = λ y. d (tidy y)
+    yes (Ok s) d = λ y. d (yes-told b t f y)
     yes (Err x) d = tt

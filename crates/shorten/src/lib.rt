@@ -17,7 +17,7 @@ ghost use Rattle.promise.specs.Promise.{held};
 ghost use Rattle.parts.specs.Parts.{parts_in};
 ghost use Rattle.output.specs.Filed.{outcome};
 ghost use Rattle.shortening.specs.Storage.{opens_for};
-ghost use Rattle.shorten.specs.Storage.{Room, Fits, Done};
+ghost use Rattle.shorten.specs.Storage.{Room, Fits, Done, Accepted};
 
 use inst::Reg;
 use parts::File;
@@ -89,6 +89,7 @@ fn fits(file: &File, n: usize) -> bool
 }
 
 // Shortens a file over storage of its size; it is known whether its gate is open.
+#[inline(always)]
 fn shorten_sized(file: &File, out: &mut [u8], is_open: bool) -> Result<Shortening, Refusal>
     requires { is_open ≡ opens_for (parts_in file.now) }
     ensures { Done (parts_in file.now) result out.old out.new }
@@ -107,6 +108,7 @@ fn shorten_sized(file: &File, out: &mut [u8], is_open: bool) -> Result<Shortenin
 }
 
 // Shortens an accepted file within the limits. One that no step changes needs no storage.
+#[inline(always)]
 fn shorten_read(file: &File, out: &mut [u8]) -> Result<Shortening, Refusal>
     ensures { Done (parts_in file.now) result out.old out.new }
 {
@@ -116,8 +118,30 @@ fn shorten_read(file: &File, out: &mut [u8]) -> Result<Shortening, Refusal>
     }
 }
 
-// A file that Read has accepted. The limits are at most 480, for which there is storage. Two numbers
-// and no struct: callers give `shorten_within` two, and only this function compares them.
+// An opened file that Read has accepted. The limits are at most 480, for which there is storage. Two numbers
+// and no struct: callers give `shorten_within` two, and only this function compares them. It is inlined with what it calls: since
+// two functions call it, the compiler wouldn't, and straight code took 1 to 3 % more.
+#[inline(always)]
+fn shorten_limited(
+    file: &File,
+    out: &mut [u8],
+    registers: usize,
+    code: usize,
+) -> Result<Shortening, Refusal>
+    ensures { Accepted file.now → registers ≤ 480 → code ≤ 480
+        → outcome (told result) out.new ≡ spec.shorten_within registers code file.now.bytes.now out.old }
+{
+    if registers < file.registers().len() / 32 || code < file.code().len() / 32 {
+        Err(Refusal {
+            reason: Reason::ShorteningLimit,
+            place: 0,
+        })
+    } else {
+        shorten_read(file, out)
+    }
+}
+
+// A file that Read has accepted.
 fn shorten_accepted(
     bytes: &[u8],
     out: &mut [u8],
@@ -128,14 +152,20 @@ fn shorten_accepted(
     ensures { outcome (told result) out.new ≡ spec.shorten_within registers code bytes.now out.old }
 {
     let file = File::open(bytes);
-    if registers < file.registers().len() / 32 || code < file.code().len() / 32 {
-        Err(Refusal {
-            reason: Reason::ShorteningLimit,
-            place: 0,
-        })
-    } else {
-        shorten_read(&file, out)
-    }
+    shorten_limited(&file, out, registers, code)
+}
+
+// Shortens an opened file that Read has accepted, as `shorten_within` does after it has read and opened a file.
+pub fn shorten_opened(
+    file: &File,
+    out: &mut [u8],
+    registers: usize,
+    code: usize,
+) -> Result<Shortening, Refusal>
+    ensures { Accepted file.now
+        → outcome (told result) out.new ≡ spec.shorten_within (min registers 480) (min code 480) file.now.bytes.now out.old }
+{
+    shorten_limited(file, out, registers.min(480), code.min(480))
 }
 
 // Any file, with limits of at most 480.

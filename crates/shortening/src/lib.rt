@@ -63,6 +63,7 @@ pub fn pause_of(body: &[u8]) -> Pause
 }
 
 // A glance at a file: None if no step would change it, else whether its gate is open.
+#[inline(always)]
 pub fn glance(file: &File) -> Option<bool>
     ensures none { IfNone result (NoStepIn (parts_in file.now)) }
     ensures some { IfSome result (λ b. b ≡ opens_for (parts_in file.now)) }

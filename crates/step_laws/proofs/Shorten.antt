@@ -37,7 +37,8 @@ either : (t : Bool) (x o : Reading) → x.number ≤ 7 → o.number ≤ 7 → (c
 either true x o i j = i
 either false x o i j = j
 
-seven : (b : List ℕ) → (checked b).number ≤ 7
+-- Read gives at most 7
+pub seven : (b : List ℕ) → (checked b).number ≤ 7
 unfolding checked read_records read_blocks read_tables
 seven b =
     either (wrong_length b) (answer 1 0) _ (omega arith)

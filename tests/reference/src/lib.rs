@@ -22,6 +22,7 @@ pub mod read;
 pub mod record;
 pub mod reduce;
 pub mod self_test;
+pub mod shop;
 pub mod sorts;
 pub mod stream;
 pub mod tally;

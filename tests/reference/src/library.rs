@@ -75,9 +75,28 @@ impl Provisioning {
 
 type Provisioner = unsafe extern "C" fn(*const u8, usize, *mut u8, usize) -> Provisioning;
 
+/// A shop's accounts. The first word is the tally.
+pub type Accounts = [u32; 128];
+
+#[repr(C)]
+#[derive(Clone, Copy, PartialEq, Eq, Debug)]
+pub struct Billing {
+    pub number: u32,
+    pub record: u32,
+    pub length: usize,
+    pub moved: u32,
+    pub grown: u32,
+    pub fresh: u32,
+    pub rescued: u32,
+    pub price: u32,
+}
+
+type Biller = unsafe extern "C" fn(*mut Accounts, *const u8, usize, *mut u8, usize) -> Billing;
+
 #[derive(Clone, Copy)]
 pub struct Library {
     shorten: Function,
+    bill: Option<Biller>,
     read: Option<Reader>,
     tidy: Option<Tidier>,
     provision: Option<Provisioner>,
@@ -118,13 +137,14 @@ impl Library {
         let tidy = unsafe { std::mem::transmute::<*mut c_void, Option<Tidier>>(other(c"halivomue_tidy")) };
         let provision =
             unsafe { std::mem::transmute::<*mut c_void, Option<Provisioner>>(other(c"halivomue_provision")) };
-        Ok(Library { shorten, read, tidy, provision })
+        let bill = unsafe { std::mem::transmute::<*mut c_void, Option<Biller>>(other(c"halivomue_shorten_for")) };
+        Ok(Library { shorten, bill, read, tidy, provision })
     }
 
     /// A library of this one function.
     #[cfg(test)]
     pub fn of(function: Function) -> Library {
-        Library { shorten: function, read: None, tidy: None, provision: None }
+        Library { shorten: function, bill: None, read: None, tidy: None, provision: None }
     }
 
     /// The library that HALIVOMUE_LIBRARY names.
@@ -137,6 +157,18 @@ impl Library {
     pub fn shorten(self, bytes: &[u8], out: &mut [u8]) -> Shortening {
         // It only looks at these bytes and only writes to this buffer.
         unsafe { (self.shorten)(bytes.as_ptr(), bytes.len(), out.as_mut_ptr(), out.len()) }
+    }
+
+    pub fn has_accounts(self) -> bool {
+        self.bill.is_some()
+    }
+
+    /// Shorten with accounts, which the library must have.
+    #[inline]
+    pub fn shorten_for(self, accounts: &mut Accounts, bytes: &[u8], out: &mut [u8]) -> Billing {
+        let bill = self.bill.expect("the library has no halivomue_shorten_for");
+        // It only looks at these bytes and only writes to this buffer and these accounts.
+        unsafe { bill(accounts, bytes.as_ptr(), bytes.len(), out.as_mut_ptr(), out.len()) }
     }
 
     /// What Read says, where the library has it.

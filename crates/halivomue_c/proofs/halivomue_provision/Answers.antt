@@ -1,8 +1,5 @@
-use Rattle.std.proofs.Common.{◌≡◌, refl, sym, ap, ◌∙◌, arith, Option, Some, None, Result, Ok, Err}
+use Rattle.std.proofs.Common.{◌≡◌, sym, ap, ◌∙◌, None, Ok}
 use Rattle.std.specs.Prelude.{◌+◌, ◌/◌, ◌≤◌, false, take}
-use Rattle.inst.specs.declared.Reg.{Reg}
-use Rattle.read.specs.declared.Refusal.{Refusal}
-use Rattle.tidy.specs.Told.{tidiness_of}
 use Rattle.read.specs.Reading.{reading, answer}
 use Rattle.tidy.specs.Tidy.{Tidiness, Tidy}
 use Rattle.steps.specs.Shorten.{Outcome, instructions}
@@ -11,14 +8,8 @@ use Rattle.steps.specs.Run.{sliced_form}
 use Rattle.machine.specs.Demand.{Demand3}
 use Rattle.demand.specs.Lengths.{Demand3Where}
 use Rattle.promise.specs.Promise.{held}
-use Rattle.halivomue_c.proofs.Answered.{on_success, unmoved, never_nine}
+use Rattle.halivomue_c.proofs.Answered.{yes_none, on_success, unmoved, never_nine}
 use Rattle.halivomue_c.proofs.halivomue_provision.Goals as goal
-
--- the answer that is yes
-yes_none : (t : Result (Option Reg) Refusal) → (tidiness_of t).tidy ≡ 1 → t ≡ Ok None
-yes_none (Ok None) e = refl
-yes_none (Ok (Some r)) e = absurd (omega arith)
-yes_none (Err x) e = absurd (omega arith)
 
 pub returns : goal.returns
 returns c =

@@ -1,12 +1,14 @@
 //! Times a library's `halivomue_shorten` beside the published Rust with a plain reader and writer.
-//! Usage: bench-shorten                             all sorts of files and sizes, as a table
-//!        bench-shorten library|rust <sort> <n> [times]  files of n instructions, the first or so many in turn, to be counted
+//! Usage: bench-shorten                             all sorts of files and sizes, as tables
+//!        bench-shorten billed                      the second table alone: with accounts and without
+//!        bench-shorten library|rust|billed|near <sort> <n> [times]  files of n instructions, the first or so many in turn, to be counted
 //! HALIVOMUE_LIBRARY names the shared object, HALIVOMUE_STEPS that of the steps alone. To be built with `--profile speed`.
 
+mod billed;
 mod steps;
 
 use checks::reader;
-use halivomue_reference::library::{Library, Shortening};
+use halivomue_reference::library::{Accounts, Billing, Library, Shortening};
 use halivomue_reference::plain::{self, Ready};
 use halivomue_reference::read::Refusal;
 use halivomue_reference::record::RECORD;
@@ -184,6 +186,13 @@ fn table(library: Library) {
     );
 }
 
+/// The call with accounts, to be counted.
+#[inline(never)]
+#[unsafe(no_mangle)]
+fn counted_billed(library: Library, accounts: &mut Accounts, bytes: &[u8], out: &mut [u8]) -> Billing {
+    black_box(library.shorten_for(accounts, bytes, out))
+}
+
 /// The call that callgrind counts.
 #[inline(never)]
 #[unsafe(no_mangle)]
@@ -204,9 +213,12 @@ fn again(library: Library, which: &str, sort: &str, n: usize, times: usize) {
     let files = files(sort, n);
     let mut out = vec![0; 65_536];
     for bytes in files.iter().cycle().take(times) {
+        let bytes = black_box(bytes);
         match which {
-            "library" => counted_library(library, black_box(bytes), &mut out),
-            _ => counted_rust(library, black_box(bytes), &mut out),
+            "library" => drop(counted_library(library, bytes, &mut out)),
+            "billed" => drop(counted_billed(library, &mut billed::accounts(billed::FAR), bytes, &mut out)),
+            "near" => drop(counted_billed(library, &mut billed::accounts(billed::NEAR), bytes, &mut out)),
+            _ => drop(counted_rust(library, bytes, &mut out)),
         };
     }
     println!("{n} {}", files[0].len() / RECORD);
@@ -217,9 +229,13 @@ fn main() {
     let arguments: Vec<String> = std::env::args().skip(1).collect();
     let number = |text: &String| text.parse().expect("a number is due");
     match arguments.as_slice() {
-        [] => table(library),
+        [] => {
+            table(library);
+            billed::table(library);
+        }
+        [which] if which == "billed" => billed::table(library),
         [which, sort, n] => again(library, which, sort, number(n), 1),
         [which, sort, n, times] => again(library, which, sort, number(n), number(times)),
-        _ => eprintln!("usage: bench-shorten [library|rust <sort> <instructions> [times]]"),
+        _ => eprintln!("usage: bench-shorten [billed | library|rust|billed|near <sort> <instructions> [times]]"),
     }
 }

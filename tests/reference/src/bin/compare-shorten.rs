@@ -1,5 +1,6 @@
 //! Asks a library's `halivomue_shorten` and the reference for the same generated files, and on a tenth of them holds
-//! its `halivomue_provision` to its `halivomue_tidy` and `halivomue_shorten`.
+//! its `halivomue_provision` to its `halivomue_tidy` and `halivomue_shorten`, on another tenth its `halivomue_shorten_for`
+//! to its `halivomue_shorten`.
 //! Usage: compare-shorten [files] [first seed] [all]
 //! HALIVOMUE_LIBRARY names the shared object. Every named case is asked for too, with all rooms. From a hundred
 //! thousand files on, or with the word `all`, it fails where something of the tally was not reached.
@@ -11,6 +12,7 @@ use halivomue_reference::generate::{self, Rng};
 use halivomue_reference::library::{Library, Provisioning};
 use halivomue_reference::record::RECORD;
 use halivomue_reference::reduce::{reduced, told};
+use halivomue_reference::shop::Shops;
 use halivomue_reference::tally::Tally;
 use halivomue_reference::{Answer, Shorten, cases, limits, probe, reference};
 use std::process::ExitCode;
@@ -18,7 +20,8 @@ use std::process::ExitCode;
 /// So many files reach all of the tally.
 const ENOUGH: u64 = 100_000;
 
-/// Of so many files one is asked of `halivomue_provision` too: in each thousand another of ten.
+/// Of so many files one is asked of `halivomue_provision` too, and another of `halivomue_shorten_for`: in each thousand another
+/// of ten.
 const PROVISIONED: u64 = 10;
 
 /// Bytes around a buffer that no call may change.
@@ -74,6 +77,7 @@ struct Found {
     /// Calls of `halivomue_provision` by whether the file is tidy and by number; seed and room of those that differ.
     provisions: [[u64; 10]; 2],
     unlike: Vec<(u64, usize)>,
+    shops: Shops,
 }
 
 impl Found {
@@ -111,6 +115,7 @@ impl Found {
         self.differences += other.differences;
         self.provisions.iter_mut().flatten().zip(other.provisions.iter().flatten()).for_each(|(a, b)| *a += b);
         self.unlike.extend(&other.unlike);
+        self.shops.add(&other.shops);
         let known = self.smallest.iter().chain(&other.smallest).min_by_key(|s| s.1.len()).cloned();
         Found { smallest: known, ..self }
     }
@@ -131,6 +136,9 @@ fn compared(library: Library, shorten: Shorten, seeds: impl Iterator<Item = u64>
                 && let Some((told, alike)) = provisioned(library, &bytes, room)
             {
                 found.provisioned(told, alike, seed, room);
+            }
+            if (seed + 1) % PROVISIONED == seed / 1000 % PROVISIONED {
+                found.shops.ask(library, &bytes, room, seed);
             }
         }
     }
@@ -219,11 +227,16 @@ fn main() -> ExitCode {
         println!("the first: seed {seed}, room {room}, file {}", packed(&file(*seed)));
         return ExitCode::FAILURE;
     }
+    found.shops.print();
+    if let Some((seed, room, tally)) = found.shops.first_unlike() {
+        println!("the first: seed {seed}, room {room}, tally {tally}, file {}", packed(&file(seed)));
+        return ExitCode::FAILURE;
+    }
     if let Some(smallest) = &found.smallest {
         print(library, shorten, smallest);
         return ExitCode::FAILURE;
     }
-    let missing = [found.tally.missing(), found.unprovisioned()].concat();
+    let missing = [found.tally.missing(), found.unprovisioned(), found.shops.missing(library)].concat();
     if !missing.is_empty() && (files >= ENOUGH || std::env::args().any(|word| word == "all")) {
         println!("compare-shorten: not reached: {}", missing.join(", "));
         return ExitCode::FAILURE;

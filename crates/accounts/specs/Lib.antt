@@ -1,0 +1,4 @@
+pub mod Accounts
+pub mod Saved
+pub mod History
+pub mod Told

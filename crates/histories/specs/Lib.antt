@@ -1,0 +1,3 @@
+pub mod Tally
+pub mod Calls
+pub mod Parts
