@@ -23,40 +23,38 @@ fn forget_written(k: &mut Known, i: Inst)
 {
     let q = roles::roles_of(i);
     match q.written() {
-        [] => {}
-        [d] => k.forget(*d),
+        [_, _, _, ..] => k.clear(),
         [d, e] => {
             k.forget(*d);
             k.forget(*e);
         }
-        _ => k.clear(),
+        [d] => k.forget(*d),
+        [] => {}
     }
 }
 
-// What is known after an instruction: what is known of the registers that it writes is forgotten, and then a Const, a Move and a
-// Bool teach something. The facts aren't part of Known, since each method that changes it would have to promise that they stay.
+// What is known after an instruction, in the order of the Rust's `note`: what the instruction writes is forgotten first, and then a
+// Const, a Move and a Bool teach something. The facts aren't part of Known, since each method that changes it would have to promise
+// that they stay.
 #[tactic(auto, unfolding(steps::specs::Note::forget_all, steps::specs::Note::learn, ends::specs::Forms::form_of))]
+#[inline(always)]
 fn note(k: &mut Known, facts: &[u64], i: Inst)
     requires { Roomy k.old }
     ensures known { known_in k.new ≡ note_of (facts_in facts.now None 0) (known_in k.old) i }
     ensures grows { Grows 1 1 k.new k.old }
 {
+    forget_written(k, i);
     match i {
-        Inst::Const { dst, v } => {
-            k.forget(dst);
-            learn::learn(k, dst, Some(v), None);
-        }
+        Inst::Const { dst, v } => learn::learn(k, dst, Some(v), None),
         Inst::Move { dst, src } => {
-            k.forget(dst);
             let (v, s) = learn::of_move(k, facts, dst, src);
             learn::learn(k, dst, v, s);
         }
         Inst::Bool { op, dst, a, b } => {
-            k.forget(dst);
             let v = bools::bool_of(op, k.value_of(facts, a), k.value_of(facts, b));
             learn::learn(k, dst, v, None);
         }
-        _ => forget_written(k, i),
+        _ => {}
     }
 }
 
@@ -82,7 +80,7 @@ pub fn notes<'a>(
     }
     let mut k = Known::new(known, copy);
     for j in 0..n {
-        note(&mut k, facts, ends::inst_at(code, j));
+        note(&mut k, facts, codec::inst_of(records::record_at(code, j)));
     }
     Some(k)
 }

@@ -3,7 +3,7 @@ use Rattle.std.proofs.Common.{None, Some, ◌/◌, ◌<◌, length, ap, ◌∙�
 use Rattle.procedure.specs.Procedure.{codes_of}
 use Rattle.codec.specs.Codec.{code_of}
 use Rattle.records.specs.Record.{blank}
-use Rattle.ends.proofs.Laws.{length_codes}
+use Rattle.ends.proofs.Laws.{length_codes, inst-there}
 use Rattle.steps.specs.Note.{note, notes}
 use Rattle.facts.specs.Storage.{facts_in}
 use Rattle.note_entries.specs.Storage.{known_in}
@@ -42,7 +42,7 @@ loop-j-preserved c =
     let v = c.loop-j in
     let more : v.j < length (codes_of b) = rw (length_codes b) c.loop-j-test.true in
     record {
-      known = notes_again f (codes_of b) v.j (known_in v.k) (code_of blank) more (s.known ∙ ap (note f (known_in v.k)) c.inst_at.ensures) v.invariant.known;
+      known = notes_again f (codes_of b) v.j (known_in v.k) (code_of blank) more (s.known ∙ ap (note f (known_in v.k)) (c.inst_of.ensures ∙ inst-there b v.j c.record_at.ensures)) v.invariant.known;
       values = omega (arith, s.grows.values.count, v.invariant.values);
       copies = omega (arith, s.grows.copies.count, v.invariant.copies);
       values-fit = rw s.grows.values.long v.invariant.values-fit;
