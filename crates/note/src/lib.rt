@@ -59,7 +59,7 @@ fn note(k: &mut Known, facts: &[u64], i: Inst)
 }
 
 // What is known after the instructions of some records, starting with nothing, or None if a slice has fewer than two words for
-// each record.
+// each record. What `ends::inst_at` does is written out here, so that it is inlined (docs/requests/2.3.md).
 pub fn notes<'a>(
     code: &[u8],
     known: &'a mut [u64],

@@ -41,8 +41,9 @@ loop-j-preserved c =
     let s = c.note.ensures in
     let v = c.loop-j in
     let more : v.j < length (codes_of b) = rw (length_codes b) c.loop-j-test.true in
+    let there = c.inst_of.ensures ∙ inst-there b v.j c.record_at.ensures in
     record {
-      known = notes_again f (codes_of b) v.j (known_in v.k) (code_of blank) more (s.known ∙ ap (note f (known_in v.k)) (c.inst_of.ensures ∙ inst-there b v.j c.record_at.ensures)) v.invariant.known;
+      known = notes_again f (codes_of b) v.j (known_in v.k) (code_of blank) more (s.known ∙ ap (note f (known_in v.k)) there) v.invariant.known;
       values = omega (arith, s.grows.values.count, v.invariant.values);
       copies = omega (arith, s.grows.copies.count, v.invariant.copies);
       values-fit = rw s.grows.values.long v.invariant.values-fit;
