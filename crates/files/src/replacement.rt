@@ -1,6 +1,8 @@
 // A file is replaced completely or not at all: the bytes go into a new file in its folder, which is
 // flushed and then renamed. If that fails, the new file is removed. Between the two steps another file
 // can be replaced.
+ghost use Rattle.io.specs.Counts.{IsPrefixLen};
+
 use crate::name;
 use line::Line;
 use std::fs;
@@ -23,7 +25,9 @@ fn kept(path: &str) -> &str {
 
 // Puts a name in the file's folder that no other file is likely to have, and returns its length.
 // Where chance fails it is still one that a new file gets only if no other file has it.
-fn put_new_name(rt: &impl RandomSource, room: &mut [u8], path: &str) -> usize {
+fn put_new_name(rt: &impl RandomSource, room: &mut [u8], path: &str) -> usize
+    ensures { IsPrefixLen result room.new }
+{
     let mut chance = [0u8; 8];
     let _ = rt.fill_bytes(&mut chance);
     let mut line = Line::new(room);
@@ -140,7 +144,7 @@ pub fn stage<'a>(
     let path = name::text_of(path)?;
     may_replace(rt, path)?;
     let length = put_new_name(rt, room, path);
-    let name = name::text_of(&room[..length.min(room.len())])?;
+    let name = name::text_of(&room[..length])?;
     fill_new(rt, name, bytes)?;
     Ok(Staged { name, path })
 }
