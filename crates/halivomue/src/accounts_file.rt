@@ -19,7 +19,7 @@ pub fn lock_of<'a>(path: &[u8], room: &'a mut [u8]) -> &'a [u8] {
     line.put(path);
     line.put(b".lock");
     let length = line.at;
-    &room[..length.min(room.len())]
+    &room[..length]
 }
 
 // Fills the words from the file.
