@@ -135,7 +135,8 @@ pub fn value_text<'a>(rt: &impl Env, at: usize, from: usize, room: &'a mut [u8])
 // The number of argument i as the user counts: without the words that the script adds.
 pub fn typed(rt: &impl Env, i: usize) -> usize {
     let added = Words::new(rt)
-        .filter(|(k, word)| *k < i && word.role == Role::Status)
+        .take(i.saturating_sub(1))
+        .filter(|(_, word)| word.role == Role::Status)
         .count();
     i.saturating_sub(added)
 }
