@@ -37,13 +37,20 @@ fn can_pop(r: Record, top: usize) -> bool
     r.p1 < r.p2 && r.p2 as usize == top
 }
 
+// Whether there is room for n more records.
+pub fn has_room(work: &[u8], top: usize, n: usize) -> bool
+    ensures { result ≡ spec.room work.now top n }
+{
+    let limit = (work.len() / 32).min(u32::MAX as usize);
+    top <= limit && n <= limit - top
+}
+
 impl Space<'_> {
     // Whether there is room for n more records.
     pub fn has_room(&self, n: usize) -> bool
         ensures { result ≡ spec.room self.now.work.now self.now.top n }
     {
-        let limit = (self.work.len() / 32).min(u32::MAX as usize);
-        self.top <= limit && n <= limit - self.top
+        has_room(self.work, self.top, n)
     }
 
     fn moves(&self, r: Record) -> bool

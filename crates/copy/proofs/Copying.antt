@@ -6,7 +6,7 @@ use native.Mathlib.Omega.{arith}
 use mathlib.Core.Path.{◌≡◌, refl, sym, ap, ◌∙◌}
 use mathlib.Core.List.{List, [], ◌∷◌, ◌++◌, map, map-append, append-nil, append_assoc}
 use Rattle.std.proofs.Common.{Option}
-use lib.ListN.{length, length-append, get_or, drop, drop_of_length-le}
+use lib.ListN.{length, get_or, drop, drop_of_length-le}
 use lib.Seq.{drop-cons}
 use Rattle.inst.specs.declared.Code.{Code}
 use Rattle.inst.specs.declared.Reg.{Reg}
@@ -14,43 +14,41 @@ use Rattle.steps.specs.Facts.{Facts}
 use Rattle.steps.specs.Copy as s
 use Rattle.facts.specs.Storage.{facts_in}
 use Rattle.copy.specs.declared.copied.Copied.{Copied}
-use Rattle.copy.specs.Storage.{codes_in, local_in, olds_in, with_old, taking, Placed, CopyOf}
+use Rattle.copy.specs.Storage.{codes_in, pairs_of, local_in, olds_in, with_old, taking, Placed, CopyOf}
 
 -- an instruction placed
 module _ (a : Copied) (x : Code) (m : ℕ) where
-  pub placed-left : {z : Copied} → z.code.items ≡ a.code.items → z.given.items ≡ a.given.items → Placed a s.left_out x m z
-  placed-left f g =
+  pub placed-left : {z : Copied} → codes_in z ≡ codes_in a → pairs_of z ≡ pairs_of a → z.n ≡ a.n → z.fresh ≡ a.fresh → Placed a s.left_out x m z
+  placed-left f g e w =
       record {
         code = λ rest. rw (add-zero m, f, g);
         olds = rw g;
-        n_le = rw f (omega arith);
-        fresh-is = rw g (omega arith);
+        n_le = omega (arith, e);
+        fresh-is = omega (arith, w);
       }
 
-  pub placed-kept : {y : Code} {z : Copied} → y ≡ s.renamed (local_in a) (λ r. r) x → z.code.items ≡ a.code.items ++ (y ∷ []) → z.given.items ≡ a.given.items
-      → Placed a s.kept x m z
-  placed-kept {y} e f g =
-      let n = length-append (codes_in a) (y ∷ []) in
+  pub placed-kept : {y : Code} {z : Copied} → y ≡ s.renamed (local_in a) (λ r. r) x → codes_in z ≡ codes_in a ++ (y ∷ []) → pairs_of z ≡ pairs_of a
+      → z.n ≡ a.n + 1 → z.fresh ≡ a.fresh → Placed a s.kept x m z
+  placed-kept {y} q f g e w =
       record {
-        code = λ rest. rw (f, g, add-zero m, ← e) (sym (append_assoc (codes_in a) (y ∷ []) (rest (local_in a) m)));
+        code = λ rest. rw (f, g, add-zero m, ← q) (sym (append_assoc (codes_in a) (y ∷ []) (rest (local_in a) m)));
         olds = rw g;
-        n_le = rw f (omega (arith, n));
-        fresh-is = rw g (omega arith);
+        n_le = omega (arith, e);
+        fresh-is = omega (arith, w);
       }
 
   pub placed-new : {y : Code} {z : Copied} (d k : Reg) → k.0 ≡ m → y ≡ s.renamed (local_in a) (s.written d.0 m) x
-      → z.code.items ≡ a.code.items ++ (y ∷ []) → z.given.items ≡ a.given.items ++ ((d, k) ∷ []) → Placed a (s.renumbered d.0) x m z
-  placed-new {y} d k q e f g =
+      → codes_in z ≡ codes_in a ++ (y ∷ []) → pairs_of z ≡ pairs_of a ++ ((d, k) ∷ []) → z.n ≡ a.n + 1 → z.fresh ≡ a.fresh + 1
+      → Placed a (s.renumbered d.0) x m z
+  placed-new {y} d k p q f g e w =
       let local = local_in a ++ ((d.0, m) ∷ []) in
-      let n = length-append (codes_in a) (y ∷ []) in
-      let w = length-append a.given.items ((d, k) ∷ []) in
       record {
         code = λ rest.
-            rw (f, g, map-append {B = ℕ × ℕ} (λ (z : Reg × Reg). (z.0.0, z.1.0)) a.given.items ((d, k) ∷ []), q, add-one m, ← e)
+            rw (f, g, map-append {B = ℕ × ℕ} (λ (z : Reg × Reg). (z.0.0, z.1.0)) (pairs_of a) ((d, k) ∷ []), p, add-one m, ← q)
             (sym (append_assoc (codes_in a) (y ∷ []) (rest local (suc m))));
-        olds = rw g (map-append (λ (z : Reg × Reg). z.0.0) a.given.items ((d, k) ∷ []));
-        n_le = rw f (omega (arith, n));
-        fresh-is = rw g (omega (arith, w));
+        olds = rw g (map-append (λ (z : Reg × Reg). z.0.0) (pairs_of a) ((d, k) ∷ []));
+        n_le = omega (arith, e);
+        fresh-is = omega (arith, w);
       }
 
 -- the kinds of some registers
@@ -66,12 +64,12 @@ kinds-step f own s.kept l ks = refl
 -- z, and the copy of c from place k on, are the copy of c
 pub record Left (t : List ℕ) (c : List Code) (m k : ℕ) (z : Copied) : Type 0 where
   pub code : (body : Option ℕ) (budget : ℕ)
-      → codes_in z ++ s.copy_from (facts_in t body budget) (s.own_uses c) (drop k c) (local_in z) (m + length z.given.items) ≡ s.copy_of (facts_in t body budget) c m
+      → codes_in z ++ s.copy_from (facts_in t body budget) (s.own_uses c) (drop k c) (local_in z) (m + z.fresh) ≡ s.copy_of (facts_in t body budget) c m
   pub kinds : (body : Option ℕ) (budget : ℕ)
       → kinds_for (facts_in t body budget) (olds_in z) ++ s.kinds_given (facts_in t body budget) (s.own_uses c) (drop k c) ≡ s.kinds_of (facts_in t body budget) c
 
 module _ (t : List ℕ) (c : List Code) (m : ℕ) (z : Copied) where
-  pub left-start : z.code.items ≡ [] → z.given.items ≡ [] → Left t c m 0 z
+  pub left-start : z.n ≡ 0 → z.fresh ≡ 0 → Left t c m 0 z
   left-start e n =
       record {
         code = λ body budget. rw (e, n, add-zero m);
@@ -79,7 +77,7 @@ module _ (t : List ℕ) (c : List Code) (m : ℕ) (z : Copied) where
       }
 
   module _ (k : ℕ) (l : Left t c m k z) where
-    pub left-done : length c ≤ k → length z.code.items ≤ 4 → length z.given.items ≤ length z.code.items → CopyOf t c m z
+    pub left-done : length c ≤ k → z.n ≤ 4 → z.fresh ≤ z.n → CopyOf t c m z
     unfolding s.copy_from s.kinds_given
     left-done h n r =
         let none : drop k c ≡ [] = drop_of_length-le c h in
@@ -92,7 +90,7 @@ module _ (t : List ℕ) (c : List Code) (m : ℕ) (z : Copied) where
 
     module _ (y : Copied) (how : s.How) (x d : Code) (h : k < length c) (q : x ≡ get_or c k d)
         (w : (body : Option ℕ) (budget : ℕ) → how ≡ s.how_of (facts_in t body budget) (s.own_uses c) x.inst)
-        (p : Placed z how x (m + length z.given.items) y) where
+        (p : Placed z how x (m + z.fresh) y) where
       next : drop k c ≡ x ∷ drop (k + 1) c
       next = rw (add-one k, q) (drop-cons c k d h)
 
@@ -104,9 +102,9 @@ module _ (t : List ℕ) (c : List Code) (m : ℕ) (z : Copied) where
                 let f = facts_in t body budget in
                 let own = s.own_uses c in
                 ap (λ (n : ℕ). codes_in y ++ s.copy_from f own (drop (k + 1) c) (local_in y) n)
-                (ap (λ (n : ℕ). m + n) p.fresh-is ∙ sym (add_assoc m (length z.given.items) (taking how)))
+                (ap (λ (n : ℕ). m + n) p.fresh-is ∙ sym (add_assoc m z.fresh (taking how)))
                 ∙ sym (p.code (s.copy_from f own (drop (k + 1) c)))
-                ∙ ap (λ (g : s.How). codes_in z ++ s.place g x (local_in z) (m + length z.given.items) (s.copy_from f own (drop (k + 1) c))) (w body budget)
+                ∙ ap (λ (g : s.How). codes_in z ++ s.place g x (local_in z) (m + z.fresh) (s.copy_from f own (drop (k + 1) c))) (w body budget)
                 ∙ (rw next at (l.code body budget));
             kinds = λ body budget.
                 let f = facts_in t body budget in

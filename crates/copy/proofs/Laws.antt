@@ -1,14 +1,14 @@
--- Laws of counting reads, of the pairs of an old and a new number, and of the first four instructions.
+-- Laws of counting reads, of the pairs of an old and a new number, of an array's first places, and of the first four instructions.
 use Prim.Native.Nat.{ℕ, ◌+◌, ◌≤◌, ◌<◌, min}
 use native.Mathlib.Numerals.{add-one}
 use native.Mathlib.Omega.{arith}
 use mathlib.Core.Path.{◌≡◌, refl, ap, fun_ext}
 use mathlib.Core.Bool.{Bool, true, false, cond}
 use Rattle.std.proofs.Common.{Some}
-use mathlib.Core.List.{List, [], ◌∷◌}
+use mathlib.Core.List.{List, [], ◌∷◌, ◌++◌}
 use lib.Dec.{eqb}
-use lib.ListN.{length, get_or, take, drop, length-append, drop_of_length-le}
-use lib.Seq.{drop-cons}
+use lib.ListN.{length, get_or, take, drop, set, length-append, drop_of_length-le}
+use lib.Seq.{drop-cons, take-suc-set}
 use Rattle.std.specs.List.{count_by}
 use Rattle.std.proofs.lemmas.List.Recursion.{is_count_by}
 use Rattle.inst.specs.declared.Reg.{Reg}
@@ -61,6 +61,10 @@ through-found (x ∷ l) r = by (eqb x.0 r) (through-found l r)
 
 pub exchanged-found : (l : List (ℕ × ℕ)) (τ : ℕ → ℕ) (i : Inst) → exchanged (through l) τ i ≡ exchanged (read_through l) τ i
 exchanged-found l τ i = ap (λ (σ : ℕ → ℕ). exchanged σ τ i) (fun_ext (through-found l))
+
+-- one place more
+pub one-more : {A : Type 0} (n : ℕ) (l : List A) (x : A) → n < length l → take (n + 1) (set l n x) ≡ take n l ++ (x ∷ [])
+one-more n l x h = rw (add-one n) (take-suc-set l n x h)
 
 -- the first four of some code
 pub four_first : (c : List Code) → take (min (length c) 4) (first_four c) ≡ take 4 c

@@ -1,6 +1,7 @@
--- Storage, not the paper's: how two short lists represent a copy.
-use Rattle.std.specs.Prelude.{ℕ, ◌+◌, ◌≤◌, ◌≡◌, Bool, true, false, cond, List, [], ◌∷◌, ◌++◌, map, eqb, length, get_or, Option}
+-- Storage, not the paper's: how arrays of four represent a copy.
+use Rattle.std.specs.Prelude.{ℕ, ◌+◌, ◌≤◌, ◌≡◌, Bool, true, false, cond, List, [], ◌∷◌, ◌++◌, map, eqb, take, get_or, Option}
 use Rattle.inst.specs.declared.Code.{Code}
+use Rattle.inst.specs.declared.Reg.{Reg}
 use Rattle.visit_mut.specs.Pairs.{pairs_in}
 use Rattle.ends.specs.Forms.{Fixed, word, real, address, varying}
 use Rattle.ends.specs.Ends.{code_at}
@@ -27,14 +28,18 @@ how_one uses own d x = cond (is_const x) s.left_out (cond (eqb uses own) (s.renu
 
 -- the instructions of the copy
 abbrev pub codes_in : Copied → List Code
-codes_in z = z.code.items
+codes_in z = take z.n z.code
 
--- the registers that got a new number: with it, and without
+-- the registers that got a new number, with it
+abbrev pub pairs_of : Copied → List (Reg × Reg)
+pairs_of z = take z.fresh z.given
+
+-- the same by their numbers: with the new one, and without
 abbrev pub local_in : Copied → List (ℕ × ℕ)
-local_in z = pairs_in z.given.items
+local_in z = pairs_in (pairs_of z)
 
 abbrev pub olds_in : Copied → List ℕ
-olds_in z = map (λ x. x.0.0) z.given.items
+olds_in z = map (λ x. x.0.0) (pairs_of z)
 
 abbrev pub first_four : List Code → List Code
 first_four c = code_at c 0 ∷ code_at c 1 ∷ code_at c 2 ∷ code_at c 3 ∷ []
@@ -55,13 +60,13 @@ pub record Placed (a : Copied) (how : s.How) (x : Code) (m : ℕ) (z : Copied) :
   pub code : (rest : List (ℕ × ℕ) → ℕ → List Code)
       → (codes_in a ++ s.place how x (local_in a) m rest ≡ codes_in z ++ rest (local_in z) (m + taking how))
   pub olds : olds_in z ≡ with_old how (olds_in a)
-  pub n_le : length z.code.items ≤ length a.code.items + 1
-  pub fresh-is : length z.given.items ≡ length a.given.items + taking how
+  pub n_le : z.n ≤ a.n + 1
+  pub fresh-is : z.fresh ≡ a.fresh + taking how
 
 -- the copy of some code, with the kinds of its new numbers
 pub record CopyOf (facts : List ℕ) (c : List Code) (m : ℕ) (z : Copied) : Type 0 where
   pub code : (body : Option ℕ) (budget : ℕ) → codes_in z ≡ s.copy_of (facts_in facts body budget) c m
   pub kinds : (body : Option ℕ) (budget : ℕ)
       → map (λ d. get_or (facts_in facts body budget).registers d 0) (olds_in z) ≡ s.kinds_of (facts_in facts body budget) c
-  pub n_le : length z.code.items ≤ 4
-  pub fresh_le : length z.given.items ≤ length z.code.items
+  pub n_le : z.n ≤ 4
+  pub fresh_le : z.fresh ≤ z.n

@@ -10,7 +10,6 @@ ghost use Rattle.steps.specs.Copy as steps;
 ghost use Rattle.facts.specs.Storage.{facts_in, uses_in};
 ghost use Rattle.copy.specs.Storage.{how_in, is_const, how_one, first_four, CopyOf};
 
-use arrayvec::ArrayVec;
 use inst::{Code, Inst, Reg};
 
 mod copied;
@@ -115,10 +114,7 @@ impl<'a> Target<'a> {
         requires { m.0 ≤ 65535 }
         ensures { CopyOf self.entry.facts.now self.entry.code.now m.0 result }
     {
-        let mut s = Copied {
-            code: ArrayVec::new(),
-            given: ArrayVec::new(),
-        };
+        let mut s = Copied::empty();
         for x in self.code {
             let how = self.how_of(x.inst);
             let k = s.next(m);

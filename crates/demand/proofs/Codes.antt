@@ -84,6 +84,11 @@ module _ (ops : List ℕ) where
       by (inl z) = inl (inr z)
       by (inr z) = inr z
 
+  pub read_left : (c d : List Code) (r : ℕ) → Read ops c r → Read ops (c ++ d) r
+  read_left [] d r x = absurd x
+  read_left (y ∷ c) d r (inl m) = inl m
+  read_left (y ∷ c) d r (inr x) = inr (read_left c d r x)
+
   pub read_right : (c d : List Code) (r : ℕ) → Read ops d r → Read ops (c ++ d) r
   read_right [] d r x = x
   read_right (y ∷ c) d r x = inr (read_right c d r x)

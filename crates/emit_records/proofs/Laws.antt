@@ -3,9 +3,10 @@ use Prim.Native.Nat.{ℕ, ◌+◌, ◌/◌, ◌≤◌, ◌<◌}
 use native.Mathlib.Numerals.{add-one}
 use native.Mathlib.Omega.{arith}
 use mathlib.Core.Path.{◌≡◌, refl, sym, ap, ◌∙◌}
-use mathlib.Core.Bool.{Bool, true, false, or-false}
-use mathlib.Core.List.{List, [], ◌∷◌}
+use mathlib.Core.Bool.{Bool, true, false, cond, or-false}
+use mathlib.Core.List.{List, [], ◌∷◌, map}
 use mathlib.Core.Logic.{◌⊎◌, inl, inr}
+use Rattle.std.proofs.Common.{Option}
 use borrow.Author.Tests.{lt-ltb, le-ltb}
 use lib.ListN.{length, get_or, drop, drop_of_length-le}
 use lib.Seq.{drop-cons}
@@ -18,12 +19,12 @@ use Rattle.inst.specs.declared.Reg.{Reg}
 use Rattle.inst.specs.declared.AddrSpace.{AddrSpace}
 use Rattle.real.specs.declared.Real.{Real}
 use Rattle.inst.specs.declared.Inst.TheVariants as i
-use Rattle.codec.specs.Codec.{inst_of}
+use Rattle.codec.specs.Codec.{inst_of, code_of}
 use Rattle.codec.proofs.Table.{inst-at}
 use Rattle.ends.specs.Forms.{form_of, fixed_of}
-use Rattle.steps.specs.Emit.{is_last, stays}
+use Rattle.steps.specs.Emit.{is_last, stays, rescued_of}
 use Rattle.procedure.specs.Lists.{any_of}
-use Rattle.facts.specs.Storage.{single_in}
+use Rattle.facts.specs.Storage.{facts_in, single_in}
 use Rattle.emit_records.specs.Emitted.{rescued_by, rescued_in, stays_by, place, put}
 
 -- each of the three is rescued where its register is single
@@ -72,6 +73,18 @@ module _ (facts : List ℕ) (rs : List Record) (k : ℕ) where
   pub rescued-end : length rs ≤ k → rescued_in facts (drop k rs) ≡ []
   unfolding rescued_in
   rescued-end h = ap (rescued_in facts) (drop_of_length-le rs h)
+
+-- the rescued records hold the rescued instructions
+pub rescued_codes : (facts : List ℕ) (body : Option ℕ) (budget : ℕ) (rs : List Record)
+    → map code_of (rescued_in facts rs) ≡ rescued_of (facts_in facts body budget) (map code_of rs)
+unfolding rescued_in rescued_of
+rescued_codes facts body budget [] = refl
+rescued_codes facts body budget (r ∷ rs) = by (rescued_by facts (inst_of r)) (rescued_codes facts body budget rs)
+  where
+    by : (b : Bool) {l : List Code} → map code_of (rescued_in facts rs) ≡ l
+        → map code_of (cond b (r ∷ rescued_in facts rs) (rescued_in facts rs)) ≡ cond b (code_of r ∷ l) l
+    by true e = ap (λ (t : List Code). code_of r ∷ t) e
+    by false e = e
 
 -- a record written
 module _ (b : List ℕ) (at : ℕ) (r : Record) where

@@ -4,8 +4,9 @@ use native.Mathlib.Numerals.{add-one}
 use native.Mathlib.Omega.{arith}
 use mathlib.Core.Path.{◌≡◌, refl, sym, ap, ◌∙◌}
 use mathlib.Core.Bool.{Bool, true, false, cond, true≢false}
-use mathlib.Core.List.{List, [], ◌∷◌, ◌++◌, map}
+use mathlib.Core.List.{List, [], ◌∷◌, ◌++◌, map, map-append}
 use mathlib.Core.Logic.{◌⊎◌, inl, inr}
+use Rattle.std.proofs.Common.{Option}
 use borrow.Author.Tests.{lt-leb, le-leb}
 use lib.Dec.{leb, ltb}
 use lib.ListN.{length, get_or, drop, length-drop, length-map, drop_of_length-le, get_or-map, get_or-eq_default}
@@ -17,9 +18,10 @@ use Rattle.put_record.proofs.Laws.{put-length}
 use Rattle.inst.specs.declared.Code.{Code}
 use Rattle.codec.specs.Codec.{code_of, record_of, block_of}
 use Rattle.procedure.specs.Lists.{joined}
-use Rattle.steps.specs.Emit.{is_last, stays, empty_from, emptied}
+use Rattle.facts.specs.Storage.{facts_in}
+use Rattle.steps.specs.Emit.{is_last, stays, rescues, rescued_of, empty_from, emptied}
 use Rattle.emit_records.specs.Emitted.{stays_by, branch_record, rescued_in, Place, place, put, puts, codes_in, stays_at, lost_at, new_at, rescues_in, empty_in}
-use Rattle.emit_records.proofs.Laws.{stays-told, put_in}
+use Rattle.emit_records.proofs.Laws.{stays-told, rescued_codes, put_in}
 
 pub puts-append : (xs ys : List Record) (s : Place) → puts (xs ++ ys) s ≡ puts ys (puts xs s)
 unfolding puts
@@ -145,6 +147,21 @@ module _ (marks : List Bool) (R : List (List Record)) (b : ℕ) where
 
   pub empty_end : length R ≤ b → joined (empty_in b (drop b marks) (drop b R)) ≡ []
   empty_end h = ap (λ (r : List (List Record)). joined r) (empty_none h)
+
+-- the rescued records hold the instructions that steps rescues
+pub rescues_codes : (facts : List ℕ) (body : Option ℕ) (budget : ℕ) (marks : List Bool) (R : List (List Record))
+    → map code_of (rescues_in facts marks R) ≡ rescues (facts_in facts body budget) marks (codes_in R)
+unfolding rescues_in rescues
+rescues_codes facts body budget marks [] = refl
+rescues_codes facts body budget [] (c ∷ cs) = refl
+rescues_codes facts body budget (m ∷ ms) (c ∷ cs) =
+    map-append code_of (cond (stays m (codes_in cs) (map code_of c)) [] (rescued_in facts c)) (rescues_in facts ms cs)
+    ∙ ap (λ (l : List Code). map code_of (cond (stays m (codes_in cs) (map code_of c)) [] (rescued_in facts c)) ++ l) (rescues_codes facts body budget ms cs)
+    ∙ ap (λ (l : List Code). l ++ rescues (facts_in facts body budget) ms (codes_in cs)) (by (stays m (codes_in cs) (map code_of c)))
+  where
+    by : (b : Bool) → map code_of (cond b [] (rescued_in facts c)) ≡ cond b [] (rescued_of (facts_in facts body budget) (map code_of c))
+    by true = refl
+    by false = rescued_codes facts body budget c
 
 -- the blocks that are written are the records of those that steps emits
 pub empty_records : (b : ℕ) (marks : List Bool) (R : List (List Record)) → R ≡ map (map record_of) (codes_in R)

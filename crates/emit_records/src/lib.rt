@@ -48,6 +48,17 @@ pub fn stays(mark: bool, last: bool, code: &[u8]) -> bool
     mark || last || code.len() / 32 <= 1 && !is_jump(ends::end_of(code))
 }
 
+// Writes some bytes over as many others. By index: of std's `copy_from_slice` LLVM makes a call of `memmove`, and the archives for C
+// call only `memcpy` and `memset`.
+fn copy(to: &mut [u8], from: &[u8])
+    requires { length to.old ≡ length from.now }
+    ensures { to.new ≡ from.now }
+{
+    for k in 0..from.len() {
+        to[k] = from[k];
+    }
+}
+
 // Records that are written one after the other into lent bytes (there is no heap), and the place of the next. What has no room is
 // left out.
 #[derive(Drop)]
@@ -83,7 +94,10 @@ impl Writer<'_> {
         let n = code.len() / 32;
         let room = self.out.len() / 32;
         if self.at <= room && n <= room - self.at {
-            self.out[32 * self.at..32 * self.at + 32 * n].copy_from_slice(&code[..32 * n]);
+            copy(
+                &mut self.out[32 * self.at..32 * self.at + 32 * n],
+                &code[..32 * n],
+            );
             self.at += n;
         } else {
             self.put_each(code);

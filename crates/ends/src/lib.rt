@@ -25,7 +25,20 @@ pub fn inst_at(code: &[u8], k: usize) -> Inst
     codec::inst_of(records::record_at(code, k))
 }
 
-// How a terminator's record ends its block: only its kind and its fields are read, since by the instruction drawn files of 240 take
+// How an instruction ends its block.
+#[tactic(auto, unfolding(crate::specs::Ends::view_of, crate::specs::Forms::form_of))]
+pub fn view_of(i: Inst) -> End
+    ensures { result ≡ view_of i }
+{
+    match i {
+        Inst::Br { to } => End::Br(to),
+        Inst::CondBr { c, t, f } => End::CondBr(c, t, f),
+        Inst::Case { table, .. } => End::Case(table),
+        _ => End::Other,
+    }
+}
+
+// The same for a record: only its kind and its fields are read, since by the instruction drawn files of 240 take
 // 9.3 % more machine instructions (docs/DECISIONS.md). A function and no From: a view, which forgets most of an instruction.
 #[tactic(auto, using(codec::proofs::Table::inst_by_kind), unfolding(crate::specs::Ends::view_of, crate::specs::Forms::form_of))]
 pub fn end_in(r: Record) -> End

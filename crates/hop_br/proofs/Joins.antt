@@ -7,7 +7,7 @@ use mathlib.Core.List.{List, [], ◌∷◌, ◌++◌, map, append-nil}
 use mathlib.Core.Logic.{◌⊎◌, inl, inr}
 use Rattle.std.proofs.Common.{Option}
 use lib.ListN.{length, get_or, take, set, length-set, length-map}
-use lib.Seq.{take-suc-set, append_snoc, set_out}
+use lib.Seq.{take-suc-set, length-take-le, append_snoc, set_out}
 use Rattle.inst.specs.declared.Reg.{Reg}
 use Rattle.inst.specs.declared.Code.{Code}
 use Rattle.procedure.specs.Procedure.{codes_of}
@@ -17,7 +17,7 @@ use Rattle.facts.specs.Storage.{kinds_in, facts_in}
 use Rattle.arena.specs.Arena.{Arena, arena, arena_in, Topped, topped_in, to_end, pop, push_all}
 use Rattle.arena.specs.declared.Space.{Space}
 use Rattle.copy.specs.declared.copied.Copied.{Copied}
-use Rattle.copy.specs.Storage.{codes_in, olds_in, CopyOf}
+use Rattle.copy.specs.Storage.{codes_in, pairs_of, olds_in, CopyOf}
 use Rattle.hop_br.specs.Storage.{kinds_put, next_in, target_in, copy_in, given_in, fresh_to, cut, replaced, left, join_of}
 
 pub kinds-past : (b : List ℕ) (at : ℕ) (ks : List ℕ) → length b ≤ at → kinds_put b at ks ≡ b
@@ -97,16 +97,19 @@ module _ (facts : List ℕ) (body : Option ℕ) (budget l fresh : ℕ) (s : Aren
     pub kinds_are : map (λ (d : ℕ). get_or (kinds_in facts) d 0) (olds_in z) ≡ given_in facts body budget (target_in s l)
     kinds_are = copy.kinds body budget ∙ ap (λ (x : List ℕ). kinds_of (facts_in facts body budget) (take 4 (codes_of x))) bytes
 
-    n-is : length z.code.items ≡ length (copy_in facts body budget fresh (target_in s l))
-    n-is = ap length code_is
+    n-is : z.n ≡ length (copy_in facts body budget fresh (target_in s l))
+    n-is = sym (length-take-le z.n z.code (omega (arith, z.four_codes, z.fits))) ∙ ap length code_is
 
-    fresh-is : length z.given.items ≡ length (given_in facts body budget (target_in s l))
-    fresh-is = sym (kinds-count (λ d. get_or (kinds_in facts) d 0) z.given.items) ∙ ap length kinds_are
+    fresh-is : length (pairs_of z) ≡ length (given_in facts body budget (target_in s l))
+    fresh-is = sym (kinds-count (λ d. get_or (kinds_in facts) d 0) (pairs_of z)) ∙ ap length kinds_are
+
+    pub given_is : z.fresh ≡ length (given_in facts body budget (target_in s l))
+    given_is = sym (length-take-le z.fresh z.given (omega (arith, z.four_pairs, z.fits, z.each_writes))) ∙ fresh-is
 
     pub joins : (a : ℕ) (kinds : List ℕ) {kinds' : List ℕ} {t : Arena} {f : ℕ} → t ≡ replaced a (codes_in z) s
         → kinds' ≡ kinds_put kinds fresh (map (λ (d : ℕ). get_or (kinds_in facts) d 0) (olds_in z))
-        → f ≡ fresh_to fresh (length z.given.items)
-        → left t kinds' (length z.code.items) f ≡ join_of facts body budget a l fresh s kinds
+        → f ≡ fresh_to fresh (length (pairs_of z))
+        → left t kinds' z.n f ≡ join_of facts body budget a l fresh s kinds
     joins a kinds grown put count =
         left-same (grown ∙ ap (λ (c : List Code). replaced a c s) code_is) (put ∙ ap (kinds_put kinds fresh) kinds_are) n-is
         (count ∙ ap (fresh_to fresh) fresh-is)

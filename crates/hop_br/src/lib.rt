@@ -3,16 +3,17 @@
 
 ghost use Rattle.std.specs.Prelude.{◌≡◌, ◌<◌, ◌^◌, false, map, ◌&&◌, ℕ, length, get_or, Option};
 ghost use Rattle.procedure.specs.Procedure.{codes_of};
-ghost use Rattle.blocks.specs.Blocks.{blocks_of};
+ghost use Rattle.blocks.specs.Blocks.{blocks_in};
 ghost use Rattle.steps.specs.Small as small;
 ghost use Rattle.steps.specs.Thread as steps;
 ghost use Rattle.facts.specs.Storage.{konst_at, kinds_in, facts_in};
 ghost use Rattle.pause.specs.Storage.{body_in};
-ghost use Rattle.hop_br.specs.Storage.{grown_to, next_in, fresh_to, kinds_put, left, join_of};
+ghost use Rattle.hop_br.specs.Storage.{grown_to, next_in, fresh_to, kinds_put, target_in, given_in, left, join_of};
 ghost use Rattle.hop_br.specs.Kept.{SameKinds};
 ghost use Rattle.arena.specs.Arena.{arena_in, SameSlices};
 
 use arena::Space;
+use blocks::Blocks;
 use inst::{BlockId, Reg};
 use pause::Facts;
 
@@ -32,9 +33,9 @@ fn budget_of(facts: &Facts) -> u32
 // Whether a Br of block a to block l stays: l is a or the body, `binds` holds, enough was copied,
 // or l can't be copied.
 #[tactic(auto, using(crate::proofs::Laws::stop_self, crate::proofs::Laws::stop_body, crate::proofs::Laws::stop_konst, crate::proofs::Laws::stop_grown, crate::proofs::Laws::stop_last))]
-pub fn stops(space: &Space, facts: &Facts, grown: u64, a: BlockId, l: BlockId) -> bool
+pub fn stops(blocks: Blocks, facts: &Facts, grown: u64, a: BlockId, l: BlockId) -> bool
     ensures stops { result ≡ steps.stops (facts_in facts.now.table.now (body_in facts.now.pause) facts.now.budget)
-        (grown_to (blocks_of space.now.work.now space.now.table.now) grown) a.0 l.0 }
+        (grown_to (blocks_in blocks.entry) grown) a.0 l.0 }
     ensures few { result ≡ false → grown < 2 ^ 32 }
 {
     if l == a {
@@ -44,7 +45,6 @@ pub fn stops(space: &Space, facts: &Facts, grown: u64, a: BlockId, l: BlockId) -
         return true;
     }
     let wide = pause::has_pause(facts.pause);
-    let blocks = space.blocks();
     if binds(blocks.block(l), facts.table, wide) {
         return true;
     }
@@ -110,22 +110,34 @@ impl Added<'_> {
     }
 }
 
-// Replaces the Br at the end of block a by the code of block l; returns how many instructions that
-// added.
-pub fn join(space: &mut Space, added: &mut Added, facts: &[u64], a: BlockId, l: BlockId) -> usize
+// How many instructions a join added, and how many new registers it gave. `Added` has the total of
+// these, 65535 at most.
+#[derive(Clone, Copy)]
+pub struct Joined {
+    pub n: usize,
+    pub fresh: usize,
+}
+
+// Replaces the Br at the end of block a by the code of block l.
+pub fn join(space: &mut Space, added: &mut Added, facts: &[u64], a: BlockId, l: BlockId) -> Joined
     ensures same { SameSlices space.old space.new }
     ensures same_kinds { SameKinds added.old added.new }
     ensures rest { (added.new.grown ≡ added.old.grown) × (added.new.edited ≡ added.old.edited) }
     ensures joined { (body : Option ℕ) (budget : ℕ)
-        → left (arena_in space.new) added.new.kinds.now result added.new.fresh
+        → left (arena_in space.new) added.new.kinds.now result.n added.new.fresh
         ≡ join_of facts.now body budget a.0 l.0 added.old.fresh (arena_in space.old) added.old.kinds.now }
+    ensures given { (body : Option ℕ) (budget : ℕ)
+        → result.fresh ≡ length (given_in facts.now body budget (target_in (arena_in space.old) l.0)) }
 {
     let m = added.next(facts);
     let blocks = space.blocks();
     let z = copy::copy_of(blocks.block(l), facts, m);
-    added.give(facts, z.given.as_slice());
+    added.give(facts, z.given());
     space.to_end(a);
     space.pop(a);
-    space.append(a, z.code.as_slice());
-    z.code.len()
+    space.append(a, z.code());
+    Joined {
+        n: z.n,
+        fresh: z.fresh,
+    }
 }

@@ -1,12 +1,6 @@
 -- Storage, not the paper's: what a hop of a CondBr keeps of what it is lent.
 use Rattle.std.specs.Prelude.{◌≡◌, length}
-use Rattle.arena.specs.declared.Space.{Space}
-use Rattle.arena.specs.Arena.{SameSlices}
 use Rattle.hop_cond_br.specs.declared.Room.{Room}
-
--- all but the code's bytes
-abbrev pub Recoded : Space → Space → Type 0
-Recoded s t = SameSlices s t × (t.table.now ≡ s.table.now) × (t.top ≡ s.top)
 
 -- the same two slices, as long as before
 pub record SameRoom (s t : Room) : Type 0 where

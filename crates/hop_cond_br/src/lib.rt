@@ -10,9 +10,9 @@ ghost use Rattle.facts.specs.Storage.{facts_in};
 ghost use Rattle.note.specs.Noted.{enough};
 ghost use Rattle.pause.specs.Storage.{body_in};
 ghost use Rattle.hop_cond_br.specs.Storage.{turned, arm_in, turn_in, fold_in, tested_in, room_in, turned_in};
-ghost use Rattle.hop_cond_br.specs.Kept.{Recoded, SameRoom};
+ghost use Rattle.hop_cond_br.specs.Kept.{SameRoom};
 
-use arena::Space;
+use blocks::Blocks;
 use ends::End;
 use inst::{BlockId, Inst, Reg};
 use pause::{Facts, Pause};
@@ -63,9 +63,9 @@ fn matching(truth: bool, c: Reg, l: BlockId, e: End) -> BlockId
 
 // An arm of b, with its block passed over if it only tests the same register again.
 #[tactic(auto, using(crate::proofs::Turns::arm_here, crate::proofs::Turns::arm_pause, crate::proofs::Turns::arm_past))]
-fn arm_of(space: &Space, pause: Pause, a: BlockId, b: CondBr, truth: bool) -> BlockId
+fn arm_of(blocks: Blocks, pause: Pause, a: BlockId, b: CondBr, truth: bool) -> BlockId
     ensures { result ≡ block_of
-        (arm_in space.now.table.now a.0 space.now.work.now (body_in pause) b.c.0 truth (cond truth b.t b.f).0) }
+        (arm_in blocks.entry.table.now a.0 blocks.entry.code.now (body_in pause) b.c.0 truth (cond truth b.t b.f).0) }
 {
     let l = b.arm(truth);
     if l == a {
@@ -74,7 +74,6 @@ fn arm_of(space: &Space, pause: Pause, a: BlockId, b: CondBr, truth: bool) -> Bl
     if pause::is_pause(pause, l) {
         return l;
     }
-    let blocks = space.blocks();
     matching(truth, b.c, l, gate::lone_at(blocks, l))
 }
 
@@ -87,39 +86,35 @@ fn same(b: CondBr, x: CondBr) -> bool
 
 // Rewrites the CondBr b of block a to test d, with the arms that `arm_of` gives.
 #[tactic(auto, using(crate::proofs::Turns::all_same, crate::proofs::Turns::one_differs))]
-fn rewrite(space: &mut Space, pause: Pause, a: BlockId, b: CondBr, d: Reg) -> Turn
-    ensures same { Recoded space.old space.new }
-    ensures turned { turned space.new.work.now result
-        ≡ turn_in space.old.table.now a.0 space.old.work.now (body_in pause) b.c.0 b.t.0 b.f.0 d.0 }
+fn rewrite(code: &mut [u8], table: &[u8], pause: Pause, a: BlockId, b: CondBr, d: Reg) -> Turn
+    ensures { turned code.new result
+        ≡ turn_in table.now a.0 code.old (body_in pause) b.c.0 b.t.0 b.f.0 d.0 }
 {
     let r = CondBr { c: d, ..b };
-    let t = arm_of(space, pause, a, r, true);
-    let f = arm_of(space, pause, a, r, false);
+    let blocks = Blocks { code, table };
+    let t = arm_of(blocks, pause, a, r, true);
+    let f = arm_of(blocks, pause, a, r, false);
     if same(b, CondBr { c: d, t, f }) {
         return Turn::Stay;
     }
-    let blocks = space.blocks();
     let at = blocks.record(a.0 as usize);
-    blocks::rewrite_end(space.work, at, Inst::CondBr { c: d, t, f });
+    blocks::rewrite_end(code, at, Inst::CondBr { c: d, t, f });
     Turn::Last
 }
 
 // Turns the CondBr b of block a into a Br, by a known value.
 #[tactic(auto, using(crate::proofs::Turns::taken))]
-fn fold(space: &mut Space, a: BlockId, b: CondBr, v: u64) -> Turn
-    ensures same { Recoded space.old space.new }
-    ensures turned { turned space.new.work.now result
-        ≡ fold_in space.old.table.now a.0 space.old.work.now v b.t.0 b.f.0 }
+fn fold(code: &mut [u8], table: &[u8], a: BlockId, b: CondBr, v: u64) -> Turn
+    ensures { turned code.new result ≡ fold_in table.now a.0 code.old v b.t.0 b.f.0 }
 {
-    let blocks = space.blocks();
+    let blocks = Blocks { code, table };
     let at = blocks.record(a.0 as usize);
-    blocks::rewrite_br(space.work, at, b.arm(v != 0));
+    blocks::rewrite_br(code, at, b.arm(v != 0));
     Turn::Next
 }
 
 // What is known of register c after some code: what it copies, and the value of that. None if there
-// is no room to note it. Tried with a Room: `notes` holds both slices, and a caller wasn't told
-// afterwards that they are as long.
+// is no room to note it. The slices come apart, as `notes` takes them.
 fn tested(
     code: &[u8],
     known: &mut [u64],
@@ -141,21 +136,27 @@ fn tested(
 
 // A hop of block a, which ends with b.
 #[tactic(auto, using(crate::proofs::Turns::no_value, crate::proofs::Turns::no_room))]
-pub fn hop_cond_br(space: &mut Space, room: &mut Room, facts: &Facts, a: BlockId, b: CondBr) -> Turn
-    ensures same { Recoded space.old space.new }
+pub fn hop_cond_br(
+    code: &mut [u8],
+    table: &[u8],
+    room: &mut Room,
+    facts: &Facts,
+    a: BlockId,
+    b: CondBr,
+) -> Turn
     ensures same_room { SameRoom room.old room.new }
-    ensures turned { turned space.new.work.now result
-        ≡ turned_in space.old.table.now a.0 facts.now.table.now (body_in facts.now.pause) space.old.work.now
+    ensures turned { turned code.new result
+        ≡ turned_in table.now a.0 facts.now.table.now (body_in facts.now.pause) code.old
         b.c.0 b.t.0 b.f.0
-        (room_in space.old.table.now a.0 space.old.work.now room.old.known.now room.old.copy.now) }
+        (room_in table.now a.0 code.old room.old.known.now room.old.copy.now) }
 {
-    let blocks = space.blocks();
+    let blocks = Blocks { code, table };
     let front = blocks::front(blocks.block(a));
     let n = tested(front, room.known, room.copy, facts.table, b.c);
     match n {
         Some((d, v)) => match v {
-            Some(x) => fold(space, a, b, x),
-            None => rewrite(space, facts.pause, a, b, d),
+            Some(x) => fold(code, table, a, b, x),
+            None => rewrite(code, table, facts.pause, a, b, d),
         },
         None => Turn::Stay,
     }

@@ -1,7 +1,7 @@
 // A line of text that is put together in a lent buffer (there is no heap). What doesn't fit is left out.
 #![tactic(auto)]
 
-ghost use Rattle.std.specs.Prelude.{◌≤◌, ◌≡◌, [], ◌∷◌, length, take};
+ghost use Rattle.std.specs.Prelude.{◌≤◌, ◌≡◌, [], ◌∷◌, length, take, min};
 
 use std::fmt;
 
@@ -23,6 +23,16 @@ impl<'a> Line<'a> {
         ensures empty { result.at ≡ 0 }
     {
         Line { bytes, at: 0 }
+    }
+
+    // A line whose next text goes to this place of the buffer, or to its end if that comes first.
+    pub fn starting_at(bytes: &'a mut [u8], at: usize) -> Line<'a>
+        ensures same { result.bytes.ghost_name ≡ bytes.entry.ghost_name }
+        ensures kept { result.bytes.now ≡ bytes.old }
+        ensures place { result.at ≡ min at (length bytes.old) }
+    {
+        let start = usize::min(at, bytes.len());
+        Line { bytes, at: start }
     }
 
     // Begins again.

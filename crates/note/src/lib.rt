@@ -1,12 +1,12 @@
 // What is known of registers before a block's last instruction: `note`.
 #![tactic(auto)]
 
-ghost use Rattle.std.specs.Prelude.{◌≡◌, cond, ◌/◌, ◌≤◌, length, option_map};
+ghost use Rattle.std.specs.Prelude.{◌≡◌, cond, ◌/◌, ◌≤◌, length, option_map, IfSome};
 ghost use Rattle.roles.specs.Roles.{defs_of};
 ghost use Rattle.steps.specs.Note.{forget_all, note as note_of, notes as notesOf, nothing};
 ghost use Rattle.procedure.specs.Procedure.{codes_of};
 ghost use Rattle.facts.specs.Storage.{facts_in};
-ghost use Rattle.note_entries.specs.Storage.{known_in, Grows};
+ghost use Rattle.note_entries.specs.Storage.{known_in, LentBoth, Grows};
 ghost use Rattle.note.specs.Noted.{Roomy, enough};
 
 use inst::Inst;
@@ -66,10 +66,11 @@ pub fn notes<'a>(
     copy: &'a mut [u32],
     facts: &[u64],
 ) -> Option<Known<'a>>
-    ensures { option_map known_in result
+    ensures known { option_map known_in result
         ≡ cond (enough (length code.now / 32) known.old copy.old)
         (Some (notesOf (facts_in facts.now None 0) nothing (codes_of code.now)))
         None }
+    ensures lent { IfSome result (LentBoth known.entry copy.entry) }
 {
     let n = code.len() / 32;
     if known.len() / 2 < n {

@@ -1,8 +1,9 @@
 ghost use Rattle.std.specs.Prelude.{◌≡◌, ◌<◌, ◌≤◌, ◌+◌, ◌/◌, ◌++◌, ◌∷◌, [], Bool, cond, ltb, length, Option, filter, take};
 
 // Entries of two words at the front of a lent slice. The slice is words and no pairs, since C lends it to the benchmark as words;
-// std's `as_chunks_mut` would make pairs of them, but promises nothing of what the slice ends as. That the slice stays as long, and
-// how many entries are added (`Keeps`, `Grows`), are facts about before and after, which no ghost field can hold.
+// std's `as_chunks_mut` would make pairs of them, but promises nothing of what the slice ends as. Which slice it is (`Lent`), that it
+// stays the same, as long, and how many entries are added (`Keeps`, `Grows`), are facts about before and after, which no ghost field
+// can hold.
 #[derive(Drop)]
 pub struct Entries<'a, W> {
     words: &'a mut [W],
@@ -11,20 +12,30 @@ pub struct Entries<'a, W> {
 }
 
 impl<'a, W: Copy> Entries<'a, W> {
-    ghost use Rattle.note_entries.specs.Storage.{listed, room, Keeps};
+    ghost use Rattle.note_entries.specs.Storage.{listed, room, Lent, Keeps};
 
     pub fn new(words: &'a mut [W]) -> Entries<'a, W>
         ensures none { listed result ≡ [] }
-        ensures long { length result.words.now ≡ length words.old }
+        ensures lent { Lent words.entry result }
+        ensures kept { result.words.now ≡ words.old }
         ensures count { result.n ≡ 0 }
     {
         Entries { words, n: 0 }
+    }
+
+    // How many entries there are.
+    pub fn len(&self) -> usize
+        ensures { result ≡ self.now.n }
+    {
+        let Entries { n, .. } = self;
+        *n
     }
 
     // Keeps the first m entries.
     pub fn truncate(&mut self, m: usize)
         ensures first { listed self.new ≡ take m (listed self.old) }
         ensures keeps { Keeps 0 self.new self.old }
+        ensures kept { self.new.words.now ≡ self.old.words.now }
     {
         self.n = usize::min(self.n, m);
     }

@@ -1,10 +1,10 @@
 // Known values and copies, kept in two lent slices.
 #![tactic(auto)]
 
-ghost use Rattle.std.specs.Prelude.{◌≡◌, ◌+◌, ◌++◌, ◌∷◌, [], cond, length};
+ghost use Rattle.std.specs.Prelude.{◌≡◌, ◌+◌, ◌++◌, ◌∷◌, [], cond};
 ghost use Rattle.steps.specs.Note.{nothing, forget as forgetOf, source_of, value_of};
 ghost use Rattle.facts.specs.Storage.{facts_in};
-ghost use Rattle.note_entries.specs.Storage.{known_in, Grows};
+ghost use Rattle.note_entries.specs.Storage.{known_in, LentBoth, Grows};
 
 use inst::Reg;
 
@@ -23,8 +23,9 @@ impl<'a> Known<'a> {
     // Nothing is known.
     pub fn new(values: &'a mut [u64], copies: &'a mut [u32]) -> Known<'a>
         ensures nothing { known_in result ≡ nothing }
-        ensures values_long { length result.values.words.now ≡ length values.old }
-        ensures copies_long { length result.copies.words.now ≡ length copies.old }
+        ensures lent { LentBoth values.entry copies.entry result }
+        ensures values_kept { result.values.words.now ≡ values.old }
+        ensures copies_kept { result.copies.words.now ≡ copies.old }
         ensures values_count { result.values.n ≡ 0 }
         ensures copies_count { result.copies.n ≡ 0 }
     {

@@ -85,5 +85,17 @@ space_back (s.Pkg n) h = refl
 space_back (s.Const n) h = refl
 space_back s.Shared h = refl
 
+pub space_lt : (x : AddrSpace) → space_num x < 6
+space_lt x = search rules
+
+pub space_num_lem : (n op : ℕ) → op < 6 → space_num (space_of op n) ≡ op
+space_num_lem n = below (λ (op : ℕ). space_num (space_of op n) ≡ op) 6 ((((((tt, refl), refl), refl), refl), refl), refl)
+
 pub opt_back : (x : Option Reg) → opt_of (opt_num x) (opt_arg x) ≡ x
 opt_back x = search rules
+
+pub opt_lt : (x : Option Reg) → opt_num x < 2
+opt_lt x = search rules
+
+pub opt_num_lem : (n op : ℕ) → op < 2 → opt_num (opt_of op n) ≡ op
+opt_num_lem n = below (λ (op : ℕ). opt_num (opt_of op n) ≡ op) 2 ((tt, refl), refl)

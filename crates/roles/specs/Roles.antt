@@ -1,5 +1,5 @@
 -- Document 01, "Class 4, instruction": "`Inst::visit_mut` says which register fields are read and written; list operands are read too."
-use Rattle.std.specs.Prelude.{ℕ, List, [], ◌∷◌, ◌++◌, map, take, drop, Option, Some, None}
+use Rattle.std.specs.Prelude.{ℕ, List, [], ◌∷◌, ◌++◌, map, length, take, drop, Option, Some, None}
 use Rattle.inst.specs.declared.Reg.{Reg}
 use Rattle.inst.specs.declared.Regs.{Regs}
 use Rattle.inst.specs.declared.BoolOp.{BoolOp}
@@ -128,11 +128,31 @@ reg_of n = record { 0 = n }
 abbrev pub numbers_of : List Reg → List ℕ
 numbers_of rs = map (λ (r : Reg). r.0) rs
 
--- an instruction's roles: its fields written, its fields read, its list
+-- five registers by their numbers, padded with register 0
+unfoldable pub padded : List ℕ → List Reg
+padded ns = map reg_of (take 5 (ns ++ (0 ∷ 0 ∷ 0 ∷ 0 ∷ 0 ∷ [])))
+
+-- the fields written, the fields read and a list; and how they stand: in five places, the first `defs` written, those up to `n` read
 pub record Named : Type 0 where
   pub written : List ℕ
   pub read : List ℕ
   pub list : Regs
+  pub defs : ℕ
+  pub n : ℕ
+  pub reg : List Reg
 
+-- some registers written and some read, five at most, padded with register 0
+abbrev pub filled : List ℕ → List ℕ → Regs → Named
+filled defs uses list =
+    record {
+      written = defs;
+      read = uses;
+      list = list;
+      defs = length defs;
+      n = length (defs ++ uses);
+      reg = padded (defs ++ uses);
+    }
+
+-- an instruction's roles: its fields written, its fields read, its list
 abbrev pub roles_of : Inst → Named
-roles_of x = record { written = defs_of x; read = uses_of x; list = list_of x }
+roles_of x = filled (defs_of x) (uses_of x) (list_of x)

@@ -3,7 +3,7 @@
 
 ghost use Rattle.std.specs.Prelude.{◌≡◌, ◌+◌, ◌≤◌, ◌++◌};
 ghost use Rattle.roles.specs.Roles.{no_list, numbers_of, roles_of};
-ghost use Rattle.roles.specs.Work.{named, row_of, bool_roles, check_roles, call_roles, ret_roles};
+ghost use Rattle.roles.specs.Work.{listed, row_of, bool_roles, check_roles, call_roles, ret_roles};
 
 use inst::{BoolOp, CheckKind, Inst, Reg, Regs};
 use std::marker::Model;
@@ -11,12 +11,12 @@ use std::marker::Model;
 // The registers of an instruction, in the order of visit_mut: the first `defs` of reg are written,
 // the others up to `n` are read. Then the list of operands that it reads too, empty if it has none.
 // An ArrayVec of five is no plainer: the call that adds an array may refuse, and `push` adds one register at a time.
-#[derive(Drop)]
+#[derive(Clone, Copy)]
 pub struct Roles {
-    defs: usize,
-    n: usize,
-    reg: [Reg; 5],
-    list: Regs,
+    pub defs: usize,
+    pub n: usize,
+    pub reg: [Reg; 5],
+    pub list: Regs,
 }
 
 impl Model for Roles {
@@ -30,9 +30,14 @@ impl Model for Roles {
       written = numbers_of (take r.defs r.reg);
       read = numbers_of (take (r.n - r.defs) (drop r.defs r.reg));
       list = r.list;
+      defs = r.defs;
+      n = r.n;
+      reg = r.reg;
     } };
 
     ghost invariant = { λ r. Five r.defs r.n r.reg };
+
+    ghost inverse = { λ q. record { defs = q.defs; n = q.n; reg = q.reg; list = q.list } };
 }
 
 impl Roles {
@@ -87,7 +92,7 @@ fn row<const D: usize, const U: usize>(written: [Reg; D], read: [Reg; U]) -> Rol
 }
 
 fn with_list(mut row: Roles, list: Regs) -> Roles
-    ensures { result ≡ named row.written row.read list }
+    ensures { result ≡ listed row list }
 {
     row.list = list;
     row

@@ -42,6 +42,10 @@ module _ {A : Type 0} (P : A → Type 0) where
   all_drop (suc n) [] h = tt
   all_drop (suc n) (x ∷ xs) h = all_drop n xs h.1
 
+  pub all-each : ((x : A) → P x) → (xs : List A) → All P xs
+  all-each f [] = tt
+  all-each f (x ∷ xs) = (f x, all-each f xs)
+
 pub all_joined : {A : Type 0} (P : A → Type 0) (xs : List (List A)) → All (All P) xs → All P (joined xs)
 all_joined P [] h = tt
 all_joined P (x ∷ xs) h = all_append P x (joined xs) h.0 (all_joined P xs h.1)

@@ -1,20 +1,21 @@
 -- Laws of the search: a block pushed, a block popped, and the end.
 use Prim.Native.Nat.{ℕ, zero, suc, ◌+◌, ◌-◌, ◌*◌, ◌≤◌, ◌<◌, min}
 use native.Mathlib.Omega.{arith}
+use native.Mathlib.Numerals.{add-one}
 use mathlib.Core.Path.{◌≡◌, refl, sym, ap, subst, ◌∙◌}
 use mathlib.Core.Bool.{Bool, true, false}
 use mathlib.Core.List.{List, [], ◌∷◌, ◌++◌}
 use mathlib.Core.Logic.{◌⊎◌, inl, inr, ⊎_elim}
 use borrow.Author.Tests.{lt-ltb, le-ltb}
-use lib.ListN.{length, get_or, set, replicate, length-set, length-append, length-replicate, get_or-replicate, get_or-append}
-use lib.Seq.{get_or-set_same, ext_get_or}
+use lib.ListN.{length, get_or, set, take, replicate, length-set, length-take, length-append, length-replicate, get_or-replicate, get_or-append}
+use lib.Seq.{get_or-set_same, ext_get_or, take-suc-set}
 use borrow.Author.Clash.{clash}
 use Rattle.general.proofs.Booleans.{cases}
 use Rattle.general.proofs.Numbers.{order}
 use Rattle.paths.specs.Paths.{is_in, Leads, reached_from}
 use Rattle.paths.proofs.Paths.{in-cons, in_here, in_left, in_right, in-append, marked_inside, set_keeps, set_marked}
 use Rattle.paths.proofs.Paths.{leads_on, leads-inside, closed_leads, length-reached, reached-is}
-use Rattle.search.specs.Search.{clear, unmarked, Found, pushed, pushed_all, State, started, with_block, with_blocks, on_top, Sized}
+use Rattle.search.specs.Search.{clear, unmarked, Found, search_of, pushed, pushed_all, State, started, with_block, with_blocks, on_top, Sized, Slotted}
 
 clear-length : length clear ≡ 160
 unfolding clear
@@ -112,6 +113,30 @@ module _ {n : ℕ} {m : List Bool} {l : List ℕ} (z : Sized n m l) {b : ℕ} (l
     marks = length-set m b true ∙ z.marks;
     room = let i = fewer in let r = z.room in let e = length-append l (b ∷ []) in omega arith;
   }
+
+-- the same in an array
+module _ {n : ℕ} {m : List Bool} {l : List ℕ} {top : ℕ} (z : Slotted n m l top) where
+  stacked : Sized n m (take top l)
+  stacked = let e = length-take top l in let r = z.room in record { few = z.few; marks = z.marks; room = omega arith }
+
+  module _ {b : ℕ} (low : b < n) (new : get_or m b false ≡ false) where
+    pub slot_free : top < 160
+    slot_free = let i = fewer stacked low new in let r = z.room in omega arith
+
+    pub slotted_new : Slotted n (set m b true) (set l top b) (top + 1)
+    slotted_new = record {
+      few = z.few;
+      marks = length-set m b true ∙ z.marks;
+      slots = length-set l top b ∙ z.slots;
+      room = let i = fewer stacked low new in let r = z.room in omega arith;
+    }
+
+    pub pushed_slot : search_of (set m b true) (set l top b) (top + 1) ≡ pushed n (search_of m l top) b
+    pushed_slot =
+        let h = slot_free in
+        let k = z.slots in
+        ap (λ (s : List ℕ). record { seen = set m b true; stack = s }) (ap (λ (k : ℕ). take k (set l top b)) (add-one top) ∙ take-suc-set l top b (omega arith))
+        ∙ pushed-new n (search_of m l top) b low new
 
 pub sized_start : (n : ℕ) → Sized (min n 160) clear []
 sized_start n = let e = clear-length in let u = unmarked_le clear in record { few = omega arith; marks = e; room = omega arith }

@@ -1,5 +1,5 @@
 -- The search for the blocks that one leads to: marks, and a stack of blocks whose targets are still to be pushed.
-use Rattle.std.specs.Prelude.{ℕ, ◌+◌, ◌≤◌, min, ◌≡◌, List, [], ◌∷◌, ◌++◌, Bool, true, false, cond, ltb, length, get_or, set, replicate}
+use Rattle.std.specs.Prelude.{ℕ, ◌+◌, ◌≤◌, min, ◌≡◌, List, [], ◌∷◌, ◌++◌, Bool, true, false, cond, ltb, length, get_or, set, take, replicate}
 
 -- one mark for each of 160 blocks
 unfoldable pub clear : List Bool
@@ -12,6 +12,10 @@ unmarked (b ∷ m) = cond b 0 1 + unmarked m
 pub record Found : Type 0 where
   pub seen : List Bool
   pub stack : List ℕ
+
+-- marks, and a stack kept in the first places of an array
+abbrev pub search_of : List Bool → List ℕ → ℕ → Found
+search_of seen stack top = record { seen = seen; stack = take top stack }
 
 -- a block that is one of n and not marked is marked and pushed
 unfoldable pub pushed : ℕ → Found → ℕ → Found
@@ -45,3 +49,10 @@ pub record Sized (n : ℕ) (seen : List Bool) (stack : List ℕ) : Type 0 where
   pub few : n ≤ 160
   pub marks : length seen ≡ 160
   pub room : length stack + unmarked seen ≤ 160
+
+-- the same for a stack in the first places of an array
+pub record Slotted (n : ℕ) (seen : List Bool) (stack : List ℕ) (top : ℕ) : Type 0 where
+  pub few : n ≤ 160
+  pub marks : length seen ≡ 160
+  pub slots : length stack ≡ 160
+  pub room : top + unmarked seen ≤ 160

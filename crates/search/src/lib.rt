@@ -2,7 +2,7 @@
 #![tactic(auto)]
 
 ghost use Rattle.std.specs.Prelude.{◌≡◌, [], IfSome, IfNone};
-ghost use Rattle.search.specs.Search.{started, with_block, on_top};
+ghost use Rattle.search.specs.Search.{Slotted, search_of, pushed, started, with_block, on_top};
 
 use arrayvec::ArrayVec;
 use inst::BlockId;
@@ -68,4 +68,26 @@ impl Search {
     {
         &self.seen
     }
+}
+
+// The same step over two arrays, whatever they hold: marks a block and pushes it, if it is one of the nb blocks and not marked yet, and
+// there is room. The result is how many places of the stack are taken.
+pub fn push(
+    seen: &mut [bool; 160],
+    stack: &mut [u32; 160],
+    top: usize,
+    nb: usize,
+    b: BlockId,
+) -> usize
+    ensures sized { Slotted nb seen.old stack.old top → Slotted nb seen.new stack.new result }
+    ensures result_after { Slotted nb seen.old stack.old top
+        → search_of seen.new stack.new result ≡ pushed nb (search_of seen.old stack.old top) b.0 }
+{
+    let at = b.0 as usize;
+    if at >= usize::min(nb, 160) || seen[at] || top >= 160 {
+        return top;
+    }
+    seen[at] = true;
+    stack[top] = b.0;
+    top + 1
 }

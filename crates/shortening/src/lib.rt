@@ -13,6 +13,7 @@ ghost use Rattle.parts.specs.Parts.{parts_in};
 ghost use Rattle.procedure_parts.specs.Opened.{recoded, Holds, Parted, Opened};
 ghost use Rattle.run.specs.Ran.{left, slices_in};
 ghost use Rattle.output.specs.Filed.{outcome};
+ghost use Rattle.shortening.specs.Kept.{SameStorage, SameStage};
 ghost use Rattle.shortening.specs.Storage.{fronted, lent, opens_for, NoStepIn, Tells, form_with, LeftOf, Enough, Staging};
 
 use blocks::Blocks;
@@ -42,13 +43,14 @@ pub struct Stage<'a> {
     pub heads: &'a mut [u8],
 }
 
-// Writes some bytes over the start of b, as far as there is room.
+// Writes some bytes over the start of b, as far as there is room. By index, as emit_records copies.
 fn put_front(b: &mut [u8], s: &[u8])
     ensures is { b.new ≡ fronted b.old s.now }
     ensures bytes { Bytes b.new }
 {
-    let n = s.len().min(b.len());
-    b[..n].copy_from_slice(&s[..n]);
+    for k in 0..s.len().min(b.len()) {
+        b[k] = s[k];
+    }
 }
 
 // The body, if there is one.
@@ -175,7 +177,8 @@ fn write_same(
     r: Ran,
     with_slices: bool,
 ) -> Result<Shortening, Refusal>
-    ensures { (p : Procedure)
+    ensures same_storage { SameStorage s.old s.new }
+    ensures is { (p : Procedure)
         → LeftOf p (parts_in file.now) (left s.old.work.now s.old.table.now s.old.kinds.now s.old.facts.now r)
         → r.at.edited ≡ false → outcome (told result) out.new ≡ shortened (form_with with_slices p) out.old }
 {
@@ -206,7 +209,8 @@ fn write_emitted(
     r: Ran,
     with_slices: bool,
 ) -> Result<Shortening, Refusal>
-    ensures { (p : Procedure)
+    ensures same_stage { SameStage stage.old stage.new }
+    ensures is { (p : Procedure)
         → LeftOf p (parts_in file.now) (left s.now.work.now s.now.table.now s.now.kinds.now s.now.facts.now r)
         → Staging (parts_in file.now) (length stage.old.code.now) (length stage.old.heads.now)
         → r.at.edited ≡ true → outcome (told result) out.new ≡ shortened (form_with with_slices p) out.old }
@@ -246,7 +250,9 @@ fn write(
     r: Ran,
     with_slices: bool,
 ) -> Result<Shortening, Refusal>
-    ensures { (p : Procedure)
+    ensures same_storage { SameStorage s.old s.new }
+    ensures same_stage { SameStage stage.old stage.new }
+    ensures is { (p : Procedure)
         → LeftOf p (parts_in file.now) (left s.old.work.now s.old.table.now s.old.kinds.now s.old.facts.now r)
         → Staging (parts_in file.now) (length stage.old.code.now) (length stage.old.heads.now)
         → outcome (told result) out.new ≡ shortened (form_with with_slices p) out.old }
@@ -260,7 +266,8 @@ fn write(
 
 // `run` before Emit on the parts of a file. The flag is what `glance` told of the gate.
 fn run_in(file: &File, s: &mut Storage, is_open: bool) -> Ran
-    ensures { (p : Procedure) → Opened p (parts_in file.now)
+    ensures same_storage { SameStorage s.old s.new }
+    ensures ran { (p : Procedure) → Opened p (parts_in file.now)
         → (is_open ≡ true → opens_for (parts_in file.now) ≡ true)
         → Enough (parts_in file.now)
         (lent s.old.work.now s.old.table.now s.old.kinds.now s.old.facts.now (length s.old.known.now) (length s.old.copy.now))
@@ -295,7 +302,9 @@ pub fn shorten_in(
     stage: &mut Stage,
     is_open: bool,
 ) -> Result<Shortening, Refusal>
-    ensures { (p : Procedure) → Opened p (parts_in file.now)
+    ensures same_storage { SameStorage s.old s.new }
+    ensures same_stage { SameStage stage.old stage.new }
+    ensures is { (p : Procedure) → Opened p (parts_in file.now)
         → (is_open ≡ true → opens_for (parts_in file.now) ≡ true)
         → Enough (parts_in file.now)
         (lent s.old.work.now s.old.table.now s.old.kinds.now s.old.facts.now (length s.old.known.now) (length s.old.copy.now))
@@ -313,7 +322,9 @@ pub fn thread_in(
     s: &mut Storage,
     stage: &mut Stage,
 ) -> Result<Shortening, Refusal>
-    ensures { (p : Procedure) → Opened p (parts_in file.now)
+    ensures same_storage { SameStorage s.old s.new }
+    ensures same_stage { SameStage stage.old stage.new }
+    ensures is { (p : Procedure) → Opened p (parts_in file.now)
         → Enough (parts_in file.now)
         (lent s.old.work.now s.old.table.now s.old.kinds.now s.old.facts.now (length s.old.known.now) (length s.old.copy.now))
         → Staging (parts_in file.now) (length stage.old.code.now) (length stage.old.heads.now)

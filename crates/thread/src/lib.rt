@@ -7,6 +7,7 @@ ghost use Rattle.pause.specs.Storage.{body_in};
 ghost use Rattle.arena.specs.Arena.{SameSlices};
 ghost use Rattle.hop_br.specs.Kept.{SameKinds};
 ghost use Rattle.hop_cond_br.specs.Kept.{SameRoom};
+ghost use Rattle.hop_cond_br.specs.Storage as spec;
 ghost use Rattle.thread.specs.Storage.{hop_br_in, hop_in, hops_in, thread_in};
 ghost use Rattle.thread.specs.Threading.{Edited, at_in, store_in, hopping_to};
 
@@ -59,13 +60,34 @@ fn hop_br(
         ≡ hop_br_in facts.now.table.now (body_in facts.now.pause) facts.now.budget known copy
         (store_in space.old added.old) a.0 l.0 }
 {
-    if hop_br::stops(space, facts, added.grown, a, l) {
+    let blocks = space.blocks();
+    if hop_br::stops(blocks, facts, added.grown, a, l) {
         return ControlFlow::Break(());
     }
-    let n = hop_br::join(space, added, facts.table, a, l);
-    added.grown += n as u64;
+    let z = hop_br::join(space, added, facts.table, a, l);
+    added.grown += z.n as u64;
     added.edited = true;
     ControlFlow::Continue(())
+}
+
+// A hop of block a, which ends with b. Both slices of a `Space` can be lent at once only if both are
+// by `&mut`; the table stays.
+fn hop_cond_br(
+    work: &mut [u8],
+    table: &mut [u8],
+    room: &mut Room,
+    facts: &Facts,
+    a: BlockId,
+    b: CondBr,
+) -> Turn
+    ensures table { table.new ≡ table.old }
+    ensures same_room { SameRoom room.old room.new }
+    ensures turned { spec.turned work.new result
+        ≡ spec.turned_in table.old a.0 facts.now.table.now (body_in facts.now.pause) work.old
+        b.c.0 b.t.0 b.f.0
+        (spec.room_in table.old a.0 work.old room.old.known.now room.old.copy.now) }
+{
+    hop_cond_br::hop_cond_br(work, table, room, facts, a, b)
 }
 
 // A hop of block a.
@@ -87,7 +109,8 @@ fn hop(
     let blocks = space.blocks();
     match blocks.end_at(a.0 as usize) {
         End::CondBr(c, t, f) => {
-            let n = hop_cond_br::hop_cond_br(space, room, facts, a, CondBr { c, t, f });
+            let b = CondBr { c, t, f };
+            let n = hop_cond_br(space.work, space.table, room, facts, a, b);
             turned(n, added)
         }
         End::Br(l) => hop_br(space, added, facts, a, l),
@@ -119,8 +142,7 @@ fn hops(space: &mut Space, added: &mut Added, room: &mut Room, facts: &Facts, a:
 pub fn thread(space: &mut Space, added: &mut Added, room: &mut Room, facts: &Facts) -> Threaded
     ensures same { SameSlices space.old space.new }
     ensures same_kinds { SameKinds added.old added.new }
-    ensures same_known { room.new.known.ghost_name ≡ room.old.known.ghost_name }
-    ensures same_copy { room.new.copy.ghost_name ≡ room.old.copy.ghost_name }
+    ensures same_room { SameRoom room.old room.new }
     ensures at { result ≡ at_in space.new added.new }
     ensures threaded { store_in space.new added.new
         ≡ thread_in facts.now.table.now (body_in facts.now.pause) facts.now.budget

@@ -1,5 +1,5 @@
 use borrow.Author.Tests.{le-leb, lt-leb}
-use Rattle.std.proofs.Common.{None, Some, ◌/◌, ◌<◌, length, ap, ◌∙◌, arith}
+use Rattle.std.proofs.Common.{None, Some, ◌/◌, ◌<◌, length, ap, ◌∙◌}
 use Rattle.procedure.specs.Procedure.{codes_of}
 use Rattle.codec.specs.Codec.{code_of}
 use Rattle.records.specs.Record.{blank}
@@ -7,16 +7,17 @@ use Rattle.ends.proofs.Laws.{length_codes, inst-there}
 use Rattle.steps.specs.Note.{note, notes}
 use Rattle.facts.specs.Storage.{facts_in}
 use Rattle.note_entries.specs.Storage.{known_in}
+use Rattle.note_entries.proofs.Grown.{grows-none, grows_more}
 use Rattle.note.proofs.Gathered.{notes_again, notes-done}
 use Rattle.note.proofs.notes.Goals as goal
 
-pub returns-then-known-n : goal.returns-then-known-n
-returns-then-known-n c =
+pub returns-then-known-n-clause-known : goal.returns-then-known-n-clause-known
+returns-then-known-n-clause-known c =
     let a = c.args in
     rw (lt-leb (length a.code.now / 32) (length a.known.now / 2) c.if-known-n.true)
 
-pub returns-then-copy-n : goal.returns-then-copy-n
-returns-then-copy-n c =
+pub returns-then-copy-n-clause-known : goal.returns-then-copy-n-clause-known
+returns-then-copy-n-clause-known c =
     let a = c.args in
     let n = length a.code.now / 32 in
     rw (le-leb n (length a.known.now / 2) c.if-known-n.false, lt-leb n (length a.copy.now / 2) c.if-copy-n.true)
@@ -27,10 +28,7 @@ loop-j-init c =
     let k = c.new-k.ensures in
     record {
       known = ap (λ x. notes (facts_in a.facts.now None 0) x (codes_of a.code.now)) k.nothing;
-      values = omega (arith, k.values_count);
-      copies = omega (arith, k.copies_count);
-      values-fit = rw k.values_long c.if-known-n.false;
-      copies-fit = rw k.copies_long c.if-copy-n.false;
+      grows = grows-none c.new-k.result;
     }
 
 pub loop-j-preserved : goal.loop-j-preserved
@@ -44,14 +42,11 @@ loop-j-preserved c =
     let there = c.inst_of.ensures ∙ inst-there b v.j c.record_at.ensures in
     record {
       known = notes_again f (codes_of b) v.j (known_in v.k) (code_of blank) more (s.known ∙ ap (note f (known_in v.k)) there) v.invariant.known;
-      values = omega (arith, s.grows.values.count, v.invariant.values);
-      copies = omega (arith, s.grows.copies.count, v.invariant.copies);
-      values-fit = rw s.grows.values.long v.invariant.values-fit;
-      copies-fit = rw s.grows.copies.long v.invariant.copies-fit;
+      grows = grows_more s.grows v.invariant.grows;
     }
 
-pub returns : goal.returns
-returns c =
+pub returns-clause-known : goal.returns-clause-known
+returns-clause-known c =
     let a = c.args in
     let b = a.code.now in
     let n = length b / 32 in

@@ -6,6 +6,6 @@ use Rattle.shorten.proofs.shorten_over.Goals as goal
 pub returns : goal.returns
 returns g c fits told p o =
     let x = parts_in c.args.file.now in
-    c.shorten_in.ensures p o (λ e. sym told ∙ e)
+    c.shorten_in.ensures.is p o (λ e. sym told ∙ e)
     (enough x c.requires c.heads.ensures c.min-nb.ensures c.registers.ensures c.min-nr.ensures fits p o)
     (staging x c.requires c.heads.ensures c.min-nb.ensures c.registers.ensures c.min-nr.ensures fits p o)

@@ -7,8 +7,8 @@ use Rattle.shortening.specs.Storage.{lent}
 use Rattle.shortening.proofs.Shortened.{left_of, opens-still}
 use Rattle.shortening.proofs.run_in.Goals as goal
 
-pub returns : goal.returns
-returns c p o w e =
+pub returns-clause-ran : goal.returns-clause-ran
+returns-clause-ran c p o w e =
     let a = c.args in
     let s = lent a.s.now.work.now a.s.now.table.now a.s.now.kinds.now a.s.now.facts.now (length a.s.now.known.now) (length a.s.now.copy.now) in
     let gate : a.is_open ≡ true → opens_in (body_in c.pause_of.result) c.put_front.new.b c.put_front-2.new.b ≡ true =

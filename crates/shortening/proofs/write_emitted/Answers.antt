@@ -12,8 +12,8 @@ use Rattle.thread.proofs.Refined.{work_of}
 use Rattle.shortening.proofs.Left.{ready, formed, emitted-held, emitted-tells, emitted-slices}
 use Rattle.shortening.proofs.write_emitted.Goals as goal
 
-pub returns : goal.returns
-returns c p h g on =
+pub returns-clause-is : goal.returns-clause-is
+returns-clause-is c p h g on =
     let a = c.args in
     let x = parts_of a.file.now.bytes.now a.file.now.layout in
     let w = c.emit-e.ensures.emitted (arms_joined p).procedure (work_of (store a.s.now.work.now a.s.now.table.now a.s.now.kinds.now a.r.at)) p.body

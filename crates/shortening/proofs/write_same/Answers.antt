@@ -17,8 +17,8 @@ slice_bounds-finish-end-2 c =
     let e = c.min-m.ensures in
     simp length-take (omega arith)
 
-pub returns : goal.returns
-returns c p h off =
+pub returns-clause-is : goal.returns-clause-is
+returns-clause-is c p h off =
     let a = c.args in
     let x = parts_of a.file.now.bytes.now a.file.now.layout in
     let work = a.s.now.work.now in

@@ -1,4 +1,4 @@
-use Rattle.std.proofs.Common.{length, ◌∙◌}
+use Rattle.std.proofs.Common.{length, refl, ◌∙◌}
 use Rattle.pause.specs.Storage.{body_in}
 use Rattle.thread.specs.Threading.{at_in}
 use Rattle.thread.proofs.Laws.{cond_br_turns, edited, hop_br_lem, hop_cond_br_lem, hop_stay}
@@ -13,12 +13,13 @@ returns-in-CondBr-clause-hopped c =
     let known = length a.room.now.known.now in
     let copy = length a.room.now.copy.now in
     let end = rw c.blocks-blocks.ensures.blocks at c.end_at.ensures in
-    let z = c.hop_cond_br-n.ensures in
+    let z = c.hop_cond_br-n in
+    let t = record s { work = record s.work { now = z.new.work }; table = record s.table { now = z.new.table } } in
     hop_cond_br_lem f.table.now (body_in f.pause) f.budget known copy
     s.work.now s.table.now x.kinds.now (at_in s x) a.a.0 c.end_at.result end c.in-CondBr.is
-    (edited c.turned.ensures c.hop_cond_br-n.new.space
+    (edited c.turned.ensures t
     ∙ cond_br_turns f.table.now (body_in f.pause) f.budget known copy
-    s.work.now s.table.now x.kinds.now (at_in s x) a.a.0 _ _ _ z.same.1 z.same.2 z.turned)
+    s.work.now s.table.now x.kinds.now (at_in s x) a.a.0 _ _ _ z.ensures.table refl z.ensures.turned)
 
 pub returns-in-Br-clause-hopped : goal.returns-in-Br-clause-hopped
 returns-in-Br-clause-hopped c =

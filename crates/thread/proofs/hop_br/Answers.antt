@@ -14,7 +14,7 @@ returns-then-stops-clause-hopped c known copy =
     let f = a.facts.now in
     br_stays f.table.now (body_in f.pause) f.budget known copy
     s.work.now s.table.now x.kinds.now (at_in s x) a.a.0 a.l.0
-    (sym c.stops.ensures.stops ∙ c.if-stops.true)
+    (sym (rw c.blocks-blocks.ensures.blocks at c.stops.ensures.stops) ∙ c.if-stops.true)
 
 pub overflow_add-added : goal.overflow_add-added
 overflow_add-added c =
@@ -23,10 +23,10 @@ overflow_add-added c =
     let f = a.facts.now in
     let body = body_in f.pause in
     let few = join_few f.table.now body f.budget a.a.0 a.l.0 x.fresh (arena_in a.space.now) x.kinds.now
-    (ap (λ (z : Left). z.n) (c.join-n.ensures.joined body f.budget)) in
+    (ap (λ (z : Left). z.n) (c.join-z.ensures.joined body f.budget)) in
     let low = c.stops.ensures.few c.if-stops.false in
-    let same = c.join-n.ensures.rest.0 in
-    let fits : c.join-n.new.added.grown + c.join-n.result < 2 ^ 64 = omega (arith, few, low, same) in
+    let same = c.join-z.ensures.rest.0 in
+    let fits : c.join-z.new.added.grown + c.join-z.result.n < 2 ^ 64 = omega (arith, few, low, same) in
     record { fits = fits }
 
 pub returns-clause-hopped : goal.returns-clause-hopped
@@ -35,7 +35,7 @@ returns-clause-hopped c known copy =
     let s = a.space.now in
     let x = a.added.now in
     let f = a.facts.now in
-    rw c.join-n.ensures.rest.0
+    rw c.join-z.ensures.rest.0
     (br_joins f.table.now (body_in f.pause) f.budget known copy
     s.work.now s.table.now x.kinds.now (at_in s x) a.a.0 a.l.0
-    (sym c.stops.ensures.stops ∙ c.if-stops.false) (c.join-n.ensures.joined (body_in f.pause) f.budget))
+    (sym (rw c.blocks-blocks.ensures.blocks at c.stops.ensures.stops) ∙ c.if-stops.false) (c.join-z.ensures.joined (body_in f.pause) f.budget))

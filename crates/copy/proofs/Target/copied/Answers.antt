@@ -7,9 +7,8 @@ use Rattle.copy.proofs.Target.copied.Goals as goal
 pub loop-x-init : goal.loop-x-init
 loop-x-init c =
     let a = c.args in
-    let e = c.new.ensures in
-    let f = c.new-2.ensures in
-    (rw e (omega arith), left-start a.self.facts.now a.self.code.now a.m.0 _ e f)
+    let e = c.empty-s.ensures in
+    (omega (arith, e.0), left-start a.self.facts.now a.self.code.now a.m.0 c.empty-s.result e.0 e.1)
 
 pub loop-x-preserved : goal.loop-x-preserved
 loop-x-preserved c =

@@ -11,5 +11,5 @@ returns-then-n-room c =
     let b : Bytes code = λ j. omega (arith, c.type_inv.code j) in
     record {
       same = refl;
-      written = puts-copied code w.out.now w.at b (omega (arith, c.if-self-room.true, c.if-n-room.true)) c.copy_from_slice.ensures.after (omega arith);
+      written = puts-copied code w.out.now w.at b (omega (arith, c.if-self-room.true, c.if-n-room.true)) c.copy.ensures (omega arith);
     }

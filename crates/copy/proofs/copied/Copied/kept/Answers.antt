@@ -9,4 +9,4 @@ use Rattle.copy.proofs.copied.Copied.kept.Goals as goal
 pub returns : goal.returns
 returns c =
     let a = c.args in
-    ap (λ (i : Inst). with_inst i a.x) ((rw c.as_slice.ensures.value at c.renamed.ensures) ∙ exchanged-found (local_in a.self.now) (λ (r : ℕ). r) a.x.inst)
+    ap (λ (i : Inst). with_inst i a.x) ((rw c.given.ensures.value at c.renamed.ensures) ∙ exchanged-found (local_in a.self.now) (λ (r : ℕ). r) a.x.inst)

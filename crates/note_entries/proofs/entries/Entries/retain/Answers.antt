@@ -16,4 +16,4 @@ loop-k-preserved g c =
     let long = v.invariant.0.long in
     let next = packed-next _ c.args.self.now.words.now v.self.words.now v.k v.z v.invariant.0 x.result y.result (omega arith) x.is y.is
     c.kept.result (byte c.kept.result) (λ p h. h x.result y.result c.kept.result told) in
-    rw (← x.is, ← y.is) (next, omega arith)
+    rw (← x.is, ← y.is) (next, omega arith, v.invariant.2)
