@@ -6,7 +6,8 @@ use native.Mathlib.Omega.{arith}
 use mathlib.Core.Path.{◌≡◌, refl, sym, ap, ◌∙◌}
 use mathlib.Core.List.{List, [], ◌∷◌, ◌++◌, map, map-append, append-nil, append_assoc}
 use Rattle.std.proofs.Common.{Option}
-use lib.ListN.{length, get_or, drop, drop_of_length-le}
+use Rattle.std.proofs.lemmas.List.{length-take-le}
+use lib.ListN.{length, length-append, get_or, drop, drop_of_length-le}
 use lib.Seq.{drop-cons}
 use Rattle.inst.specs.declared.Code.{Code}
 use Rattle.inst.specs.declared.Reg.{Reg}
@@ -16,39 +17,45 @@ use Rattle.facts.specs.Storage.{facts_in}
 use Rattle.copy.specs.declared.copied.Copied.{Copied}
 use Rattle.copy.specs.Storage.{codes_in, pairs_of, local_in, olds_in, with_old, taking, Placed, CopyOf}
 
+-- the lengths of a copy's lists are its counts
+codes-length : (z : Copied) → length (codes_in z) ≡ z.n
+codes-length z = length-take-le z.n z.code (omega (arith, z.four_codes, z.fits))
+
+pairs-length : (z : Copied) → length (pairs_of z) ≡ z.fresh
+pairs-length z = length-take-le z.fresh z.given (omega (arith, z.four_pairs, z.fits, z.each_writes))
+
 -- an instruction placed
 module _ (a : Copied) (x : Code) (m : ℕ) where
-  pub placed-left : {z : Copied} → codes_in z ≡ codes_in a → pairs_of z ≡ pairs_of a → z.n ≡ a.n → z.fresh ≡ a.fresh → Placed a s.left_out x m z
-  placed-left f g e w =
+  pub placed-left : {z : Copied} → codes_in z ≡ codes_in a → pairs_of z ≡ pairs_of a → Placed a s.left_out x m z
+  placed-left {z} f g =
       record {
         code = λ rest. rw (add-zero m, f, g);
         olds = rw g;
-        n_le = omega (arith, e);
-        fresh-is = omega (arith, w);
+        n_le = omega (arith, codes-length z, codes-length a, ap (λ (l : List Code). length l) f);
+        fresh-is = omega (arith, pairs-length z, pairs-length a, ap (λ (l : List (Reg × Reg)). length l) g);
       }
 
   pub placed-kept : {y : Code} {z : Copied} → y ≡ s.renamed (local_in a) (λ r. r) x → codes_in z ≡ codes_in a ++ (y ∷ []) → pairs_of z ≡ pairs_of a
-      → z.n ≡ a.n + 1 → z.fresh ≡ a.fresh → Placed a s.kept x m z
-  placed-kept {y} q f g e w =
+      → Placed a s.kept x m z
+  placed-kept {y} {z} q f g =
       record {
         code = λ rest. rw (f, g, add-zero m, ← q) (sym (append_assoc (codes_in a) (y ∷ []) (rest (local_in a) m)));
         olds = rw g;
-        n_le = omega (arith, e);
-        fresh-is = omega (arith, w);
+        n_le = omega (arith, codes-length z, codes-length a, ap (λ (l : List Code). length l) f, length-append (codes_in a) (y ∷ []));
+        fresh-is = omega (arith, pairs-length z, pairs-length a, ap (λ (l : List (Reg × Reg)). length l) g);
       }
 
   pub placed-new : {y : Code} {z : Copied} (d k : Reg) → k.0 ≡ m → y ≡ s.renamed (local_in a) (s.written d.0 m) x
-      → codes_in z ≡ codes_in a ++ (y ∷ []) → pairs_of z ≡ pairs_of a ++ ((d, k) ∷ []) → z.n ≡ a.n + 1 → z.fresh ≡ a.fresh + 1
-      → Placed a (s.renumbered d.0) x m z
-  placed-new {y} d k p q f g e w =
+      → codes_in z ≡ codes_in a ++ (y ∷ []) → pairs_of z ≡ pairs_of a ++ ((d, k) ∷ []) → Placed a (s.renumbered d.0) x m z
+  placed-new {y} {z} d k p q f g =
       let local = local_in a ++ ((d.0, m) ∷ []) in
       record {
         code = λ rest.
             rw (f, g, map-append {B = ℕ × ℕ} (λ (z : Reg × Reg). (z.0.0, z.1.0)) (pairs_of a) ((d, k) ∷ []), p, add-one m, ← q)
             (sym (append_assoc (codes_in a) (y ∷ []) (rest local (suc m))));
         olds = rw g (map-append (λ (z : Reg × Reg). z.0.0) (pairs_of a) ((d, k) ∷ []));
-        n_le = omega (arith, e);
-        fresh-is = omega (arith, w);
+        n_le = omega (arith, codes-length z, codes-length a, ap (λ (l : List Code). length l) f, length-append (codes_in a) (y ∷ []));
+        fresh-is = omega (arith, pairs-length z, pairs-length a, ap (λ (l : List (Reg × Reg)). length l) g, length-append (pairs_of a) ((d, k) ∷ []));
       }
 
 -- the kinds of some registers

@@ -48,8 +48,8 @@ pub fn stays(mark: bool, last: bool, code: &[u8]) -> bool
     mark || last || code.len() / 32 <= 1 && !is_jump(ends::end_of(code))
 }
 
-// Writes some bytes over as many others. By index: of std's `copy_from_slice` LLVM makes a call of `memmove`, and the archives for C
-// call only `memcpy` and `memset`.
+// Writes some bytes over as many others. By index: of std's `copy_from_slice` LLVM makes a call of `memmove` here, and the archives
+// for C call only `memcpy` and `memset`.
 fn copy(to: &mut [u8], from: &[u8])
     requires { length to.old ≡ length from.now }
     ensures { to.new ≡ from.now }

@@ -111,7 +111,7 @@ impl Added<'_> {
 }
 
 // How many instructions a join added, and how many new registers it gave. `Added` has the total of
-// these, 65535 at most.
+// the registers, 65535 at most.
 #[derive(Clone, Copy)]
 pub struct Joined {
     pub n: usize,

@@ -134,7 +134,7 @@ fn tested(
     Some((d, v))
 }
 
-// A hop of block a, which ends with b.
+// A hop of block a, which ends with b. The slices apart: a struct would hold the table by `&mut`, and it is only read.
 #[tactic(auto, using(crate::proofs::Turns::no_value, crate::proofs::Turns::no_room))]
 pub fn hop_cond_br(
     code: &mut [u8],

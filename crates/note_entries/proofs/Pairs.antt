@@ -1,8 +1,8 @@
 -- Laws of the pairs that a slice of words holds: one more, those that a test keeps, and the first of a word.
 use Rattle.std.proofs.Common.{ℕ, zero, suc, ◌+◌, ◌*◌, ◌/◌, ◌≡◌, ◌<◌, ◌≤◌, List, [], ◌∷◌, ◌++◌, Bool, true, false, cond, filter, Option, Some}
-use Rattle.std.proofs.Common.{None, take, drop, set, length, get_or, arith, refl, sym, ap, ◌∙◌, length-set, append-nil, add-zero, not, ◌&&◌, ◌||◌, eqb, unwrap_or}
+use Rattle.std.proofs.Common.{None, min, take, drop, set, length, get_or, arith, refl, sym, ap, ◌∙◌, length-set, append-nil, add-zero, not, ◌&&◌, ◌||◌, eqb, unwrap_or}
 use Rattle.std.proofs.Math.ListN.{drop_of_length-le}
-use Rattle.std.proofs.lemmas.List.{take_more_set, take-set, drop_more, drop-set-lt, get_or-take, length-take-le}
+use Rattle.std.proofs.lemmas.List.{take_min, take_more_set, take-set, drop_more, drop-set-lt, get_or-take, length-take-le}
 use Rattle.std.proofs.lemmas.List.Elements.{filter_more}
 use Rattle.std.proofs.lemmas.Grind.{drop_more_same}
 use Rattle.general.proofs.Lists.{get_d_any}
@@ -22,6 +22,9 @@ module _ {W : Type 0} where
   pairs-length [] = refl
   pairs-length (x ∷ []) = refl
   pairs-length (x ∷ y ∷ l) = let e = pairs-length l in omega arith
+
+  pub pairs-clipped : (l : List W) (n : ℕ) → take (min n (length l / 2)) (pairs l) ≡ take n (pairs l)
+  pairs-clipped l n = rw (← pairs-length l) (take_min n (pairs l))
 
   pub pairs-set : (l : List W) (k : ℕ) (x y : W) → pairs (set (set l (2 * k) x) (2 * k + 1) y) ≡ set (pairs l) k (x, y)
   unfolding pairs

@@ -38,6 +38,10 @@ pub record Keeps {W : Type 0} (m : ℕ) (z e : Entries W) : Type 0 where
 abbrev pub known_in : Known → note.Known
 known_in k = record { values = listed k.values; copies = listed k.copies }
 
+-- what n values and m copies say that lie in two lists of words
+abbrev pub held_in : ℕ → ℕ → List ℕ → List ℕ → note.Known
+held_in n m values copies = record { values = take n (pairs values); copies = take m (pairs copies) }
+
 pub record LentBoth (s t : MutBor (List ℕ)) (k : Known) : Type 0 where
   pub values : Lent s k.values
   pub copies : Lent t k.copies

@@ -1,5 +1,7 @@
 ghost use Rattle.std.specs.Prelude.{◌≡◌, ◌<◌, ◌≤◌, ◌+◌, ◌/◌, ◌++◌, ◌∷◌, [], Bool, cond, ltb, length, Option, filter, take};
 
+use crate::find;
+
 // Entries of two words at the front of a lent slice. The slice is words and no pairs, since C lends it to the benchmark as words;
 // std's `as_chunks_mut` would make pairs of them, but promises nothing of what the slice ends as. Which slice it is (`Lent`), that it
 // stays the same, as long, and how many entries are added (`Keeps`, `Grows`), are facts about before and after, which no ghost field
@@ -29,6 +31,13 @@ impl<'a, W: Copy> Entries<'a, W> {
     {
         let Entries { n, .. } = self;
         *n
+    }
+
+    // The words that they lie in.
+    pub fn words(&self) -> &[W]
+        ensures { result.now ≡ self.now.words.now }
+    {
+        self.words
     }
 
     // Keeps the first m entries.
@@ -81,13 +90,6 @@ impl<'a, W: Copy + PartialEq> Entries<'a, W> {
     pub fn find(&self, r: W) -> Option<W>
         ensures { result ≡ first_with W.eq r (listed self.now) }
     {
-        let words = &*self.words;
-        for k in 0..self.n {
-            let x = words[2 * k];
-            if x == r {
-                return Some(words[2 * k + 1]);
-            }
-        }
-        None
+        find::find(self.words, self.n, r)
     }
 }

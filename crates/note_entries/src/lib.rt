@@ -4,11 +4,12 @@
 ghost use Rattle.std.specs.Prelude.{◌≡◌, ◌+◌, ◌++◌, ◌∷◌, [], cond};
 ghost use Rattle.steps.specs.Note.{nothing, forget as forgetOf, source_of, value_of};
 ghost use Rattle.facts.specs.Storage.{facts_in};
-ghost use Rattle.note_entries.specs.Storage.{known_in, LentBoth, Grows};
+ghost use Rattle.note_entries.specs.Storage.{known_in, held_in, LentBoth, Grows};
 
 use inst::Reg;
 
 mod entries;
+mod find;
 
 pub use entries::Entries;
 
@@ -58,17 +59,31 @@ impl<'a> Known<'a> {
     pub fn source_of(&self, r: Reg) -> Reg
         ensures { result.0 ≡ source_of (known_in self.now) r.0 }
     {
-        Reg(self.copies.find(r.0).unwrap_or(r.0))
+        source_of(self.copies.words(), self.copies.len(), r)
     }
 
-    // The known value of a register, or that of its Const. Tried by `or_else`, and the proof didn't close.
+    // The known value of a register, or that of its Const.
     pub fn value_of(&self, facts: &[u64], r: Reg) -> Option<u64>
         ensures { result ≡ value_of (facts_in facts.now None 0) (known_in self.now) r.0 }
     {
-        let f = self.values.find(r.0 as u64);
-        match f {
-            Some(x) => Some(x),
-            None => facts::const_of(facts, r),
-        }
+        value_of(self.values.words(), self.values.len(), facts, r)
+    }
+}
+
+// The source of a register's copy, by the first n of entries that are only shared, or the register.
+pub fn source_of(copies: &[u32], n: usize, r: Reg) -> Reg
+    ensures { result.0 ≡ source_of (held_in 0 n [] copies.now) r.0 }
+{
+    Reg(find::find(copies, n, r.0).unwrap_or(r.0))
+}
+
+// The known value of a register, by such entries, or that of its Const. Tried by `or_else`, and the proof didn't close.
+pub fn value_of(values: &[u64], n: usize, facts: &[u64], r: Reg) -> Option<u64>
+    ensures { result ≡ value_of (facts_in facts.now None 0) (held_in n 0 values.now []) r.0 }
+{
+    let f = find::find(values, n, r.0 as u64);
+    match f {
+        Some(x) => Some(x),
+        None => facts::const_of(facts, r),
     }
 }

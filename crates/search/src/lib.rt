@@ -71,7 +71,8 @@ impl Search {
 }
 
 // The same step over two arrays, whatever they hold: marks a block and pushes it, if it is one of the nb blocks and not marked yet, and
-// there is room. The result is how many places of the stack are taken.
+// there is room. The result is how many places of the stack are taken. The stack and its top apart: a struct with an invariant of
+// both is `Search`.
 pub fn push(
     seen: &mut [bool; 160],
     stack: &mut [u32; 160],

@@ -70,8 +70,7 @@ fn hop_br(
     ControlFlow::Continue(())
 }
 
-// A hop of block a, which ends with b. Both slices of a `Space` can be lent at once only if both are
-// by `&mut`; the table stays.
+// A hop of block a, which ends with b. The table is lent by `&mut`, as a `Space` has it, and stays.
 fn hop_cond_br(
     work: &mut [u8],
     table: &mut [u8],

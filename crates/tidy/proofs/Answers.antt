@@ -2,11 +2,11 @@
 use Prim.Native.Nat.{ℕ, suc, ◌+◌, ◌≤◌, ◌<◌, min}
 use native.Mathlib.Omega.{arith}
 use mathlib.Core.Path.{◌≡◌, refl, sym, ap, subst, ◌∙◌}
-use mathlib.Core.Bool.{Bool, true, false, ◌&&◌, cond}
+use mathlib.Core.Bool.{Bool, true, false, not, ◌&&◌, cond}
 use mathlib.Core.List.{List, [], ◌∷◌, ◌++◌, cons≢nil}
 use mathlib.Core.Logic.{◌⊎◌, inl, inr, ⊎_elim, ◌↔◌}
 use borrow.Author.Tests.{eqb-true, eqb-false, ltb-true}
-use lib.Dec.{eqb, ltb}
+use lib.Dec.{eqb, ltb, leb}
 use lib.ListN.{length, get_or, length-map}
 use lib.Seq.{get_or-set_same, get_or-set_other}
 use Rattle.general.proofs.Booleans.{cases}
@@ -22,11 +22,10 @@ use Rattle.std.specs.Prelude.{Option, Some, None}
 use Rattle.tidy.specs.declared.writers.Writer.{Writer}
 use Rattle.tidy.specs.declared.writers.Writer.TheVariants as w
 use Rattle.tidy.specs.Tidy.{Placed, Field, placed_in, placed_from, placed, fields_at, written, reads, writers, edges_of, LeadsTo, leads}
-use Rattle.tidy.specs.Tidy.{wrong, wrong_for, only_one, offends, regs_of, offenders, Tidy, lowest}
+use Rattle.tidy.specs.Tidy.{too_early, later, wrong, wrong_for, only_one, offends, regs_of, offenders, Tidy, lowest}
 use Rattle.tidy.specs.Work.Writers.{one_of, joined, note, noted}
 use Rattle.tidy.specs.Work.Reads.{lowest_of, judged, offence, lower, lowered, step, judged_all}
 use Rattle.tidy.specs.Work.Marks.{Leading, leading}
-use Rattle.tidy.proofs.Fields.{kind-again}
 use Rattle.tidy.proofs.Tables.{length-note}
 
 -- `leads` is what the paper says: over any number of blocks
@@ -110,7 +109,17 @@ tally-at (f ∷ fs) ws r h = by (tally-at fs (note ws f.reg (one_of f.at)) r (rw
     by e (inl t) = e ∙ ap (λ (n : Writer). tally n (writers r fs)) (here (eqb-true f.reg r t)) ∙ sym (rw t)
     by e (inr t) = e ∙ ap (λ (n : Writer). tally n (writers r fs)) (there (eqb-false f.reg r t)) ∙ sym (rw t)
 
-tally-many : (xs : List Placed) → tally w.More xs ≡ w.More
+joined_one : (x : Placed) (v : Writer) → joined (one_of x) v ≡ w.Free
+joined_one x v = by (leb (kind_of x.inst) 1) (eqb (kind_of x.inst) 3)
+  where
+    by :
+        (constant address : Bool)
+        → joined (cond constant w.Free (cond address (w.Address x.block x.place) (w.Other x.block x.place))) v ≡ w.Free
+    by true address = refl
+    by false true = refl
+    by false false = refl
+
+tally-many : (xs : List Placed) → tally w.Free xs ≡ w.Free
 unfolding tally
 tally-many [] = refl
 tally-many (x ∷ xs) = tally-many xs
@@ -118,13 +127,21 @@ tally-many (x ∷ xs) = tally-many xs
 -- one writer, judged as the definition does, by a lead that is the same at its block
 module _ (m : Leading) (lead : ℕ → ℕ → Bool) (n k : ℕ) (same : (t : ℕ) → t < n → get_or m.marks t false ≡ lead m.block t) where
   judged-one : (x : Placed) → x.block < n → judged m (one_of x) k ≡ wrong lead (kind_of x.inst) x.block x.place m.block k
-  judged-one x h = rw (kind-again x.inst, same x.block h)
+  judged-one x h = by (leb (kind_of x.inst) 1) (eqb (kind_of x.inst) 3)
+    where
+      by :
+          (constant address : Bool)
+          → judged m (cond constant w.Free (cond address (w.Address x.block x.place) (w.Other x.block x.place))) k
+          ≡ cond constant false (cond address (too_early lead x.block x.place m.block k) (not (later x.block x.place m.block k)))
+      by true address = refl
+      by false true = rw (same x.block h) refl
+      by false false = refl
 
   judged-tally : (xs : List Placed) → Low n xs → judged m (tally w.Nothing xs) k ≡ only_one (λ x. wrong lead (kind_of x.inst) x.block x.place m.block k) xs
   unfolding tally Low
   judged-tally [] l = refl
   judged-tally (x ∷ []) l = judged-one x l.0
-  judged-tally (x ∷ y ∷ xs) l = ap (λ (v : Writer). judged m v k) (tally-many xs)
+  judged-tally (x ∷ y ∷ xs) l = ap (λ (v : Writer). judged m (tally v xs) k) (joined_one x (one_of y)) ∙ ap (λ (v : Writer). judged m v k) (tally-many xs)
 
 -- the table of a procedure's writers tells which reads offend
 module _

@@ -1,5 +1,4 @@
 pub mod Tables
-pub mod Fields
 pub mod Ending
 pub mod Edges
 pub mod Marks

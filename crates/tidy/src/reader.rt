@@ -10,7 +10,7 @@ use crate::file::Part;
 use crate::lead::Lead;
 use crate::reads::Reads;
 use crate::writers::Writer;
-use inst::{BlockId, Kind, Reg, Regs};
+use inst::{BlockId, Reg, Regs};
 
 // The lower of the lowest offending register so far and r.
 #[tactic(auto, unfolding(crate::specs::Work::Reads::lower))]
@@ -39,21 +39,24 @@ impl<'a, 'b> Reader<'a, 'b> {
         ensures kept { self.new ≡ self.old }
         ensures value { result ≡ judged self.old.lead.now w self.old.place }
     {
-        let Writer::One {
-            kind,
-            block,
-            place: written,
-        } = w
-        else {
-            return false;
-        };
-        let from = BlockId(block as u32);
-        let same = self.lead.block() == from;
-        match kind {
-            Kind::Const | Kind::ConstF => false,
-            Kind::AddrOf if same => self.place < written as u32,
-            Kind::AddrOf => self.lead.leads(from),
-            _ => !same || self.place <= written as u32,
+        let here = self.lead.block();
+        match w {
+            Writer::Nothing | Writer::Free => false,
+            Writer::Address {
+                block,
+                place: written,
+            } => {
+                let from = BlockId(block as u32);
+                if here == from {
+                    self.place < written as u32
+                } else {
+                    self.lead.leads(from)
+                }
+            }
+            Writer::Other {
+                block,
+                place: written,
+            } => here != BlockId(block as u32) || self.place <= written as u32,
         }
     }
 

@@ -1,11 +1,12 @@
 ghost use Rattle.std.specs.Prelude.{◌≡◌, map, ◌+◌, ◌≤◌, ◌<◌, length};
 ghost use Rattle.records.specs.Record.{records_of};
 ghost use Rattle.read.specs.Work.{part};
+ghost use Rattle.inst.specs.Kinds.{number_of};
 ghost use Rattle.codec.specs.Codec.{code_of};
 ghost use Rattle.roles.specs.Roles.{numbers_of};
 ghost use Rattle.tidy.specs.Tidy.{placed_in, placed_from, written};
 ghost use Rattle.tidy.specs.Work.Parts.{blocks_in};
-ghost use Rattle.tidy.specs.Work.Writers.{joined, note, notes, noted, written_at};
+ghost use Rattle.tidy.specs.Work.Writers.{one_at as oneAt, joined, note, notes, noted, written_at};
 
 use crate::file::{File, Part};
 use inst::{BlockId, Kind, Reg};
@@ -19,43 +20,59 @@ struct At {
     ghost near: { place ≤ 2048 },
 }
 
-// What writes a register: nothing, one register field of an instruction, or more. It has six bytes: with a BlockId and a place
-// of u32 it has twelve, and a file's 756 writers take 4,536 bytes more of the 8,192 of stack that include/halivomue.h promises.
+// What the reads of a register are checked by: that nothing writes it, or the place of the one register field that does. An
+// address has a rule of its own, and a register is free if it is a constant or has more than one writer: no read of it is wrong.
+// It has four bytes: with a BlockId and a place of u32 it has twelve, and a file's 756 writers take 6,048 bytes more of the 8,192
+// of stack that include/halivomue.h promises.
 #[derive(Clone, Copy)]
 pub enum Writer {
     Nothing,
-    One { kind: Kind, block: u8, place: u16 },
-    More,
+    Free,
+    Address { block: u8, place: u16 },
+    Other { block: u8, place: u16 },
+}
+
+// An instruction as the one writer of a register.
+fn one_at(kind: Kind, at: At) -> Writer
+    ensures { result ≡ oneAt (number_of kind) at.block.0 at.place }
+{
+    let block = at.block.0 as u8;
+    let place = at.place as u16;
+    match kind {
+        Kind::Const | Kind::ConstF => Writer::Free,
+        Kind::AddrOf => Writer::Address { block, place },
+        _ => Writer::Other { block, place },
+    }
 }
 
 impl Writer {
-    // With one more.
-    fn with(self, one: Writer) -> Writer
-        ensures { result ≡ joined self one }
+    // With one more: an instruction of this kind.
+    fn with(self, kind: Kind, at: At) -> Writer
+        ensures { result ≡ joined self (oneAt (number_of kind) at.block.0 at.place) }
     {
         match self {
-            Writer::Nothing => one,
-            Writer::One { .. } | Writer::More => Writer::More,
+            Writer::Nothing => one_at(kind, at),
+            _ => Writer::Free,
         }
     }
 }
 
 // Adds a writer of r.
 #[tactic(auto, using(crate::proofs::Tables::note_out, crate::proofs::Tables::note_in))]
-fn note_write(ws: &mut [Writer], r: Reg, one: Writer)
-    ensures { ws.new ≡ note ws.old r.0 one }
+fn note_write(ws: &mut [Writer], r: Reg, kind: Kind, at: At)
+    ensures { ws.new ≡ note ws.old r.0 (oneAt (number_of kind) at.block.0 at.place) }
 {
     let k = r.0 as usize;
     if k < ws.len() {
-        ws[k] = ws[k].with(one);
+        ws[k] = ws[k].with(kind, at);
     }
 }
 
-fn note_defs(ws: &mut [Writer], written: &[Reg], one: Writer)
-    ensures { ws.new ≡ notes ws.old one (numbers_of written.now) }
+fn note_defs(ws: &mut [Writer], written: &[Reg], kind: Kind, at: At)
+    ensures { ws.new ≡ notes ws.old (oneAt (number_of kind) at.block.0 at.place) (numbers_of written.now) }
 {
     for r in written {
-        note_write(ws, *r, one);
+        note_write(ws, *r, kind, at);
     }
 }
 
@@ -63,12 +80,7 @@ fn note_inst(b: &[u8], k: usize, at: At, ws: &mut [Writer])
     ensures { ws.new ≡ noted ws.old (written_at b.now k at.block.0 at.place) }
 {
     let i = ends::inst_at(b, k);
-    let one = Writer::One {
-        kind: i.kind(),
-        block: at.block.0 as u8,
-        place: at.place as u16,
-    };
-    note_defs(ws, roles::roles_of(i).written(), one);
+    note_defs(ws, roles::roles_of(i).written(), i.kind(), at);
 }
 
 fn note_block(b: &[u8], p: Part, ws: &mut [Writer])

@@ -1,24 +1,24 @@
 -- The reads, checked one by one by the table of writers; the lowest register so far.
-use Rattle.std.specs.Prelude.{ℕ, min, List, [], ◌∷◌, map, Bool, false, ◌&&◌, cond, ltb, Option, Some, None, get_or}
+use Rattle.std.specs.Prelude.{ℕ, min, List, [], ◌∷◌, map, Bool, false, not, ◌&&◌, cond, ltb, Option, Some, None, get_or}
 use Rattle.records.specs.declared.Record.{Record}
 use Rattle.records.specs.Record.{records_of}
 use Rattle.layout.specs.declared.Layout.{Layout}
 use Rattle.inst.specs.declared.Reg.{Reg}
-use Rattle.inst.specs.Kinds.{number_of}
 use Rattle.tidy.specs.declared.targets.Targets.{Targets}
 use Rattle.tidy.specs.declared.writers.Writer.{Writer}
 use Rattle.tidy.specs.declared.writers.Writer.TheVariants as w
 use Rattle.read.specs.Work.{part}
 use Rattle.codec.specs.Codec.{code_of}
-use Rattle.tidy.specs.Tidy.{Placed, Field, placed_in, placed_from, reads, wrong, lowest}
+use Rattle.tidy.specs.Tidy.{Placed, Field, placed_in, placed_from, reads, too_early, later, lowest}
 use Rattle.tidy.specs.Work.Parts.{operands_in, blocks_in}
 use Rattle.tidy.specs.Work.Marks.{edges_in, Leading, leading}
 
 -- a read at place k of a block, checked by the writers of its register
 abbrev pub judged : Leading → Writer → ℕ → Bool
 judged s w.Nothing k = false
-judged s (w.One kind x y) k = wrong (λ a t. get_or s.marks t false) (number_of kind) x y s.block k
-judged s w.More k = false
+judged s w.Free k = false
+judged s (w.Address x y) k = too_early (λ a t. get_or s.marks t false) x y s.block k
+judged s (w.Other x y) k = not (later x y s.block k)
 
 unfoldable pub offence : Leading → ℕ → List Writer → ℕ → ℕ → Bool
 offence s n ws r k = ltb r n && judged s (get_or ws r w.Nothing) k

@@ -1,7 +1,6 @@
 -- The table of writers.
-use Rattle.std.specs.Prelude.{ℕ, List, [], ◌∷◌, get_or, set}
+use Rattle.std.specs.Prelude.{ℕ, List, [], ◌∷◌, cond, eqb, leb, get_or, set}
 use Rattle.inst.specs.Inst.{kind_of}
-use Rattle.inst.specs.Kinds.{kind_at}
 use Rattle.records.specs.Record.{record_at}
 use Rattle.roles.specs.Roles.{defs_of}
 use Rattle.tidy.specs.declared.writers.Writer.{Writer}
@@ -9,14 +8,19 @@ use Rattle.tidy.specs.declared.writers.Writer.TheVariants as w
 use Rattle.tidy.specs.Tidy.{Placed, Field, fields_at}
 use Rattle.tidy.specs.Work.Parts.{placed_at}
 
+-- an instruction as the one writer of a register: a Const or ConstF, an AddrOf, or any other
+abbrev pub one_at : ℕ → ℕ → ℕ → Writer
+one_at kind block place = cond (leb kind 1) w.Free (cond (eqb kind 3) (w.Address block place) (w.Other block place))
+
 abbrev pub one_of : Placed → Writer
-one_of x = w.One (kind_at (kind_of x.inst)) x.block x.place
+one_of x = one_at (kind_of x.inst) x.block x.place
 
 -- one writer more
 abbrev pub joined : Writer → Writer → Writer
 joined w.Nothing v = v
-joined (w.One kind block place) v = w.More
-joined w.More v = w.More
+joined w.Free v = w.Free
+joined (w.Address block place) v = w.Free
+joined (w.Other block place) v = w.Free
 
 unfoldable pub note : List Writer → ℕ → Writer → List Writer
 note ws r v = set ws r (joined (get_or ws r w.Nothing) v)
