@@ -26,7 +26,7 @@ fn list_only(rt: &HostRuntime, o: &Options, at: usize, from: usize) -> Status {
     let mut room = io::buffer();
     let name = arguments::value_text(rt, at, from, &mut room);
     match replies::list::part_named(name) {
-        Some(part) => ask(rt, o, Question::List(part)),
+        Some(part) => ask(rt, o, Question::List(Some(part))),
         None => help::wrong_part(name),
     }
 }
@@ -34,7 +34,7 @@ fn list_only(rt: &HostRuntime, o: &Options, at: usize, from: usize) -> Status {
 fn list(rt: &HostRuntime, o: &Options) -> Status {
     match o.only {
         Value::Given { at, from } => list_only(rt, o, at, from),
-        _ => ask(rt, o, Question::List(Part::All)),
+        _ => ask(rt, o, Question::List(Some(Part::All))),
     }
 }
 

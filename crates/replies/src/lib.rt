@@ -1,6 +1,8 @@
 // The question about a file, and the answer as it is written to standard output.
 #![tactic(auto)]
 
+ghost use Rattle.replies.specs.Kept.{SameText};
+
 mod answers;
 pub mod list;
 
@@ -12,7 +14,8 @@ use list::Part;
 pub enum Question {
     Read,
     Tidy,
-    List(Part),
+    // `None` is the part of a name that no part has.
+    List(Option<Part>),
 }
 
 // The question, and whether numbers are explained in words.
@@ -24,7 +27,9 @@ pub struct Ask {
 
 // Writes the answer, whose first line already has its start, and returns whether the file was
 // accepted.
-pub fn say(rt: &impl Print, line: &mut Line<'_>, ask: Ask, bytes: &[u8]) -> Result<bool, Unsaid> {
+pub fn say(rt: &impl Print, line: &mut Line<'_>, ask: Ask, bytes: &[u8]) -> Result<bool, Unsaid>
+    ensures { SameText line.old line.new }
+{
     let accepted = match ask.question {
         Question::Read => answers::put_reading(line, ask.words, bytes),
         Question::Tidy => answers::put_tidiness(line, ask.words, bytes),

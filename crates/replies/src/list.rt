@@ -1,4 +1,6 @@
 // The command `list`: document 01's listing of the shortened form, or a part of it.
+ghost use Rattle.replies.specs.Kept.{SameText, SameLine};
+
 use files::Unsaid;
 use inst::Block;
 use line::Line;
@@ -41,7 +43,9 @@ struct Listing<'a, 'b, R> {
 
 impl<R: Print> Listing<'_, '_, R> {
     // Writes what the line has, where it is full.
-    fn turn(&mut self) -> Result<(), Unsaid> {
+    fn turn(&mut self) -> Result<(), Unsaid>
+        ensures { SameLine self.old.line self.new.line }
+    {
         if self.line.at >= FULL {
             files::say(self.rt, self.line.text())?;
             self.line.clear();
@@ -50,7 +54,9 @@ impl<R: Print> Listing<'_, '_, R> {
     }
 
     // A line for each register.
-    fn say_registers(&mut self, registers: &[u8]) -> Result<(), Unsaid> {
+    fn say_registers(&mut self, registers: &[u8]) -> Result<(), Unsaid>
+        ensures { SameLine self.old.line self.new.line }
+    {
         for i in 0..registers.len() / 32 {
             listing::put_reg(self.line, i, records::record_at(registers, i).kind);
             self.turn()?;
@@ -59,7 +65,9 @@ impl<R: Print> Listing<'_, '_, R> {
     }
 
     // A line for each block.
-    fn say_blocks(&mut self, blocks: &[Block]) -> Result<(), Unsaid> {
+    fn say_blocks(&mut self, blocks: &[Block]) -> Result<(), Unsaid>
+        ensures { SameLine self.old.line self.new.line }
+    {
         for (i, b) in blocks.iter().enumerate() {
             listing::put_block(self.line, i, *b);
             self.turn()?;
@@ -68,7 +76,9 @@ impl<R: Print> Listing<'_, '_, R> {
     }
 
     // A line for each instruction of a block that starts at `first`.
-    fn say_part(&mut self, first: u32, part: &[u8]) -> Result<(), Unsaid> {
+    fn say_part(&mut self, first: u32, part: &[u8]) -> Result<(), Unsaid>
+        ensures { SameLine self.old.line self.new.line }
+    {
         for i in 0..part.len() / 32 {
             listing::put_code(self.line, first as usize + i, records::record_at(part, i));
             self.turn()?;
@@ -77,7 +87,9 @@ impl<R: Print> Listing<'_, '_, R> {
     }
 
     // A line for each instruction, block by block.
-    fn say_code(&mut self, code: &[u8], blocks: &[Block]) -> Result<(), Unsaid> {
+    fn say_code(&mut self, code: &[u8], blocks: &[Block]) -> Result<(), Unsaid>
+        ensures { SameLine self.old.line self.new.line }
+    {
         for (k, b) in blocks.iter().enumerate() {
             self.say_part(b.start, block_slice::block_in(code, blocks, k))?;
         }
@@ -85,17 +97,19 @@ impl<R: Print> Listing<'_, '_, R> {
     }
 
     // Writes what the line has, and a line for each record that the part has.
-    fn say_records(&mut self, part: Part, form: File<'_>) -> Result<(), Unsaid> {
+    fn say_records(&mut self, part: Option<Part>, form: File<'_>) -> Result<(), Unsaid>
+        ensures { SameLine self.old.line self.new.line }
+    {
         let table = block_slice::table_of(form.heads());
         let blocks = &table[..usize::min(form.heads().len() / 32, table.len())];
         self.turn()?;
-        if matches!(part, Part::All | Part::Registers) {
+        if matches!(part, Some(Part::All | Part::Registers)) {
             self.say_registers(form.registers())?;
         }
-        if matches!(part, Part::All | Part::Blocks) {
+        if matches!(part, Some(Part::All | Part::Blocks)) {
             self.say_blocks(blocks)?;
         }
-        if matches!(part, Part::All | Part::Code) {
+        if matches!(part, Some(Part::All | Part::Code)) {
             self.say_code(form.code(), blocks)?;
         }
         files::say(self.rt, self.line.text())
@@ -103,28 +117,36 @@ impl<R: Print> Listing<'_, '_, R> {
 }
 
 // A name that no register follows is followed by `none`.
-fn put_none(line: &mut Line<'_>, registers: &[u8]) {
+fn put_none(line: &mut Line<'_>, registers: &[u8])
+    ensures { SameText line.old line.new }
+{
     if registers.is_empty() && line.at > 0 {
         line.put(b"none\n");
     }
 }
 
 // What comes before the records.
-fn put_head(line: &mut Line<'_>, part: Part, s: Shortening, form: File<'_>) {
+fn put_head(line: &mut Line<'_>, part: Option<Part>, s: Shortening, form: File<'_>)
+    ensures { SameText line.old line.new }
+{
     match part {
-        Part::All | Part::Counts => listing::put_counts(line, s),
-        Part::Registers => put_none(line, form.registers()),
-        Part::Blocks | Part::Code => (),
+        Some(Part::All | Part::Counts) => listing::put_counts(line, s),
+        Some(Part::Registers) => put_none(line, form.registers()),
+        Some(Part::Blocks | Part::Code) | None => (),
     }
 }
 
+// Writes the listing, or why the file is refused, and returns whether it was accepted. Where the part is `None`, that of
+// a name that no part has, nothing of the form is listed.
 pub fn say(
     rt: &impl Print,
     line: &mut Line<'_>,
-    part: Part,
+    part: Option<Part>,
     words: bool,
     bytes: &[u8],
-) -> Result<bool, Unsaid> {
+) -> Result<bool, Unsaid>
+    ensures { SameText line.old line.new }
+{
     let mut result = [0u8; ROOM];
     match shorten::shorten(bytes, &mut result) {
         Ok(s) => {
