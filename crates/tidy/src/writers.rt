@@ -21,7 +21,8 @@ struct At {
 }
 
 // What the reads of a register are checked by: that nothing writes it, or the place of the one register field that does. An
-// address has a rule of its own, and a register is free if it is a constant or has more than one writer: no read of it is wrong.
+// address has a rule of its own. A register is free, so that no read of it is wrong, if its one writer is a Const or ConstF, or it
+// has more than one.
 // It has four bytes: with a BlockId and a place of u32 it has twelve, and a file's 756 writers take 6,048 bytes more of the 8,192
 // of stack that include/halivomue.h promises.
 #[derive(Clone, Copy)]
