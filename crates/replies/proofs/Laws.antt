@@ -1,5 +1,5 @@
 -- What is put into a line leaves it the same text; so do two steps that each leave it.
-use Rattle.std.proofs.Common.{◌≡◌, ℕ, List, length, refl, ap, ◌∙◌}
+use Rattle.std.proofs.Common.{◌≡◌, ℕ, List, length, ap, ◌∙◌}
 use Rattle.std.proofs.Math.Seq.{length-sets}
 use Rattle.std.specs.Borrow.{MutBor}
 use Rattle.line.specs.declared.Line.{Line}

@@ -27,6 +27,7 @@ pub struct Ask {
 
 // Writes the answer, whose first line already has its start, and returns whether the file was
 // accepted.
+#[tactic(auto, using(crate::proofs::Laws::ended_keeps))]
 pub fn say(rt: &impl Print, line: &mut Line<'_>, ask: Ask, bytes: &[u8]) -> Result<bool, Unsaid>
     ensures { SameText line.old line.new }
 {

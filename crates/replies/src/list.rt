@@ -117,6 +117,7 @@ impl<R: Print> Listing<'_, '_, R> {
 }
 
 // A name that no register follows is followed by `none`.
+#[tactic(auto, using(crate::proofs::Laws::put_keeps))]
 fn put_none(line: &mut Line<'_>, registers: &[u8])
     ensures { SameText line.old line.new }
 {
@@ -126,6 +127,7 @@ fn put_none(line: &mut Line<'_>, registers: &[u8])
 }
 
 // What comes before the records.
+#[tactic(auto, using(crate::proofs::Laws::put_keeps))]
 fn put_head(line: &mut Line<'_>, part: Option<Part>, s: Shortening, form: File<'_>)
     ensures { SameText line.old line.new }
 {
@@ -138,6 +140,7 @@ fn put_head(line: &mut Line<'_>, part: Option<Part>, s: Shortening, form: File<'
 
 // Writes the listing, or why the file is refused, and returns whether it was accepted. Where the part is `None`, that of
 // a name that no part has, nothing of the form is listed.
+#[tactic(auto, using(crate::proofs::Laws::ended_keeps))]
 pub fn say(
     rt: &impl Print,
     line: &mut Line<'_>,
