@@ -220,7 +220,8 @@ fn sent(bytes: &[u8], out: &mut [u8]) -> Result<Shortening, Refusal>
 }
 
 // The threaded form over storage for MOST registers and instructions and some blocks, of the lengths that Room gives. Eight numbers:
-// an array's length can't be computed from a const parameter.
+// an array's length can't be computed from a const parameter. Not inlined: the other forms must not touch a frame of 80 KB.
+#[inline(never)]
 fn thread_over<
     const MOST: usize,
     const BLOCKS: usize,
