@@ -35,7 +35,7 @@ use Rattle.tidy.specs.Work.Reads.{lowest_of, judged_all, judged_in, reads_in}
 use Rattle.tidy.specs.Work.Marks.{edges_in, PairAt, TargetsIn}
 use Rattle.tidy.specs.Work.Parts.{block_records, block_code, code_records, blocks_in, operands_in, Fit}
 use Rattle.tidy.proofs.Tables.{blocks-length}
-use Rattle.tidy.proofs.Answers.{tally, tally-at, answer-is}
+use Rattle.tidy.proofs.Answers.{tally_entry, tally-at, answer-is}
 use Rattle.tidy.proofs.Edges.{table-leads}
 
 -- the procedure of the file, part by part
@@ -110,13 +110,13 @@ module _ {rs : List Record} {l : Layout} (h : LaidOut rs l) (f : Fit rs l) (n : 
   few-blocks : length (procedure_of rs).blocks ≤ 160
   few-blocks = let i = ap length (the_blocks h) ∙ length-map (block_records rs l) (block_code rs l) ∙ blocks-length f in omega arith
 
-  table_is : (r : ℕ) → r < length (procedure_of rs).registers → get_or ws r w.Nothing ≡ tally w.Nothing (writers r (written (placed (procedure_of rs))))
+  table_is : (r : ℕ) → r < length (procedure_of rs).registers → get_or ws r w.Nothing ≡ tally_entry w.Nothing (writers r (written (placed (procedure_of rs))))
   table_is r i =
       let k : r < n = let g = the_registers h in omega arith in
       ap (λ (u : List Writer). get_or u r w.Nothing) e
       ∙ tally-at (written (placed_from 0 (blocks_in rs l))) (replicate n w.Nothing) r (rw (length-replicate {A = Writer} n w.Nothing) k)
-      ∙ ap (λ (m : Writer). tally m (writers r (written (placed_from 0 (blocks_in rs l))))) (get_or-replicate {A = Writer} n r w.Nothing w.Nothing k)
-      ∙ ap (λ (bs : List (List Code)). tally w.Nothing (writers r (written (placed_from 0 bs)))) (sym (the_blocks h))
+      ∙ ap (λ (m : Writer). tally_entry m (writers r (written (placed_from 0 (blocks_in rs l))))) (get_or-replicate {A = Writer} n r w.Nothing w.Nothing k)
+      ∙ ap (λ (bs : List (List Code)). tally_entry w.Nothing (writers r (written (placed_from 0 bs)))) (sym (the_blocks h))
 
   abbrev edges : List (List ℕ)
   edges = edges_of (procedure_of rs)

@@ -23,8 +23,8 @@ use Rattle.tidy.specs.declared.writers.Writer.{Writer}
 use Rattle.tidy.specs.declared.writers.Writer.TheVariants as w
 use Rattle.tidy.specs.Tidy.{Placed, Field, placed_in, placed_from, placed, fields_at, written, reads, writers, edges_of, LeadsTo, leads}
 use Rattle.tidy.specs.Tidy.{too_early, later, wrong, wrong_for, only_one, offends, regs_of, offenders, Tidy, lowest}
-use Rattle.tidy.specs.Work.Writers.{one_of, joined, note, noted}
-use Rattle.tidy.specs.Work.Reads.{lowest_of, judged, offence, lower, lowered, step, judged_all}
+use Rattle.tidy.specs.Work.Writers.{entry_of, joined_entry, note, noted}
+use Rattle.tidy.specs.Work.Reads.{lowest_of, judged_entry, offence, lower, lowered, step, judged_all}
 use Rattle.tidy.specs.Work.Marks.{Leading, leading}
 use Rattle.tidy.proofs.Tables.{length-note}
 
@@ -85,69 +85,69 @@ module _ (n r : ℕ) where
       subst (Low n) (sym (writers-append r fs (written xs)))
       (low-append n (writers r fs) (writers r (written xs)) (low-fields x (defs_of x.inst) l.0) (low-writers xs l.1))
 
--- a writer of the table, after more
-pub tally : Writer → List Placed → Writer
-tally s [] = s
-tally s (x ∷ xs) = tally (joined s (one_of x)) xs
+-- an entry of the table, after more writers
+unfoldable pub tally_entry : Writer → List Placed → Writer
+tally_entry s [] = s
+tally_entry s (x ∷ xs) = tally_entry (joined_entry s (entry_of x)) xs
 
 pub tally-at : (fs : List Field) (ws : List Writer) (r : ℕ) → r < length ws
-    → get_or (noted ws fs) r w.Nothing ≡ tally (get_or ws r w.Nothing) (writers r fs)
-unfolding noted writers tally note
+    → get_or (noted ws fs) r w.Nothing ≡ tally_entry (get_or ws r w.Nothing) (writers r fs)
+unfolding noted writers tally_entry note
 tally-at [] ws r h = refl
-tally-at (f ∷ fs) ws r h = by (tally-at fs (note ws f.reg (one_of f.at)) r (rw (length-note ws f.reg (one_of f.at)) h)) (cases (eqb f.reg r))
+tally-at (f ∷ fs) ws r h = by (tally-at fs (note ws f.reg (entry_of f.at)) r (rw (length-note ws f.reg (entry_of f.at)) h)) (cases (eqb f.reg r))
   where
-    here : f.reg ≡ r → get_or (note ws f.reg (one_of f.at)) r w.Nothing ≡ joined (get_or ws r w.Nothing) (one_of f.at)
-    here e = rw e (get_or-set_same ws r (joined (get_or ws r w.Nothing) (one_of f.at)) w.Nothing h)
+    here : f.reg ≡ r → get_or (note ws f.reg (entry_of f.at)) r w.Nothing ≡ joined_entry (get_or ws r w.Nothing) (entry_of f.at)
+    here e = rw e (get_or-set_same ws r (joined_entry (get_or ws r w.Nothing) (entry_of f.at)) w.Nothing h)
 
-    there : (f.reg ≡ r → ⊥) → get_or (note ws f.reg (one_of f.at)) r w.Nothing ≡ get_or ws r w.Nothing
-    there e = get_or-set_other ws f.reg r (joined (get_or ws f.reg w.Nothing) (one_of f.at)) w.Nothing (λ i. e (sym i))
+    there : (f.reg ≡ r → ⊥) → get_or (note ws f.reg (entry_of f.at)) r w.Nothing ≡ get_or ws r w.Nothing
+    there e = get_or-set_other ws f.reg r (joined_entry (get_or ws f.reg w.Nothing) (entry_of f.at)) w.Nothing (λ i. e (sym i))
 
     by :
-        get_or (noted (note ws f.reg (one_of f.at)) fs) r w.Nothing ≡ tally (get_or (note ws f.reg (one_of f.at)) r w.Nothing) (writers r fs)
+        get_or (noted (note ws f.reg (entry_of f.at)) fs) r w.Nothing ≡ tally_entry (get_or (note ws f.reg (entry_of f.at)) r w.Nothing) (writers r fs)
         → (eqb f.reg r ≡ true) ⊎ (eqb f.reg r ≡ false)
-        → get_or (noted (note ws f.reg (one_of f.at)) fs) r w.Nothing ≡ tally (get_or ws r w.Nothing) (writers r (f ∷ fs))
-    by e (inl t) = e ∙ ap (λ (n : Writer). tally n (writers r fs)) (here (eqb-true f.reg r t)) ∙ sym (rw t)
-    by e (inr t) = e ∙ ap (λ (n : Writer). tally n (writers r fs)) (there (eqb-false f.reg r t)) ∙ sym (rw t)
+        → get_or (noted (note ws f.reg (entry_of f.at)) fs) r w.Nothing ≡ tally_entry (get_or ws r w.Nothing) (writers r (f ∷ fs))
+    by e (inl t) = e ∙ ap (λ (n : Writer). tally_entry n (writers r fs)) (here (eqb-true f.reg r t)) ∙ sym (rw t)
+    by e (inr t) = e ∙ ap (λ (n : Writer). tally_entry n (writers r fs)) (there (eqb-false f.reg r t)) ∙ sym (rw t)
 
-joined_one : (x : Placed) (v : Writer) → joined (one_of x) v ≡ w.Free
+joined_one : (x : Placed) (v : Writer) → joined_entry (entry_of x) v ≡ w.Free
 joined_one x v = by (leb (kind_of x.inst) 1) (eqb (kind_of x.inst) 3)
   where
     by :
         (constant address : Bool)
-        → joined (cond constant w.Free (cond address (w.Address x.block x.place) (w.Other x.block x.place))) v ≡ w.Free
+        → joined_entry (cond constant w.Free (cond address (w.Address x.block x.place) (w.Other x.block x.place))) v ≡ w.Free
     by true address = refl
     by false true = refl
     by false false = refl
 
-tally-many : (xs : List Placed) → tally w.Free xs ≡ w.Free
-unfolding tally
+tally-many : (xs : List Placed) → tally_entry w.Free xs ≡ w.Free
+unfolding tally_entry
 tally-many [] = refl
 tally-many (x ∷ xs) = tally-many xs
 
 -- one writer, judged as the definition does, by a lead that is the same at its block
 module _ (m : Leading) (lead : ℕ → ℕ → Bool) (n k : ℕ) (same : (t : ℕ) → t < n → get_or m.marks t false ≡ lead m.block t) where
-  judged-one : (x : Placed) → x.block < n → judged m (one_of x) k ≡ wrong lead (kind_of x.inst) x.block x.place m.block k
+  judged-one : (x : Placed) → x.block < n → judged_entry m (entry_of x) k ≡ wrong lead (kind_of x.inst) x.block x.place m.block k
   judged-one x h = by (leb (kind_of x.inst) 1) (eqb (kind_of x.inst) 3)
     where
       by :
           (constant address : Bool)
-          → judged m (cond constant w.Free (cond address (w.Address x.block x.place) (w.Other x.block x.place))) k
+          → judged_entry m (cond constant w.Free (cond address (w.Address x.block x.place) (w.Other x.block x.place))) k
           ≡ cond constant false (cond address (too_early lead x.block x.place m.block k) (not (later x.block x.place m.block k)))
       by true address = refl
       by false true = rw (same x.block h) refl
       by false false = refl
 
-  judged-tally : (xs : List Placed) → Low n xs → judged m (tally w.Nothing xs) k ≡ only_one (λ x. wrong lead (kind_of x.inst) x.block x.place m.block k) xs
-  unfolding tally Low
-  judged-tally [] l = refl
-  judged-tally (x ∷ []) l = judged-one x l.0
-  judged-tally (x ∷ y ∷ xs) l = ap (λ (v : Writer). judged m (tally v xs) k) (joined_one x (one_of y)) ∙ ap (λ (v : Writer). judged m v k) (tally-many xs)
+  judged-tally_entry : (xs : List Placed) → Low n xs → judged_entry m (tally_entry w.Nothing xs) k ≡ only_one (λ x. wrong lead (kind_of x.inst) x.block x.place m.block k) xs
+  unfolding tally_entry Low
+  judged-tally_entry [] l = refl
+  judged-tally_entry (x ∷ []) l = judged-one x l.0
+  judged-tally_entry (x ∷ y ∷ xs) l = ap (λ (v : Writer). judged_entry m (tally_entry v xs) k) (joined_one x (entry_of y)) ∙ ap (λ (v : Writer). judged_entry m v k) (tally-many xs)
 
 -- the table of a procedure's writers tells which reads offend
 module _
     (p : Procedure) (es : List (List ℕ)) (ws : List Writer) (few : length p.blocks ≤ 160)
     (same : (a t : ℕ) → t < length p.blocks → get_or (reached_from es a) t false ≡ leads p a t)
-    (table : (r : ℕ) → r < length p.registers → get_or ws r w.Nothing ≡ tally w.Nothing (writers r (written (placed p))))
+    (table : (r : ℕ) → r < length p.registers → get_or ws r w.Nothing ≡ tally_entry w.Nothing (writers r (written (placed p))))
   where
     offence-is : (f : Field) → offence (leading es f.at.block) (length p.registers) ws f.reg f.at.place ≡ offends p f
     unfolding offence offends
@@ -161,11 +161,11 @@ module _
 
         is :
             there ≡ true
-            → (there && judged (leading es f.at.block) (get_or ws f.reg w.Nothing) f.at.place) ≡ (there && only_one (λ w. wrong_for (leads p) w f.at) ones)
+            → (there && judged_entry (leading es f.at.block) (get_or ws f.reg w.Nothing) f.at.place) ≡ (there && only_one (λ w. wrong_for (leads p) w f.at) ones)
         is e =
             ap (λ (b : Bool). there && b)
-            (ap (λ (n : Writer). judged (leading es f.at.block) n f.at.place) (table f.reg (ltb-true f.reg (length p.registers) e))
-            ∙ judged-tally (leading es f.at.block) (leads p) (length p.blocks) f.at.place (same f.at.block) ones
+            (ap (λ (n : Writer). judged_entry (leading es f.at.block) n f.at.place) (table f.reg (ltb-true f.reg (length p.registers) e))
+            ∙ judged-tally_entry (leading es f.at.block) (leads p) (length p.blocks) f.at.place (same f.at.block) ones
             (low-writers (length p.blocks) f.reg (placed p) (low-from (length p.blocks) 0 p.blocks (omega arith))))
 
     judged-regs : (fs : List Field) (s : Option Reg) → judged_all es (length p.registers) ws s fs ≡ lowered s (regs_of (offends p) fs)

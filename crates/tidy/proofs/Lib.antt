@@ -4,5 +4,7 @@ pub mod Edges
 pub mod Marks
 pub mod Verdicts
 pub mod Answers
+pub mod Fields
+pub mod Held
 pub mod Accepted
 pub mod Clauses

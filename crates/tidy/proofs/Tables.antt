@@ -20,27 +20,27 @@ use Rattle.roles.proofs.Laws.{numbers-length, number_at}
 use Rattle.tidy.specs.Tidy.{Placed, Field, placed_in, placed_from, fields_at, written, reads}
 use Rattle.tidy.specs.declared.writers.Writer.{Writer}
 use Rattle.tidy.specs.declared.writers.Writer.TheVariants as w
-use Rattle.tidy.specs.Work.Writers.{one_of, joined, note, notes, noted}
+use Rattle.tidy.specs.Work.Writers.{entry_of, joined_entry, note, notes, noted}
 use Rattle.tidy.specs.Work.Parts.{placed_at, block_records, block_code, Fit, BlockPart}
 
 -- one writer more
 module _ (ws : List Writer) (r : ℕ) (v : Writer) where
   pub note_out : length ws ≤ r → ws ≡ note ws r v
   unfolding note
-  note_out h = sym (set_out ws r (joined (get_or ws r w.Nothing) v) h)
+  note_out h = sym (set_out ws r (joined_entry (get_or ws r w.Nothing) v) h)
 
-  pub note_in : (d : Writer) → r < length ws → {x : Writer} → x ≡ joined (get_or ws r d) v → set ws r x ≡ note ws r v
+  pub note_in : (d : Writer) → r < length ws → {x : Writer} → x ≡ joined_entry (get_or ws r d) v → set ws r x ≡ note ws r v
   unfolding note
-  note_in d h e = ap (set ws r) (e ∙ ap (λ (x : Writer). joined x v) (get_d_any ws r d w.Nothing h))
+  note_in d h e = ap (set ws r) (e ∙ ap (λ (x : Writer). joined_entry x v) (get_d_any ws r d w.Nothing h))
 
   pub length-note : length (note ws r v) ≡ length ws
   unfolding note
-  length-note = length-set ws r (joined (get_or ws r w.Nothing) v)
+  length-note = length-set ws r (joined_entry (get_or ws r w.Nothing) v)
 
 pub length-noted : (fs : List Field) (ws : List Writer) → length (noted ws fs) ≡ length ws
 unfolding noted
 length-noted [] ws = refl
-length-noted (f ∷ fs) ws = length-noted fs (note ws f.reg (one_of f.at)) ∙ length-note ws f.reg (one_of f.at)
+length-noted (f ∷ fs) ws = length-noted fs (note ws f.reg (entry_of f.at)) ∙ length-note ws f.reg (entry_of f.at)
 
 pub notes-step : (ws : List Writer) (v : Writer) (l : List ℕ) (j : ℕ) → j < length l → notes (note ws (get_or l j 0) v) v (drop (j + 1) l) ≡ notes ws v (drop j l)
 unfolding notes
@@ -60,15 +60,15 @@ pub notes-end : (ws : List Writer) (v : Writer) (l : List ℕ) (j : ℕ) → len
 unfolding notes
 notes-end ws v l j h = sym (ap (notes ws v) (drop_of_length-le l h))
 
-pub notes-noted : (ws : List Writer) (x : Placed) (rs : List ℕ) → notes ws (one_of x) rs ≡ noted ws (fields_at x rs)
+pub notes-noted : (ws : List Writer) (x : Placed) (rs : List ℕ) → notes ws (entry_of x) rs ≡ noted ws (fields_at x rs)
 unfolding notes noted
 notes-noted ws x [] = refl
-notes-noted ws x (r ∷ rs) = notes-noted (note ws r (one_of x)) x rs
+notes-noted ws x (r ∷ rs) = notes-noted (note ws r (entry_of x)) x rs
 
 pub noted-append : (fs gs : List Field) (ws : List Writer) → noted ws (fs ++ gs) ≡ noted (noted ws fs) gs
 unfolding noted
 noted-append [] gs ws = refl
-noted-append (f ∷ fs) gs ws = noted-append fs gs (note ws f.reg (one_of f.at))
+noted-append (f ∷ fs) gs ws = noted-append fs gs (note ws f.reg (entry_of f.at))
 
 pub written-append : (xs ys : List Placed) → written (xs ++ ys) ≡ written xs ++ written ys
 unfolding written

@@ -24,7 +24,7 @@ use Rattle.tidy.specs.declared.writers.Writer.TheVariants as w
 use Rattle.general.proofs.Lists.{get_d_any}
 use Rattle.tidy.specs.Tidy.{Placed, Field, placed_in, placed_from, fields_at, reads}
 use Rattle.tidy.specs.Work.Marks.{Leading, leading}
-use Rattle.tidy.specs.Work.Reads.{judged, offence, lower, step, judged_all}
+use Rattle.tidy.specs.Work.Reads.{judged_entry, offence, lower, step, judged_all}
 use Rattle.tidy.specs.declared.reads.Reads.{Reads}
 use Rattle.tidy.specs.declared.reader.Reader.{Reader}
 use Rattle.tidy.specs.Work.Reader.{lowest_now, read, read_all}
@@ -41,11 +41,11 @@ module _ (m : Leading) (n : ℕ) (ws : List Writer) (k : ℕ) (s : Option Reg) (
     any : get_or ws r w.Nothing ≡ get_or ws r d
     any = get_d_any ws r w.Nothing d (omega arith)
 
-    pub step_right : judged m (get_or ws r d) k ≡ false → s ≡ step m n ws k s r
+    pub step_right : judged_entry m (get_or ws r d) k ≡ false → s ≡ step m n ws k s r
     unfolding step offence
     step_right e = sym (rw (lt-ltb r n h, any, e))
 
-    pub step_wrong : judged m (get_or ws r d) k ≡ true → {x : Reg} → x.0 ≡ lower s r → Some x ≡ step m n ws k s r
+    pub step_wrong : judged_entry m (get_or ws r d) k ≡ true → {x : Reg} → x.0 ≡ lower s r → Some x ≡ step m n ws k s r
     unfolding step offence
     step_wrong e {x} f = ap (λ (m : ℕ). let y : Reg = record { 0 = m } in Some y) f ∙ sym (rw (lt-ltb r n h, any, e))
 

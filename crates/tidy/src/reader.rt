@@ -3,7 +3,8 @@ ghost use Rattle.records.specs.Record.{records_of};
 ghost use Rattle.roles.specs.Roles.{numbers_of, operands_of};
 ghost use Rattle.tidy.specs.Work.Parts.{operands_in};
 ghost use Rattle.tidy.specs.Work.Marks.{edges_in, leading};
-ghost use Rattle.tidy.specs.Work.Reads.{judged, judged_in, part_reads, lower as lowerBy};
+ghost use Rattle.tidy.specs.Work.Writers.{WrittenBy, held};
+ghost use Rattle.tidy.specs.Work.Reads.{judged, judged_entry, judged_in, part_reads, lower as lowerBy};
 ghost use Rattle.tidy.specs.Work.Reader.{read, read_all, reads_at};
 
 use crate::file::Part;
@@ -37,7 +38,8 @@ impl<'a, 'b> Reader<'a, 'b> {
     // Whether a read of a register with these writers is wrong.
     fn wrong(&mut self, w: Writer) -> bool
         ensures kept { self.new ≡ self.old }
-        ensures value { result ≡ judged self.old.lead.now w self.old.place }
+        ensures value { result ≡ judged_entry self.old.lead.now w self.old.place }
+        ensures judged { (v : WrittenBy) → w ≡ held v → result ≡ judged self.old.lead.now v self.old.place }
     {
         let here = self.lead.block();
         match w {

@@ -1,12 +1,12 @@
-ghost use Rattle.std.specs.Prelude.{◌≡◌, map, ◌+◌, ◌≤◌, ◌<◌, length};
+ghost use Rattle.std.specs.Prelude.{ℕ, ◌≡◌, map, ◌+◌, ◌≤◌, ◌<◌, length};
 ghost use Rattle.records.specs.Record.{records_of};
 ghost use Rattle.read.specs.Work.{part};
 ghost use Rattle.inst.specs.Kinds.{number_of};
 ghost use Rattle.codec.specs.Codec.{code_of};
 ghost use Rattle.roles.specs.Roles.{numbers_of};
-ghost use Rattle.tidy.specs.Tidy.{placed_in, placed_from, written};
+ghost use Rattle.tidy.specs.Tidy.{placed_in, placed_from, written, writers};
 ghost use Rattle.tidy.specs.Work.Parts.{blocks_in};
-ghost use Rattle.tidy.specs.Work.Writers.{one_at as oneAt, joined, note, notes, noted, written_at};
+ghost use Rattle.tidy.specs.Work.Writers.{WrittenBy, tally, Holds, one_at as oneAt, joined_entry, note, notes, noted, written_at};
 
 use crate::file::{File, Part};
 use inst::{BlockId, Kind, Reg};
@@ -49,7 +49,7 @@ fn one_at(kind: Kind, at: At) -> Writer
 impl Writer {
     // With one more: an instruction of this kind.
     fn with(self, kind: Kind, at: At) -> Writer
-        ensures { result ≡ joined self (oneAt (number_of kind) at.block.0 at.place) }
+        ensures { result ≡ joined_entry self (oneAt (number_of kind) at.block.0 at.place) }
     {
         match self {
             Writer::Nothing => one_at(kind, at),
@@ -99,7 +99,9 @@ fn note_block(b: &[u8], p: Part, ws: &mut [Writer])
 
 // The writers of all registers.
 pub fn note_blocks(f: File, ws: &mut [Writer])
-    ensures { ws.new ≡ noted ws.old (written (placed_from 0 (blocks_in (records_of f.entry.b.now) f.entry.l))) }
+    ensures table { ws.new ≡ noted ws.old (written (placed_from 0 (blocks_in (records_of f.entry.b.now) f.entry.l))) }
+    ensures holds { (r : ℕ) → r < length ws.old → (v : WrittenBy) → Holds ws.old r v
+        → Holds ws.new r (tally v (writers r (written (placed_from 0 (blocks_in (records_of f.entry.b.now) f.entry.l))))) }
 {
     for k in 0..f.blocks() {
         note_block(f.b, f.part(k), ws);

@@ -4,24 +4,32 @@ use Rattle.records.specs.declared.Record.{Record}
 use Rattle.records.specs.Record.{records_of}
 use Rattle.layout.specs.declared.Layout.{Layout}
 use Rattle.inst.specs.declared.Reg.{Reg}
+use Rattle.inst.specs.Kinds.{number_of}
 use Rattle.tidy.specs.declared.targets.Targets.{Targets}
 use Rattle.tidy.specs.declared.writers.Writer.{Writer}
 use Rattle.tidy.specs.declared.writers.Writer.TheVariants as w
 use Rattle.read.specs.Work.{part}
 use Rattle.codec.specs.Codec.{code_of}
-use Rattle.tidy.specs.Tidy.{Placed, Field, placed_in, placed_from, reads, too_early, later, lowest}
+use Rattle.tidy.specs.Tidy.{Placed, Field, placed_in, placed_from, reads, too_early, later, wrong, lowest}
 use Rattle.tidy.specs.Work.Parts.{operands_in, blocks_in}
+use Rattle.tidy.specs.Work.Writers.{WrittenBy, Nothing, One, More}
 use Rattle.tidy.specs.Work.Marks.{edges_in, Leading, leading}
 
--- a read at place k of a block, checked by the writers of its register
-abbrev pub judged : Leading → Writer → ℕ → Bool
-judged s w.Nothing k = false
-judged s w.Free k = false
-judged s (w.Address x y) k = too_early (λ a t. get_or s.marks t false) x y s.block k
-judged s (w.Other x y) k = not (later x y s.block k)
+-- a read at place k of a block, checked by what writes its register
+abbrev pub judged : Leading → WrittenBy → ℕ → Bool
+judged s Nothing k = false
+judged s (One kind x y) k = wrong (λ a t. get_or s.marks t false) (number_of kind) x y s.block k
+judged s More k = false
+
+-- the same by the table's entry
+abbrev pub judged_entry : Leading → Writer → ℕ → Bool
+judged_entry s w.Nothing k = false
+judged_entry s w.Free k = false
+judged_entry s (w.Address x y) k = too_early (λ a t. get_or s.marks t false) x y s.block k
+judged_entry s (w.Other x y) k = not (later x y s.block k)
 
 unfoldable pub offence : Leading → ℕ → List Writer → ℕ → ℕ → Bool
-offence s n ws r k = ltb r n && judged s (get_or ws r w.Nothing) k
+offence s n ws r k = ltb r n && judged_entry s (get_or ws r w.Nothing) k
 
 -- the lowest register, after one more
 unfoldable pub lower : Option Reg → ℕ → ℕ

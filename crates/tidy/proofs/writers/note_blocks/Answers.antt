@@ -6,6 +6,7 @@ use Rattle.tidy.specs.Tidy.{written, placed_in, placed_from}
 use Rattle.tidy.specs.Work.Parts.{blocks_in, block_code, block_records}
 use Rattle.tidy.specs.Work.Writers.{noted}
 use Rattle.tidy.proofs.Tables.{blocks-length, noted-block, noted-blocks, length-noted}
+use Rattle.tidy.proofs.Held.{held-noted}
 use Rattle.tidy.proofs.writers.note_blocks.Goals as goal
 
 pub loop-k-init : goal.loop-k-init
@@ -29,10 +30,19 @@ loop-k-preserved c =
     let step = noted-block l.ws (block_code rs f.l) (block_records rs f.l) l.k (rw (blocks-length f.fit) i) in
     (ap length e ∙ length-noted _ l.ws ∙ l.invariant.0, more ∙ step ∙ l.invariant.1)
 
-pub returns : goal.returns
-returns c =
+pub returns-clause-table : goal.returns-clause-table
+returns-clause-table c =
     let f = c.args.f in
     let l = c.loop-k in
     let rs = records_of f.b.now in
     noted-blocks l.ws (block_code rs f.l) (block_records rs f.l) l.k (rw (blocks-length f.fit, ← c.blocks-k-end.ensures) c.loop-k-test.false)
     ∙ l.invariant.1
+
+pub returns-clause-holds : goal.returns-clause-holds
+returns-clause-holds c =
+    let f = c.args.f in
+    let l = c.loop-k in
+    let rs = records_of f.b.now in
+    held-noted _ (written (placed_from 0 (blocks_in rs f.l)))
+    (noted-blocks l.ws (block_code rs f.l) (block_records rs f.l) l.k (rw (blocks-length f.fit, ← c.blocks-k-end.ensures) c.loop-k-test.false)
+    ∙ l.invariant.1)
