@@ -30,7 +30,7 @@ use Rattle.tidy.specs.declared.writers.Writer.{Writer}
 use Rattle.tidy.specs.declared.writers.Writer.TheVariants as w
 use Rattle.tidy.specs.Tidy.{placed_from, placed, written, reads, writers, edges_of, leads, offenders, verdict, Tidiness, told, tidiness}
 use Rattle.tidy.specs.Told.{tidiness_of}
-use Rattle.tidy.specs.Work.Writers.{noted}
+use Rattle.tidy.specs.Work.Writers.{entered}
 use Rattle.tidy.specs.Work.Reads.{lowest_of, judged_all, judged_in, reads_in}
 use Rattle.tidy.specs.Work.Marks.{edges_in, PairAt, TargetsIn}
 use Rattle.tidy.specs.Work.Parts.{block_records, block_code, code_records, blocks_in, operands_in, Fit}
@@ -106,7 +106,7 @@ module _ (b : List ℕ) (e : (checked b).number ≡ 0) where
 
 -- the steps over a file that fits
 module _ {rs : List Record} {l : Layout} (h : LaidOut rs l) (f : Fit rs l) (n : ℕ) (size : n ≡ 756) (ts : List Targets) {ws : List Writer}
-    (e : ws ≡ noted (replicate n w.Nothing) (written (placed_from 0 (blocks_in rs l)))) (t : TargetsIn rs l ts) where
+    (e : ws ≡ entered (replicate n w.Nothing) (written (placed_from 0 (blocks_in rs l)))) (t : TargetsIn rs l ts) where
   few-blocks : length (procedure_of rs).blocks ≤ 160
   few-blocks = let i = ap length (the_blocks h) ∙ length-map (block_records rs l) (block_code rs l) ∙ blocks-length f in omega arith
 

@@ -23,7 +23,7 @@ use Rattle.tidy.specs.declared.writers.Writer.{Writer}
 use Rattle.tidy.specs.declared.writers.Writer.TheVariants as w
 use Rattle.tidy.specs.Tidy.{Placed, Field, placed_in, placed_from, placed, fields_at, written, reads, writers, edges_of, LeadsTo, leads}
 use Rattle.tidy.specs.Tidy.{too_early, later, wrong, wrong_for, only_one, offends, regs_of, offenders, Tidy, lowest}
-use Rattle.tidy.specs.Work.Writers.{entry_of, joined_entry, note, noted}
+use Rattle.tidy.specs.Work.Writers.{entry_of, joined_entry, enter, entered}
 use Rattle.tidy.specs.Work.Reads.{lowest_of, judged_entry, offence, lower, lowered, step, judged_all}
 use Rattle.tidy.specs.Work.Marks.{Leading, leading}
 use Rattle.tidy.proofs.Tables.{length-note}
@@ -91,21 +91,21 @@ tally_entry s [] = s
 tally_entry s (x ∷ xs) = tally_entry (joined_entry s (entry_of x)) xs
 
 pub tally-at : (fs : List Field) (ws : List Writer) (r : ℕ) → r < length ws
-    → get_or (noted ws fs) r w.Nothing ≡ tally_entry (get_or ws r w.Nothing) (writers r fs)
-unfolding noted writers tally_entry note
+    → get_or (entered ws fs) r w.Nothing ≡ tally_entry (get_or ws r w.Nothing) (writers r fs)
+unfolding entered writers tally_entry enter
 tally-at [] ws r h = refl
-tally-at (f ∷ fs) ws r h = by (tally-at fs (note ws f.reg (entry_of f.at)) r (rw (length-note ws f.reg (entry_of f.at)) h)) (cases (eqb f.reg r))
+tally-at (f ∷ fs) ws r h = by (tally-at fs (enter ws f.reg (entry_of f.at)) r (rw (length-note ws f.reg (entry_of f.at)) h)) (cases (eqb f.reg r))
   where
-    here : f.reg ≡ r → get_or (note ws f.reg (entry_of f.at)) r w.Nothing ≡ joined_entry (get_or ws r w.Nothing) (entry_of f.at)
+    here : f.reg ≡ r → get_or (enter ws f.reg (entry_of f.at)) r w.Nothing ≡ joined_entry (get_or ws r w.Nothing) (entry_of f.at)
     here e = rw e (get_or-set_same ws r (joined_entry (get_or ws r w.Nothing) (entry_of f.at)) w.Nothing h)
 
-    there : (f.reg ≡ r → ⊥) → get_or (note ws f.reg (entry_of f.at)) r w.Nothing ≡ get_or ws r w.Nothing
+    there : (f.reg ≡ r → ⊥) → get_or (enter ws f.reg (entry_of f.at)) r w.Nothing ≡ get_or ws r w.Nothing
     there e = get_or-set_other ws f.reg r (joined_entry (get_or ws f.reg w.Nothing) (entry_of f.at)) w.Nothing (λ i. e (sym i))
 
     by :
-        get_or (noted (note ws f.reg (entry_of f.at)) fs) r w.Nothing ≡ tally_entry (get_or (note ws f.reg (entry_of f.at)) r w.Nothing) (writers r fs)
+        get_or (entered (enter ws f.reg (entry_of f.at)) fs) r w.Nothing ≡ tally_entry (get_or (enter ws f.reg (entry_of f.at)) r w.Nothing) (writers r fs)
         → (eqb f.reg r ≡ true) ⊎ (eqb f.reg r ≡ false)
-        → get_or (noted (note ws f.reg (entry_of f.at)) fs) r w.Nothing ≡ tally_entry (get_or ws r w.Nothing) (writers r (f ∷ fs))
+        → get_or (entered (enter ws f.reg (entry_of f.at)) fs) r w.Nothing ≡ tally_entry (get_or ws r w.Nothing) (writers r (f ∷ fs))
     by e (inl t) = e ∙ ap (λ (n : Writer). tally_entry n (writers r fs)) (here (eqb-true f.reg r t)) ∙ sym (rw t)
     by e (inr t) = e ∙ ap (λ (n : Writer). tally_entry n (writers r fs)) (there (eqb-false f.reg r t)) ∙ sym (rw t)
 

@@ -1,16 +1,18 @@
--- What the table holds of a register's writers is enough: it is held after one writer more, and a read is judged by it the same.
+-- What the table holds of a register's writers is enough: of one writer more it holds what it should, and a read is judged by it the same.
 use Prim.Native.Nat.{ℕ, ◌<◌}
 use mathlib.Core.Path.{◌≡◌, refl, sym, ap, ◌∙◌}
-use mathlib.Core.Bool.{Bool, true, false, not, cond}
-use mathlib.Core.List.{List, [], ◌∷◌}
-use lib.Dec.{eqb, leb}
-use lib.ListN.{length, get_or}
+use mathlib.Core.Bool.{Bool, true, false, not, ◌&&◌, cond}
+use mathlib.Core.List.{List, [], ◌∷◌, map}
+use lib.Dec.{eqb, ltb, leb}
+use lib.ListN.{length, get_or, set, get_or-map, length-map}
+use Rattle.std.proofs.lemmas.List.{map-set}
 use Rattle.inst.specs.Kinds.{number_of}
 use Rattle.tidy.specs.declared.writers.Writer.{Writer}
 use Rattle.tidy.specs.declared.writers.Writer.TheVariants as w
 use Rattle.tidy.specs.Tidy.{Placed, Field, too_early, later, writers}
-use Rattle.tidy.specs.Work.Writers.{WrittenBy, Nothing, One, More, one_of, joined, tally, held, Holds, entry_of, joined_entry, noted}
-use Rattle.tidy.specs.Work.Reads.{judged, judged_entry}
+use Rattle.tidy.specs.Work.Writers.{WrittenBy, Nothing, One, More, one_of, joined, note, notes, noted}
+use Rattle.tidy.specs.Work.Writers.{held, entry_of, joined_entry, enter, enter_all, entered}
+use Rattle.tidy.specs.Work.Reads.{judged, judged_entry, offence}
 use Rattle.tidy.specs.Work.Marks.{Leading}
 use Rattle.tidy.proofs.Fields.{kind-again}
 use Rattle.tidy.proofs.Answers.{tally_entry, tally-at}
@@ -28,12 +30,23 @@ held-joined (One kind b p) v = by (leb (number_of kind) 1) (eqb (number_of kind)
     by false false = refl
 held-joined More v = refl
 
-pub held-tally : (xs : List Placed) (u : WrittenBy) → held (tally u xs) ≡ tally_entry (held u) xs
-unfolding tally tally_entry
-held-tally [] u = refl
-held-tally (x ∷ xs) u =
-    held-tally xs (joined u (one_of x))
-    ∙ ap (λ (v : Writer). tally_entry v xs) (held-joined u (one_of x) ∙ ap (joined_entry (held u)) (held-one x))
+pub held-note : (us : List WrittenBy) (r : ℕ) (v : WrittenBy) → map held (note us r v) ≡ enter (map held us) r (held v)
+unfolding note enter
+held-note us r v =
+    map-set held us r (joined (get_or us r Nothing) v)
+    ∙ ap (set (map held us) r) (held-joined (get_or us r Nothing) v ∙ ap (λ (x : Writer). joined_entry x (held v)) (sym (get_or-map held us r Nothing)))
+
+pub held-notes : (us : List WrittenBy) (v : WrittenBy) (rs : List ℕ) → map held (notes us v rs) ≡ enter_all (map held us) (held v) rs
+unfolding notes enter_all
+held-notes us v [] = refl
+held-notes us v (r ∷ rs) = held-notes (note us r v) v rs ∙ ap (λ (ws : List Writer). enter_all ws (held v) rs) (held-note us r v)
+
+pub held-noted : (us : List WrittenBy) (fs : List Field) → map held (noted us fs) ≡ entered (map held us) fs
+unfolding noted entered
+held-noted us [] = refl
+held-noted us (f ∷ fs) =
+    held-noted (note us f.reg (one_of f.at)) fs
+    ∙ ap (λ (ws : List Writer). entered ws fs) (held-note us f.reg (one_of f.at) ∙ ap (enter (map held us) f.reg) (held-one f.at))
 
 pub held-judged : (s : Leading) (v : WrittenBy) (k : ℕ) → judged s v k ≡ judged_entry s (held v) k
 held-judged s Nothing k = refl
@@ -51,12 +64,26 @@ held-judged s (One kind x y) k = by (leb (number_of kind) 1) (eqb (number_of kin
     by false false = refl
 held-judged s More k = refl
 
--- the table after some fields more
-pub held-noted :
-    (ws : List Writer) (fs : List Field) {us : List Writer} → us ≡ noted ws fs → (r : ℕ) → r < length ws → (v : WrittenBy) → Holds ws r v
-    → Holds us r (tally v (writers r fs))
-held-noted ws fs e r h v i =
-    ap (λ (us : List Writer). get_or us r w.Nothing) e
-    ∙ tally-at fs ws r h
-    ∙ ap (λ (u : Writer). tally_entry u (writers r fs)) i
-    ∙ sym (held-tally (writers r fs) v)
+pub held-offence : (s : Leading) (n : ℕ) (us : List WrittenBy) (r k : ℕ) → (ltb r n && judged s (get_or us r Nothing) k) ≡ offence s n (map held us) r k
+unfolding offence
+held-offence s n us r k =
+    ap (λ (b : Bool). ltb r n && b) (held-judged s (get_or us r Nothing) k ∙ ap (λ (x : Writer). judged_entry s x k) (sym (get_or-map held us r Nothing)))
+
+-- some writers more
+pub tally : WrittenBy → List Placed → WrittenBy
+tally s [] = s
+tally s (x ∷ xs) = tally (joined s (one_of x)) xs
+
+pub held-tally : (xs : List Placed) (u : WrittenBy) → held (tally u xs) ≡ tally_entry (held u) xs
+unfolding tally tally_entry
+held-tally [] u = refl
+held-tally (x ∷ xs) u =
+    held-tally xs (joined u (one_of x))
+    ∙ ap (λ (v : Writer). tally_entry v xs) (held-joined u (one_of x) ∙ ap (joined_entry (held u)) (held-one x))
+
+pub held-tally-at : (fs : List Field) (us : List WrittenBy) (r : ℕ) → r < length us → get_or (map held (noted us fs)) r w.Nothing ≡ held (tally (get_or us r Nothing) (writers r fs))
+held-tally-at fs us r h =
+    ap (λ (ws : List Writer). get_or ws r w.Nothing) (held-noted us fs)
+    ∙ tally-at fs (map held us) r (rw (length-map us held) h)
+    ∙ ap (λ (u : Writer). tally_entry u (writers r fs)) (get_or-map held us r Nothing)
+    ∙ sym (held-tally (writers r fs) (get_or us r Nothing))

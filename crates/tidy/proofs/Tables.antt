@@ -20,55 +20,55 @@ use Rattle.roles.proofs.Laws.{numbers-length, number_at}
 use Rattle.tidy.specs.Tidy.{Placed, Field, placed_in, placed_from, fields_at, written, reads}
 use Rattle.tidy.specs.declared.writers.Writer.{Writer}
 use Rattle.tidy.specs.declared.writers.Writer.TheVariants as w
-use Rattle.tidy.specs.Work.Writers.{entry_of, joined_entry, note, notes, noted}
+use Rattle.tidy.specs.Work.Writers.{entry_of, joined_entry, enter, enter_all, entered}
 use Rattle.tidy.specs.Work.Parts.{placed_at, block_records, block_code, Fit, BlockPart}
 
 -- one writer more
 module _ (ws : List Writer) (r : ℕ) (v : Writer) where
-  pub note_out : length ws ≤ r → ws ≡ note ws r v
-  unfolding note
+  pub note_out : length ws ≤ r → ws ≡ enter ws r v
+  unfolding enter
   note_out h = sym (set_out ws r (joined_entry (get_or ws r w.Nothing) v) h)
 
-  pub note_in : (d : Writer) → r < length ws → {x : Writer} → x ≡ joined_entry (get_or ws r d) v → set ws r x ≡ note ws r v
-  unfolding note
+  pub note_in : (d : Writer) → r < length ws → {x : Writer} → x ≡ joined_entry (get_or ws r d) v → set ws r x ≡ enter ws r v
+  unfolding enter
   note_in d h e = ap (set ws r) (e ∙ ap (λ (x : Writer). joined_entry x v) (get_d_any ws r d w.Nothing h))
 
-  pub length-note : length (note ws r v) ≡ length ws
-  unfolding note
+  pub length-note : length (enter ws r v) ≡ length ws
+  unfolding enter
   length-note = length-set ws r (joined_entry (get_or ws r w.Nothing) v)
 
-pub length-noted : (fs : List Field) (ws : List Writer) → length (noted ws fs) ≡ length ws
-unfolding noted
+pub length-noted : (fs : List Field) (ws : List Writer) → length (entered ws fs) ≡ length ws
+unfolding entered
 length-noted [] ws = refl
-length-noted (f ∷ fs) ws = length-noted fs (note ws f.reg (entry_of f.at)) ∙ length-note ws f.reg (entry_of f.at)
+length-noted (f ∷ fs) ws = length-noted fs (enter ws f.reg (entry_of f.at)) ∙ length-note ws f.reg (entry_of f.at)
 
-pub notes-step : (ws : List Writer) (v : Writer) (l : List ℕ) (j : ℕ) → j < length l → notes (note ws (get_or l j 0) v) v (drop (j + 1) l) ≡ notes ws v (drop j l)
-unfolding notes
-notes-step ws v l j h = rw (add-one j) (sym (ap (notes ws v) (drop-cons l j 0 h)))
+pub notes-step : (ws : List Writer) (v : Writer) (l : List ℕ) (j : ℕ) → j < length l → enter_all (enter ws (get_or l j 0) v) v (drop (j + 1) l) ≡ enter_all ws v (drop j l)
+unfolding enter_all
+notes-step ws v l j h = rw (add-one j) (sym (ap (enter_all ws v) (drop-cons l j 0 h)))
 
 -- one register more
 pub notes-more :
-    (ws : List Writer) (v : Writer) (l : List Reg) (j : ℕ) → j < length l → {us : List Writer} → us ≡ note ws (get_or l j (reg_of 0)).0 v
-    → (length us ≡ length ws) × (notes us v (drop (j + 1) (numbers_of l)) ≡ notes ws v (drop j (numbers_of l)))
+    (ws : List Writer) (v : Writer) (l : List Reg) (j : ℕ) → j < length l → {us : List Writer} → us ≡ enter ws (get_or l j (reg_of 0)).0 v
+    → (length us ≡ length ws) × (enter_all us v (drop (j + 1) (numbers_of l)) ≡ enter_all ws v (drop j (numbers_of l)))
 notes-more ws v l j h e =
-    let i = e ∙ ap (λ (r : ℕ). note ws r v) (sym (number_at l j 0)) in (
+    let i = e ∙ ap (λ (r : ℕ). enter ws r v) (sym (number_at l j 0)) in (
       ap length i ∙ length-note ws (get_or (numbers_of l) j 0) v,
-      ap (λ (us : List Writer). notes us v (drop (j + 1) (numbers_of l))) i ∙ notes-step ws v (numbers_of l) j (rw (numbers-length l) h),
+      ap (λ (us : List Writer). enter_all us v (drop (j + 1) (numbers_of l))) i ∙ notes-step ws v (numbers_of l) j (rw (numbers-length l) h),
     )
 
-pub notes-end : (ws : List Writer) (v : Writer) (l : List ℕ) (j : ℕ) → length l ≤ j → ws ≡ notes ws v (drop j l)
-unfolding notes
-notes-end ws v l j h = sym (ap (notes ws v) (drop_of_length-le l h))
+pub notes-end : (ws : List Writer) (v : Writer) (l : List ℕ) (j : ℕ) → length l ≤ j → ws ≡ enter_all ws v (drop j l)
+unfolding enter_all
+notes-end ws v l j h = sym (ap (enter_all ws v) (drop_of_length-le l h))
 
-pub notes-noted : (ws : List Writer) (x : Placed) (rs : List ℕ) → notes ws (entry_of x) rs ≡ noted ws (fields_at x rs)
-unfolding notes noted
+pub notes-noted : (ws : List Writer) (x : Placed) (rs : List ℕ) → enter_all ws (entry_of x) rs ≡ entered ws (fields_at x rs)
+unfolding enter_all entered
 notes-noted ws x [] = refl
-notes-noted ws x (r ∷ rs) = notes-noted (note ws r (entry_of x)) x rs
+notes-noted ws x (r ∷ rs) = notes-noted (enter ws r (entry_of x)) x rs
 
-pub noted-append : (fs gs : List Field) (ws : List Writer) → noted ws (fs ++ gs) ≡ noted (noted ws fs) gs
-unfolding noted
+pub noted-append : (fs gs : List Field) (ws : List Writer) → entered ws (fs ++ gs) ≡ entered (entered ws fs) gs
+unfolding entered
 noted-append [] gs ws = refl
-noted-append (f ∷ fs) gs ws = noted-append fs gs (note ws f.reg (entry_of f.at))
+noted-append (f ∷ fs) gs ws = noted-append fs gs (enter ws f.reg (entry_of f.at))
 
 pub written-append : (xs ys : List Placed) → written (xs ++ ys) ≡ written xs ++ written ys
 unfolding written
@@ -112,42 +112,42 @@ from_end f l k h = ap (placed_from k) (drop_of_length-le (map f l) {i = k} (rw (
 module _ (ws : List Writer) where
   pub noted-inst :
       (l : List Record) (b k : ℕ) → k < length l
-      → noted (noted ws (fields_at (placed_at b k (get_or l k blank)) (defs_of (inst_of (get_or l k blank)))))
-      (written (placed_in b (k + 1) (drop (k + 1) (map code_of l)))) ≡ noted ws (written (placed_in b k (drop k (map code_of l))))
+      → entered (entered ws (fields_at (placed_at b k (get_or l k blank)) (defs_of (inst_of (get_or l k blank)))))
+      (written (placed_in b (k + 1) (drop (k + 1) (map code_of l)))) ≡ entered ws (written (placed_in b k (drop k (map code_of l))))
   unfolding written
   noted-inst l b k h =
       sym (noted-append (fields_at (placed_at b k (get_or l k blank)) (defs_of (inst_of (get_or l k blank))))
       (written (placed_in b (k + 1) (drop (k + 1) (map code_of l)))) ws)
-      ∙ sym (ap (λ (xs : List Placed). noted ws (written xs)) (placed-step l b k h))
+      ∙ sym (ap (λ (xs : List Placed). entered ws (written xs)) (placed-step l b k h))
 
   -- the instruction was read from the file
   pub noted-next :
       (rs : List Record) (first count : ℕ) → first + count ≤ length rs → (b k : ℕ) {u : List Writer} → k < count
-      → u ≡ noted ws (fields_at (placed_at b k (get_or rs (first + k) blank)) (defs_of (inst_of (get_or rs (first + k) blank))))
-      → noted u (written (placed_in b (k + 1) (drop (k + 1) (map code_of (part first count rs)))))
-      ≡ noted ws (written (placed_in b k (drop k (map code_of (part first count rs)))))
+      → u ≡ entered ws (fields_at (placed_at b k (get_or rs (first + k) blank)) (defs_of (inst_of (get_or rs (first + k) blank))))
+      → entered u (written (placed_in b (k + 1) (drop (k + 1) (map code_of (part first count rs)))))
+      ≡ entered ws (written (placed_in b k (drop k (map code_of (part first count rs)))))
   noted-next rs first count h b k i e =
       let l = part first count rs in
-      ap (λ (u : List Writer). noted u (written (placed_in b (k + 1) (drop (k + 1) (map code_of l)))))
-      (e ∙ ap (λ (r : Record). noted ws (fields_at (placed_at b k r) (defs_of (inst_of r)))) (sym (part_at rs first count h k i)))
+      ap (λ (u : List Writer). entered u (written (placed_in b (k + 1) (drop (k + 1) (map code_of l)))))
+      (e ∙ ap (λ (r : Record). entered ws (fields_at (placed_at b k r) (defs_of (inst_of r)))) (sym (part_at rs first count h k i)))
       ∙ noted-inst l b k (rw (part_length rs first count h) i)
 
-  pub noted-none : (l : List Record) (b k : ℕ) → length l ≤ k → ws ≡ noted ws (written (placed_in b k (drop k (map code_of l))))
-  unfolding written noted
-  noted-none l b k h = sym (ap (λ (xs : List Placed). noted ws (written xs)) (placed_end l b k h))
+  pub noted-none : (l : List Record) (b k : ℕ) → length l ≤ k → ws ≡ entered ws (written (placed_in b k (drop k (map code_of l))))
+  unfolding written entered
+  noted-none l b k h = sym (ap (λ (xs : List Placed). entered ws (written xs)) (placed_end l b k h))
 
   pub noted-block :
       (f : Record → List Code) (l : List Record) (k : ℕ) → k < length l
-      → noted (noted ws (written (placed_in k 0 (f (get_or l k blank))))) (written (placed_from (k + 1) (drop (k + 1) (map f l))))
-      ≡ noted ws (written (placed_from k (drop k (map f l))))
+      → entered (entered ws (written (placed_in k 0 (f (get_or l k blank))))) (written (placed_from (k + 1) (drop (k + 1) (map f l))))
+      ≡ entered ws (written (placed_from k (drop k (map f l))))
   noted-block f l k h =
       sym (noted-append (written (placed_in k 0 (f (get_or l k blank)))) (written (placed_from (k + 1) (drop (k + 1) (map f l)))) ws)
-      ∙ ap (noted ws) (sym (written-append (placed_in k 0 (f (get_or l k blank))) (placed_from (k + 1) (drop (k + 1) (map f l)))))
-      ∙ sym (ap (λ (xs : List Placed). noted ws (written xs)) (from_step f l k h))
+      ∙ ap (entered ws) (sym (written-append (placed_in k 0 (f (get_or l k blank))) (placed_from (k + 1) (drop (k + 1) (map f l)))))
+      ∙ sym (ap (λ (xs : List Placed). entered ws (written xs)) (from_step f l k h))
 
-  pub noted-blocks : (f : Record → List Code) (l : List Record) (k : ℕ) → length l ≤ k → ws ≡ noted ws (written (placed_from k (drop k (map f l))))
-  unfolding written noted
-  noted-blocks f l k h = sym (ap (λ (xs : List Placed). noted ws (written xs)) (from_end f l k h))
+  pub noted-blocks : (f : Record → List Code) (l : List Record) (k : ℕ) → length l ≤ k → ws ≡ entered ws (written (placed_from k (drop k (map f l))))
+  unfolding written entered
+  noted-blocks f l k h = sym (ap (λ (xs : List Placed). entered ws (written xs)) (from_end f l k h))
 
 -- the records of a block in a file that fits
 module _ {rs : List Record} {l : Layout} (h : Fit rs l) where

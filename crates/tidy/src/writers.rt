@@ -1,12 +1,12 @@
-ghost use Rattle.std.specs.Prelude.{ℕ, ◌≡◌, map, ◌+◌, ◌≤◌, ◌<◌, length};
+ghost use Rattle.std.specs.Prelude.{◌≡◌, List, map, ◌+◌, ◌≤◌, ◌<◌, length};
 ghost use Rattle.records.specs.Record.{records_of};
 ghost use Rattle.read.specs.Work.{part};
 ghost use Rattle.inst.specs.Kinds.{number_of};
 ghost use Rattle.codec.specs.Codec.{code_of};
 ghost use Rattle.roles.specs.Roles.{numbers_of};
-ghost use Rattle.tidy.specs.Tidy.{placed_in, placed_from, written, writers};
+ghost use Rattle.tidy.specs.Tidy.{placed_in, placed_from, written};
 ghost use Rattle.tidy.specs.Work.Parts.{blocks_in};
-ghost use Rattle.tidy.specs.Work.Writers.{WrittenBy, tally, Holds, one_at as oneAt, joined_entry, note, notes, noted, written_at};
+ghost use Rattle.tidy.specs.Work.Writers.{WrittenBy, noted, held, one_at as oneAt, joined_entry, enter, enter_all, entered, written_at};
 
 use crate::file::{File, Part};
 use inst::{BlockId, Kind, Reg};
@@ -61,7 +61,7 @@ impl Writer {
 // Adds a writer of r.
 #[tactic(auto, using(crate::proofs::Tables::note_out, crate::proofs::Tables::note_in))]
 fn note_write(ws: &mut [Writer], r: Reg, kind: Kind, at: At)
-    ensures { ws.new ≡ note ws.old r.0 (oneAt (number_of kind) at.block.0 at.place) }
+    ensures { ws.new ≡ enter ws.old r.0 (oneAt (number_of kind) at.block.0 at.place) }
 {
     let k = r.0 as usize;
     if k < ws.len() {
@@ -70,7 +70,7 @@ fn note_write(ws: &mut [Writer], r: Reg, kind: Kind, at: At)
 }
 
 fn note_defs(ws: &mut [Writer], written: &[Reg], kind: Kind, at: At)
-    ensures { ws.new ≡ notes ws.old (oneAt (number_of kind) at.block.0 at.place) (numbers_of written.now) }
+    ensures { ws.new ≡ enter_all ws.old (oneAt (number_of kind) at.block.0 at.place) (numbers_of written.now) }
 {
     for r in written {
         note_write(ws, *r, kind, at);
@@ -78,7 +78,7 @@ fn note_defs(ws: &mut [Writer], written: &[Reg], kind: Kind, at: At)
 }
 
 fn note_inst(b: &[u8], k: usize, at: At, ws: &mut [Writer])
-    ensures { ws.new ≡ noted ws.old (written_at b.now k at.block.0 at.place) }
+    ensures { ws.new ≡ entered ws.old (written_at b.now k at.block.0 at.place) }
 {
     let i = ends::inst_at(b, k);
     note_defs(ws, roles::roles_of(i).written(), i.kind(), at);
@@ -86,7 +86,7 @@ fn note_inst(b: &[u8], k: usize, at: At, ws: &mut [Writer])
 
 fn note_block(b: &[u8], p: Part, ws: &mut [Writer])
     requires { p.first + p.count ≤ length (records_of b.now) }
-    ensures { ws.new ≡ noted ws.old (written (placed_in p.block.0 0 (map code_of (part p.first p.count (records_of b.now))))) }
+    ensures { ws.new ≡ entered ws.old (written (placed_in p.block.0 0 (map code_of (part p.first p.count (records_of b.now))))) }
 {
     for k in 0..p.count {
         let at = At {
@@ -99,9 +99,9 @@ fn note_block(b: &[u8], p: Part, ws: &mut [Writer])
 
 // The writers of all registers.
 pub fn note_blocks(f: File, ws: &mut [Writer])
-    ensures table { ws.new ≡ noted ws.old (written (placed_from 0 (blocks_in (records_of f.entry.b.now) f.entry.l))) }
-    ensures holds { (r : ℕ) → r < length ws.old → (v : WrittenBy) → Holds ws.old r v
-        → Holds ws.new r (tally v (writers r (written (placed_from 0 (blocks_in (records_of f.entry.b.now) f.entry.l))))) }
+    ensures table { ws.new ≡ entered ws.old (written (placed_from 0 (blocks_in (records_of f.entry.b.now) f.entry.l))) }
+    ensures writers { (us : List WrittenBy) → ws.old ≡ map held us
+        → ws.new ≡ map held (noted us (written (placed_from 0 (blocks_in (records_of f.entry.b.now) f.entry.l)))) }
 {
     for k in 0..f.blocks() {
         note_block(f.b, f.part(k), ws);

@@ -1,5 +1,5 @@
 -- The writers of registers, and the table that holds of them what the reads are checked by.
-use Rattle.std.specs.Prelude.{ℕ, ◌≡◌, List, [], ◌∷◌, cond, eqb, leb, get_or, set}
+use Rattle.std.specs.Prelude.{ℕ, List, [], ◌∷◌, cond, eqb, leb, get_or, set}
 use Rattle.inst.specs.Inst.{kind_of}
 use Rattle.inst.specs.Kinds.{number_of, kind_at}
 use Rattle.inst.specs.declared.Kind.{Kind}
@@ -25,10 +25,16 @@ joined Nothing v = v
 joined (One kind block place) v = More
 joined More v = More
 
--- some more
-unfoldable pub tally : WrittenBy → List Placed → WrittenBy
-tally s [] = s
-tally s (x ∷ xs) = tally (joined s (one_of x)) xs
+unfoldable pub note : List WrittenBy → ℕ → WrittenBy → List WrittenBy
+note us r v = set us r (joined (get_or us r Nothing) v)
+
+unfoldable pub notes : List WrittenBy → WrittenBy → List ℕ → List WrittenBy
+notes us v [] = us
+notes us v (r ∷ rs) = notes (note us r v) v rs
+
+unfoldable pub noted : List WrittenBy → List Field → List WrittenBy
+noted us [] = us
+noted us (f ∷ fs) = noted (note us f.reg (one_of f.at)) fs
 
 -- an instruction as the one writer of a register: a Const or ConstF, an AddrOf, or any other
 abbrev pub one_at : ℕ → ℕ → ℕ → Writer
@@ -40,10 +46,6 @@ held Nothing = w.Nothing
 held (One kind block place) = one_at (number_of kind) block place
 held More = w.Free
 
--- the entry of register r
-abbrev pub Holds : List Writer → ℕ → WrittenBy → Type 0
-Holds ws r v = get_or ws r w.Nothing ≡ held v
-
 abbrev pub entry_of : Placed → Writer
 entry_of x = one_at (kind_of x.inst) x.block x.place
 
@@ -54,16 +56,16 @@ joined_entry w.Free v = w.Free
 joined_entry (w.Address block place) v = w.Free
 joined_entry (w.Other block place) v = w.Free
 
-unfoldable pub note : List Writer → ℕ → Writer → List Writer
-note ws r v = set ws r (joined_entry (get_or ws r w.Nothing) v)
+unfoldable pub enter : List Writer → ℕ → Writer → List Writer
+enter ws r v = set ws r (joined_entry (get_or ws r w.Nothing) v)
 
-unfoldable pub notes : List Writer → Writer → List ℕ → List Writer
-notes ws v [] = ws
-notes ws v (r ∷ rs) = notes (note ws r v) v rs
+unfoldable pub enter_all : List Writer → Writer → List ℕ → List Writer
+enter_all ws v [] = ws
+enter_all ws v (r ∷ rs) = enter_all (enter ws r v) v rs
 
-unfoldable pub noted : List Writer → List Field → List Writer
-noted ws [] = ws
-noted ws (f ∷ fs) = noted (note ws f.reg (entry_of f.at)) fs
+unfoldable pub entered : List Writer → List Field → List Writer
+entered ws [] = ws
+entered ws (f ∷ fs) = entered (enter ws f.reg (entry_of f.at)) fs
 
 -- what the record at a place writes, as an instruction of a block
 abbrev pub written_at : List ℕ → ℕ → ℕ → ℕ → List Field
