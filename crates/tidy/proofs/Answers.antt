@@ -137,11 +137,11 @@ module _ (m : Leading) (lead : ℕ → ℕ → Bool) (n k : ℕ) (same : (t : �
       by false true = rw (same x.block h) refl
       by false false = refl
 
-  judged-tally_entry : (xs : List Placed) → Low n xs → judged_entry m (tally_entry w.Nothing xs) k ≡ only_one (λ x. wrong lead (kind_of x.inst) x.block x.place m.block k) xs
+  judged-tally : (xs : List Placed) → Low n xs → judged_entry m (tally_entry w.Nothing xs) k ≡ only_one (λ x. wrong lead (kind_of x.inst) x.block x.place m.block k) xs
   unfolding tally_entry Low
-  judged-tally_entry [] l = refl
-  judged-tally_entry (x ∷ []) l = judged-one x l.0
-  judged-tally_entry (x ∷ y ∷ xs) l = ap (λ (v : Writer). judged_entry m (tally_entry v xs) k) (joined_one x (entry_of y)) ∙ ap (λ (v : Writer). judged_entry m v k) (tally-many xs)
+  judged-tally [] l = refl
+  judged-tally (x ∷ []) l = judged-one x l.0
+  judged-tally (x ∷ y ∷ xs) l = ap (λ (v : Writer). judged_entry m (tally_entry v xs) k) (joined_one x (entry_of y)) ∙ ap (λ (v : Writer). judged_entry m v k) (tally-many xs)
 
 -- the table of a procedure's writers tells which reads offend
 module _
@@ -165,7 +165,7 @@ module _
         is e =
             ap (λ (b : Bool). there && b)
             (ap (λ (n : Writer). judged_entry (leading es f.at.block) n f.at.place) (table f.reg (ltb-true f.reg (length p.registers) e))
-            ∙ judged-tally_entry (leading es f.at.block) (leads p) (length p.blocks) f.at.place (same f.at.block) ones
+            ∙ judged-tally (leading es f.at.block) (leads p) (length p.blocks) f.at.place (same f.at.block) ones
             (low-writers (length p.blocks) f.reg (placed p) (low-from (length p.blocks) 0 p.blocks (omega arith))))
 
     judged-regs : (fs : List Field) (s : Option Reg) → judged_all es (length p.registers) ws s fs ≡ lowered s (regs_of (offends p) fs)
