@@ -1,4 +1,4 @@
--- What the table holds of a register's writers is enough: of one writer more it holds what it should, and a read is judged by it the same.
+-- The table keeps enough of what writes a register: it stays right after one more writer, and a read is judged the same by it.
 use Prim.Native.Nat.{ℕ, ◌<◌}
 use mathlib.Core.Path.{◌≡◌, refl, sym, ap, ◌∙◌}
 use mathlib.Core.Bool.{Bool, true, false, not, ◌&&◌, cond}
@@ -69,7 +69,7 @@ unfolding offence
 held-offence s n us r k =
     ap (λ (b : Bool). ltb r n && b) (held-judged s (get_or us r Nothing) k ∙ ap (λ (x : Writer). judged_entry s x k) (sym (get_or-map held us r Nothing)))
 
--- some writers more
+-- what writes a register, after some more writers
 pub tally : WrittenBy → List Placed → WrittenBy
 tally s [] = s
 tally s (x ∷ xs) = tally (joined s (one_of x)) xs

@@ -1,4 +1,4 @@
--- The writers of registers, and the table that holds of them what the reads are checked by.
+-- What writes each register, and what the table keeps of it to check the reads by.
 use Rattle.std.specs.Prelude.{ℕ, List, [], ◌∷◌, cond, eqb, leb, get_or, set}
 use Rattle.inst.specs.Inst.{kind_of}
 use Rattle.inst.specs.Kinds.{number_of, kind_at}
