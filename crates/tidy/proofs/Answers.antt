@@ -137,11 +137,15 @@ module _ (m : Leading) (lead : ℕ → ℕ → Bool) (n k : ℕ) (same : (t : �
       by false true = rw (same x.block h) refl
       by false false = refl
 
-  judged-tally : (xs : List Placed) → Low n xs → judged_entry m (tally_entry w.Nothing xs) k ≡ only_one (λ x. wrong lead (kind_of x.inst) x.block x.place m.block k) xs
+  judged-tally :
+      (xs : List Placed) → Low n xs
+      → judged_entry m (tally_entry w.Nothing xs) k ≡ only_one (λ x. wrong lead (kind_of x.inst) x.block x.place m.block k) xs
   unfolding tally_entry Low
   judged-tally [] l = refl
   judged-tally (x ∷ []) l = judged-one x l.0
-  judged-tally (x ∷ y ∷ xs) l = ap (λ (v : Writer). judged_entry m (tally_entry v xs) k) (joined_one x (entry_of y)) ∙ ap (λ (v : Writer). judged_entry m v k) (tally-many xs)
+  judged-tally (x ∷ y ∷ xs) l =
+      ap (λ (v : Writer). judged_entry m (tally_entry v xs) k) (joined_one x (entry_of y))
+      ∙ ap (λ (v : Writer). judged_entry m v k) (tally-many xs)
 
 -- the table of a procedure's writers tells which reads offend
 module _
@@ -161,7 +165,8 @@ module _
 
         is :
             there ≡ true
-            → (there && judged_entry (leading es f.at.block) (get_or ws f.reg w.Nothing) f.at.place) ≡ (there && only_one (λ w. wrong_for (leads p) w f.at) ones)
+            → (there && judged_entry (leading es f.at.block) (get_or ws f.reg w.Nothing) f.at.place)
+            ≡ (there && only_one (λ w. wrong_for (leads p) w f.at) ones)
         is e =
             ap (λ (b : Bool). there && b)
             (ap (λ (n : Writer). judged_entry (leading es f.at.block) n f.at.place) (table f.reg (ltb-true f.reg (length p.registers) e))

@@ -81,7 +81,9 @@ held-tally (x ∷ xs) u =
     held-tally xs (joined u (one_of x))
     ∙ ap (λ (v : Writer). tally_entry v xs) (held-joined u (one_of x) ∙ ap (joined_entry (held u)) (held-one x))
 
-pub held-tally-at : (fs : List Field) (us : List WrittenBy) (r : ℕ) → r < length us → get_or (map held (noted us fs)) r w.Nothing ≡ held (tally (get_or us r Nothing) (writers r fs))
+pub held-tally-at :
+    (fs : List Field) (us : List WrittenBy) (r : ℕ) → r < length us
+    → get_or (map held (noted us fs)) r w.Nothing ≡ held (tally (get_or us r Nothing) (writers r fs))
 held-tally-at fs us r h =
     ap (λ (ws : List Writer). get_or ws r w.Nothing) (held-noted us fs)
     ∙ tally-at fs (map held us) r (rw (length-map us held) h)

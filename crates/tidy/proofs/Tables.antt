@@ -42,7 +42,9 @@ unfolding entered
 length-noted [] ws = refl
 length-noted (f ∷ fs) ws = length-noted fs (enter ws f.reg (entry_of f.at)) ∙ length-note ws f.reg (entry_of f.at)
 
-pub notes-step : (ws : List Writer) (v : Writer) (l : List ℕ) (j : ℕ) → j < length l → enter_all (enter ws (get_or l j 0) v) v (drop (j + 1) l) ≡ enter_all ws v (drop j l)
+pub notes-step :
+    (ws : List Writer) (v : Writer) (l : List ℕ) (j : ℕ) → j < length l
+    → enter_all (enter ws (get_or l j 0) v) v (drop (j + 1) l) ≡ enter_all ws v (drop j l)
 unfolding enter_all
 notes-step ws v l j h = rw (add-one j) (sym (ap (enter_all ws v) (drop-cons l j 0 h)))
 

@@ -40,10 +40,5 @@ returns-clause-table c =
 
 pub returns-clause-writers : goal.returns-clause-writers
 returns-clause-writers c us e =
-    let f = c.args.f in
-    let l = c.loop-k in
-    let rs = records_of f.b.now in
-    noted-blocks l.ws (block_code rs f.l) (block_records rs f.l) l.k (rw (blocks-length f.fit, ← c.blocks-k-end.ensures) c.loop-k-test.false)
-    ∙ l.invariant.1
-    ∙ ap (λ (ws : List Writer). entered ws (written (placed_from 0 (blocks_in rs f.l)))) e
-    ∙ sym (held-noted us (written (placed_from 0 (blocks_in rs f.l))))
+    let fs = written (placed_from 0 (blocks_in (records_of c.args.f.b.now) c.args.f.l)) in
+    returns-clause-table c ∙ ap (λ (ws : List Writer). entered ws fs) e ∙ sym (held-noted us fs)
